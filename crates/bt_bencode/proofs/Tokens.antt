@@ -1,22 +1,23 @@
 -- Whole byte strings and integers, read at once.
 use Rattle.std.proofs.Common.{◌≡◌, ◌≢◌, inl, inr, ℕ, suc, ◌+◌, ◌-◌, ◌*◌, ◌^◌, ◌<◌, ◌≤◌, List, [], ◌∷◌, ◌++◌, length, get_or, slice_get, Some, take, drop}
-use Rattle.std.proofs.Common.{subst, sym, ◌∙◌, refl, add-one, append_assoc, drop-cons, Option, None, IfSome, MatchOption, arith, length-append, length-take}
+use Rattle.std.proofs.Common.{subst, sym, ap, ◌∙◌, refl, add-one, append_assoc, drop-cons, Option, None, IfSome, MatchOption, arith, length-append}
 use Rattle.std.proofs.Common.{length-drop}
 use Rattle.std.proofs.Math.Nat.{pow-suc}
 use Rattle.std.proofs.Math.Pow.{pow_mono}
-use Rattle.std.proofs.Math.Seq.{drop-append_seam, take-add, drop-drop}
-use Rattle.bt_bencode.specs.Bencoding.{longest_string}
-use Rattle.bt_bencode.specs.Scanner.{IsDigit, NumberThen, TextThen, Rest, AfterString, May, IsLive, Goes, HasRead, Leads, after_string, magnitude_limit}
-use Rattle.bt_bencode.specs.Scanner.{opening}
+use Rattle.std.proofs.Math.Seq.{take-append_seam, take-add, drop-drop}
+use Rattle.std.specs.Fmt.{decimal}
+use Rattle.bt_bencode.specs.Bencoding.{ben, ben_string, ben_pairs, longest_string}
+use Rattle.bt_bencode.specs.Scanner.{IsDigit, NumberThen, Rest, ValueThen, PairsThen, May, IsLive, Goes, HasRead, Leads, room_in, magnitude_limit, opening}
+use Rattle.bt_bencode.specs.Trees.{string, no_pairs, pair}
+use Rattle.bt_bencode.specs.Unique.{same_tree, same_string, no_string, regroup}
 use Rattle.bt_bencode.specs.declared.scan.Container.{Container}
 use Rattle.bt_bencode.specs.declared.scan.Container.TheVariants as container
-use Rattle.bt_bencode.specs.declared.scan.Role.{Role}
-use Rattle.bt_bencode.specs.declared.scan.Role.TheVariants as role
 use Rattle.bt_bencode.specs.declared.scan.Sign.{Sign}
 use Rattle.bt_bencode.specs.declared.scan.Sign.TheVariants as sign
 use Rattle.bt_bencode.specs.declared.scan.Expect.{Expect}
 use Rattle.bt_bencode.specs.declared.scan.Expect.TheVariants as expect
-use Rattle.bt_bencode.proofs.Moves.{goes_string, goes_key, goes_integer, goes_nested, goes_end, goes_in_list}
+use Rattle.bt_bencode.proofs.Moves.{goes_integer, goes_nested, goes_end, goes_in_list}
+use Rattle.bt_bencode.proofs.Nesting.{in_range}
 use Rattle.bt_bencode.proofs.Reading.{goes_over}
 
 abbrev Stack : Type 0
@@ -34,14 +35,6 @@ module _ (limit stop : ℕ) (Then : ℕ → List ℕ → Type 0) (n : ℕ) (high
   at_stop r (inl e) = e.1
   at_stop r (inr h) = absurd (omega (arith, h.0))
 
-pub goes_length : (stack : Stack) (part : Role) (n b : ℕ) → IsDigit b → 0 < n → n * 10 + (b - 48) ≤ longest_string
-    → Goes (expect.Length part n) stack (b ∷ []) (expect.Length part (n * 10 + (b - 48))) stack
-goes_length stack part n b d some low = record {
-  live = low;
-  forth = λ r h. further longest_string 58 (λ k. TextThen k (AfterString part stack)) n b (λ e. omega arith) r h;
-  back = λ r h. inr (d, some, low, h);
-}
-
 pub goes_digits : (stack : Stack) (side : Sign) (n b : ℕ) → IsDigit b → 0 < n → n * 10 + (b - 48) ≤ magnitude_limit side
     → Goes (expect.Digits side n) stack (b ∷ []) (expect.Digits side (n * 10 + (b - 48))) stack
 goes_digits stack side n b d some low = record {
@@ -56,31 +49,6 @@ goes_integer_end stack side n = record {
   forth = λ r h. at_stop (magnitude_limit side) 101 (λ _. Rest stack) n (omega arith) r h;
   back = λ r h. inl (refl, h);
 }
-
-after_whole : (stack : Stack) (part : Role) (r : List ℕ) → AfterString part stack r → May (after_string part) stack r
-after_whole stack role.Key r h = h
-after_whole stack role.Item r h = h
-
-whole_after : (stack : Stack) (part : Role) (r : List ℕ) → May (after_string part) stack r → AfterString part stack r
-whole_after stack role.Key r h = h
-whole_after stack role.Item r h = h
-
-live_after : (part : Role) → IsLive (after_string part)
-live_after role.Key = tt
-live_after role.Item = tt
-
--- the colon and the bytes of a string
-module _ (stack : Stack) (part : Role) (n : ℕ) (bytes : List ℕ) (long : length bytes ≡ n) where
-  following : (r : List ℕ) → drop n (bytes ++ r) ≡ r
-  following r = subst (λ (k : ℕ). drop k (bytes ++ r) ≡ r) long (drop-append_seam bytes r)
-
-  pub goes_text_whole : Goes (expect.Length part n) stack (58 ∷ bytes) (after_string part) stack
-  goes_text_whole = record {
-    live = live_after part;
-    forth = λ r h. after_whole stack part r (subst (AfterString part stack) (following r) (at_stop longest_string 58 (λ k. TextThen k (AfterString part stack))
-        n (omega arith) (bytes ++ r) h).1);
-    back = λ r h. inl (refl, (omega (arith, length-append bytes r), subst (AfterString part stack) (sym (following r)) (whole_after stack part r h)));
-  }
 
 pub goes_minus : (stack : Stack) → Goes expect.Integer stack (45 ∷ []) expect.Negative stack
 goes_minus stack = record { live = tt; forth = λ r h. go r h; back = λ r h. inl (refl, h) }
@@ -134,63 +102,9 @@ read_on payload at end e e' s s' low read leads =
     let same : at + (end - at) ≡ end = omega arith in
     subst (λ (k : ℕ). HasRead (take k payload) e' s') same (goes_over payload at (end - at) e e' s s' read leads)
 
--- A byte string begins at `at`; its length is n as far as the bytes before `i` say.
-pub record StringRead (payload : List ℕ) (at i n : ℕ) : Type 0 where
-  pub following : at < i
-  pub within : i ≤ length payload
-  pub first : IsDigit (get_or payload at 0)
-  pub leads : (part : Role) (s : Stack) → Goes (expect.Length part (get_or payload at 0 - 48)) s (take (i - (at + 1)) (drop (at + 1) payload))
-      (expect.Length part n) s
-
 -- no byte
 nothing : (payload : List ℕ) (at : ℕ) (e : Expect) (s : Stack) → IsLive e → Leads payload at e s at e s
 nothing payload at e s live = let none : at - at ≡ 0 = omega arith in rw none (record { live = live; forth = λ r h. h; back = λ r h. h })
-
-pub string_starts : (payload : List ℕ) (at : ℕ) → at < length payload → IsDigit (get_or payload at 0)
-    → StringRead payload at (at + 1) (get_or payload at 0 - 48)
-string_starts payload at h d = record {
-  following = omega arith;
-  within = omega arith;
-  first = d;
-  leads = λ part s. nothing payload (at + 1) (expect.Length part (get_or payload at 0 - 48)) s (omega arith);
-}
-
-pub string_goes_on : (payload : List ℕ) (at i n : ℕ) → StringRead payload at i n → i < length payload → IsDigit (get_or payload i 0) → 0 < n
-    → n * 10 + 9 ≤ longest_string → StringRead payload at (i + 1) (n * 10 + (get_or payload i 0 - 48))
-string_goes_on payload at i n so h d some low = record {
-  following = omega (arith, so.following);
-  within = omega arith;
-  first = so.first;
-  leads = λ part s. leads_on payload (at + 1) i (i + 1) (omega (arith, so.following)) (omega arith) (so.leads part s)
-      (leads_byte payload i (expect.Length part n) (expect.Length part (n * 10 + (get_or payload i 0 - 48))) s s h
-      (goes_length s part n (get_or payload i 0) d some (omega arith)));
-}
-
--- the colon and the text
-text_whole : (payload : List ℕ) (i n : ℕ) (part : Role) (s : Stack) → i < length payload → get_or payload i 0 ≡ 58 → n ≤ length payload - (i + 1)
-    → Leads payload i (expect.Length part n) s (i + 1 + n) (after_string part) s
-text_whole payload i n part s h colon room =
-    let bytes : List ℕ = take n (drop (i + 1) payload) in
-    let long : length bytes ≡ n = length-take n (drop (i + 1) payload) ∙ rw (length-drop (i + 1) payload) (omega arith) in
-    let left : i + 1 + n - (i + 1) ≡ n = omega arith in
-    rw (first_byte payload i (i + 1 + n) h (omega arith), left, colon) (goes_text_whole s part n bytes long)
-
-module _ (payload : List ℕ) (at i n : ℕ) (so : StringRead payload at i n) (h : i < length payload) (colon : get_or payload i 0 ≡ 58)
-    (room : n ≤ length payload - (i + 1)) where
-  -- a string whose first digit has been read
-  string_after : (part : Role) (s : Stack) → Leads payload (at + 1) (expect.Length part (get_or payload at 0 - 48)) s (i + 1 + n) (after_string part) s
-  string_after part s = leads_on payload (at + 1) i (i + 1 + n) (omega (arith, so.following)) (omega arith) (so.leads part s)
-      (text_whole payload i n part s h colon room)
-
-  pub string_value : (s : Stack) → Leads payload at expect.Value s (i + 1 + n) expect.Item s
-  string_value s = leads_on payload at (at + 1) (i + 1 + n) (omega arith) (omega (arith, so.following))
-      (leads_byte payload at expect.Value (expect.Length role.Item (get_or payload at 0 - 48)) s s (omega (arith, so.following))
-      (goes_string s (get_or payload at 0) so.first)) (string_after role.Item s)
-
-  pub string_key : (s : Stack) → Leads payload at expect.Item (container.Dict ∷ s) (i + 1 + n) expect.Value (container.Dict ∷ s)
-  string_key s = leads_on payload at (at + 1) (i + 1 + n) (omega arith) (omega (arith, so.following))
-      (leads_byte payload at expect.Item (expect.Length role.Key (get_or payload at 0 - 48)) (container.Dict ∷ s) (container.Dict ∷ s)
-      (omega (arith, so.following)) (goes_key s (get_or payload at 0) (λ e. omega (arith, so.first)) so.first)) (string_after role.Key (container.Dict ∷ s))
 
 -- An integer's first digit stands at `at`; its digits before `i` have the value n.
 pub record DigitsRead (payload : List ℕ) (at i n : ℕ) : Type 0 where
@@ -270,6 +184,54 @@ module _ (payload : List ℕ) (at end : ℕ) (s : Stack) (h : at < length payloa
   value_in_list s' top other leads = rw (first_byte payload at end h before)
       (goes_in_list s (get_or payload at 0) (take (end - (at + 1)) (drop (at + 1) payload)) expect.Item s' top other
       (rw (first_byte payload at end h before) at leads))
+
+-- a whole byte string, as a value and as a key
+goes_text : (s : Stack) (k : List ℕ) → length k ≤ longest_string → Goes expect.Value s (ben_string k) expect.Item s
+goes_text s k short = record { live = tt; forth = λ r h. go r h; back = λ r h. (string k, r, short, refl, h) }
+  where
+    go : (r : List ℕ) → ValueThen (room_in s) (Rest s) (ben_string k ++ r) → Rest s r
+    go r (u, rest, fit, is, then) = subst (Rest s) (sym (same_tree (string k) u r rest short (in_range (room_in s) u fit) is).1) then
+
+goes_whole_key : (s : Stack) (k : List ℕ) → length k ≤ longest_string
+    → Goes expect.Item (container.Dict ∷ s) (ben_string k) expect.Value (container.Dict ∷ s)
+goes_whole_key s k short = record { live = tt; forth = λ r h. go r h; back = λ r h. on r h }
+  where
+    room : ℕ
+    room = room_in (container.Dict ∷ s)
+
+    go : (r : List ℕ) → PairsThen room (Rest s) (ben_string k ++ r) → ValueThen room (Rest (container.Dict ∷ s)) r
+    go r (no_pairs, rest, fit, is, then) = absurd (omega (arith, no_string k r rest 101 short is))
+    go r (pair l u qs, rest, fit, is, then) =
+        let same = same_string k l r (ben u ++ (ben_pairs qs ++ 101 ∷ rest)) short fit.0
+        (is ∙ regroup (ben_string l) (ben u) (ben_pairs qs) (101 ∷ rest)) in
+        (u, ben_pairs qs ++ 101 ∷ rest, fit.1, same.1, (qs, rest, fit.2, refl, then))
+
+    on : (r : List ℕ) → ValueThen room (Rest (container.Dict ∷ s)) r → PairsThen room (Rest s) (ben_string k ++ r)
+    on r (u, more, fit, is, (qs, rest, fits, so, then)) =
+        let whole : r ≡ ben u ++ (ben_pairs qs ++ 101 ∷ rest) = is ∙ ap (λ x. ben u ++ x) so in
+        (pair k u qs, rest, (short, fit, fits), ap (λ x. ben_string k ++ x) whole ∙ sym (regroup (ben_string k) (ben u) (ben_pairs qs) (101 ∷ rest)), then)
+
+-- what lies between `at` and `rest`
+between : (payload front rest : List ℕ) (at : ℕ) → at ≤ length payload → drop at payload ≡ front ++ rest
+    → take (length payload - length rest - at) (drop at payload) ≡ front
+between payload front rest at low is =
+    let n : length payload - length rest - at ≡ length front = omega (arith, ap length is, length-drop at payload, length-append front rest) in
+    rw n (ap (λ x. take (length front) x) is ∙ take-append_seam front rest)
+
+pub string_within : (payload k rest : List ℕ) (at : ℕ) → at ≤ length payload → drop at payload ≡ ben_string k ++ rest
+    → (at < length payload - length rest) × (length payload - length rest ≤ length payload)
+string_within payload k rest at low is =
+    let long = ap length is ∙ length-append (ben_string k) rest in
+    let some = length-append (decimal (length k)) (58 ∷ k) in
+    (omega (arith, long, some, length-drop at payload), omega arith)
+
+pub string_value : (payload k rest : List ℕ) (at : ℕ) → at ≤ length payload → length k ≤ longest_string → drop at payload ≡ ben_string k ++ rest → (s : Stack)
+    → Leads payload at expect.Value s (length payload - length rest) expect.Item s
+string_value payload k rest at low short is s = rw (between payload (ben_string k) rest at low is) (goes_text s k short)
+
+pub string_key : (payload k rest : List ℕ) (at : ℕ) → at ≤ length payload → length k ≤ longest_string → drop at payload ≡ ben_string k ++ rest → (s : Stack)
+    → Leads payload at expect.Item (container.Dict ∷ s) (length payload - length rest) expect.Value (container.Dict ∷ s)
+string_key payload k rest at low short is s = rw (between payload (ben_string k) rest at low is) (goes_whole_key s k short)
 
 -- a key
 pub key_leads : (payload : List ℕ) (at end : ℕ) (s : Stack) → slice_get s 0 ≡ Some container.Dict

@@ -9,29 +9,20 @@ use crate::length::ben_len;
 use crate::tree::{ByteString, Pairs, Value, Values};
 use itoa::Buffer;
 use std::alloc::{AllocError, Global};
-use std::fmt::{self, Display};
+use thiserror::Error;
 
 /// Why a value isn't encoded.
-#[derive(Clone, Copy, Debug, PartialEq, Eq)]
+#[derive(Clone, Copy, Debug, PartialEq, Eq, Error)]
 pub enum SpellError {
     /// The value isn't within the limits.
     ///
     /// A string or a key is too long, or it nests too deep.
+    #[error("the value is beyond the limits of bencoding")]
     OutOfRange,
     /// Out of memory.
+    #[error("out of memory")]
     Memory,
 }
-
-impl Display for SpellError {
-    fn fmt<W: fmt::Write>(&self, f: &mut fmt::Formatter<W>) -> fmt::Result {
-        f.write_str(match self {
-            SpellError::OutOfRange => "the value is beyond the limits of bencoding",
-            SpellError::Memory => "out of memory",
-        })
-    }
-}
-
-impl std::error::Error for SpellError {}
 
 impl From<AllocError> for SpellError {
     ghost use Rattle.bt_bencode.specs.declared.spelling.SpellError.TheVariants.{Memory};

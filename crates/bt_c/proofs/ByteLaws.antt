@@ -50,13 +50,6 @@ with_id c msg w None e spelled long =
     absurd (omega (arith, size, length-spell c msg, ap length spelled, long))
 with_id c msg w (Some n) e spelled long = (n, refl)
 
-without_id : (c : Context) (msg : Message) (w : List ℕ) (k : Option ℕ) → id_of msg ≡ k → spell c msg ≡ w → length w < 5 → k ≡ None
-without_id c msg w None e spelled short = refl
-without_id c msg w (Some n) e spelled short =
-    let size : length (body c msg) ≡ suc (length (spell_fields (fields_of c msg))) =
-    ap (λ (o : Option ℕ). length (framed o (spell_fields (fields_of c msg)))) e in
-    absurd (omega (arith, size, length-spell c msg, ap length spelled, short))
-
 other_id : (c : Context) (i : BtItem) (msg : Message) → (id_of msg ≡ Some 20 → ⊥) → ShowsExtended i msg
 other_id c i (m.Extended e) plain = absurd (plain refl)
 other_id c i msg plain = tt
@@ -91,17 +84,3 @@ by_bytes c o i w msg r long plain =
       extended = other_id c i msg other;
       order = ap (λ (k : Option Kind). if counts_by k then Past else o) kind;
     }
-
--- the keep-alive has no id
-pub record IsIdle (c : Context) (o : Order) (i : BtItem) (msg : Message) : Type 0 where
-  pub id : 256 ≡ shown_id msg
-  pub fields : i.body ≡ 0 → Shows i (fields_of c msg)
-  pub extended : ShowsExtended i msg
-  pub order : o ≡ order_after o msg
-
-idle_by : (c : Context) (o : Order) (i : BtItem) (msg : Message) → id_of msg ≡ None → IsIdle c o i msg
-idle_by c o i m.KeepAlive e = record { id = refl; fields = λ h. h; extended = tt; order = refl }
-idle_by c o i msg e = absurd cc
-
-pub idle : (c : Context) (o : Order) (i : BtItem) (w : List ℕ) (msg : Message) → IsRead c o w msg → length w < 5 → IsIdle c o i msg
-idle c o i w msg r short = idle_by c o i msg (without_id c msg w (id_of msg) refl r.spelled short)

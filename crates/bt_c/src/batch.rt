@@ -4,7 +4,7 @@ ghost use Rattle.bt_c.specs.Runs.{IsBatch};
 
 use crate::item::BtItem;
 use crate::reader::{BtReader, ITEM, context_of, next_by};
-use crate::slices::suffix;
+use bt_bencode::suffix;
 
 /// How many items a batch has, and how many bytes they have.
 #[repr(C)]

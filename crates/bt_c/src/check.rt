@@ -5,9 +5,9 @@ ghost use Rattle.bt_c.specs.Readers.{own_of};
 ghost use Rattle.bt_c.specs.Runs.{ShowsVerdict};
 
 use crate::item::{BtItem, bare};
-use crate::reader::{BtReader, END, ITEM, last_item};
+use crate::reader::{END, ITEM, fresh, last_item};
 use crate::receiver::BtOwn;
-use crate::slices::suffix;
+use bt_bencode::suffix;
 
 /// The verdict on a stream.
 #[repr(C)]
@@ -45,20 +45,6 @@ pub extern "C" fn bt_check(own: &BtOwn, bytes: &[u8], verdict: &mut BtVerdict) -
         }
         at += item.size;
         count += 1;
-    }
-}
-
-/// A reader at the start of a stream.
-fn fresh(own: &BtOwn) -> BtReader
-    ensures { result ≡ record { own = own.now; opened = 0; fast = 0; ext = 0; past = 0; start = 0 } }
-{
-    BtReader {
-        own: *own,
-        opened: 0,
-        fast: 0,
-        ext: 0,
-        past: 0,
-        start: 0,
     }
 }
 

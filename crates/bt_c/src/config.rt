@@ -1,5 +1,5 @@
 //! What an end is made with, as a struct of C.
-ghost use Rattle.std.specs.Prelude.{◌≡◌, [], IfOk};
+ghost use Rattle.std.specs.Prelude.{◌≡◌, IfOk};
 ghost use Rattle.bt_c.specs.Readers.{own_of as own_by};
 ghost use Rattle.bt_c.specs.Configs.{announce_by, window_by, IsRoleOf, IsConfigOf};
 
@@ -53,19 +53,9 @@ fn role_of(alloc: Global, config: &BtEndConfig, metadata: &[u8]) -> Result<Role,
             Ok(metadata) => Ok(Role::Serve(metadata)),
             Err(_) => Err(Memory),
         },
-        2 => Ok(fetch_of(config.most)),
+        2 if config.most == 0 => Ok(Role::Fetch),
+        2 => Ok(Role::FetchUpTo(config.most)),
         _ => Ok(Role::Watch),
-    }
-}
-
-/// Fetches metadata of at most this many bytes; of any size for 0.
-fn fetch_of(most: u64) -> Role
-    ensures { IsRoleOf 2 most [] result }
-{
-    if most == 0 {
-        Role::Fetch
-    } else {
-        Role::FetchUpTo(most)
     }
 }
 

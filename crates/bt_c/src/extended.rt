@@ -69,13 +69,6 @@ pub fn extended_of(view: &ExtView) -> BtExtended
     }
 }
 
-/// The length of the dictionary's spelling.
-fn dict_length(dict: &DictRef) -> usize
-    ensures { result ≡ length (ben (dictionary dict.now.tree.0)) }
-{
-    dict.spelled().len()
-}
-
 /// An extended handshake.
 fn handshake_of(dict: &DictRef) -> BtExtended
     ensures kind { result.kind ≡ 1 }
@@ -83,7 +76,7 @@ fn handshake_of(dict: &DictRef) -> BtExtended
     ensures size { flagged result.has_metadata_size result.metadata_size ≡ size_of (dictionary dict.now.tree.0) }
     ensures id { flagged result.has_ut_metadata result.ut_metadata ≡ told_id (dictionary dict.now.tree.0) }
 {
-    let mut shown = plain(1, dict_length(dict));
+    let mut shown = plain(1, dict.spelled().len());
     let (id, size) = announced_ref(dict);
     if let Some(size) = size {
         shown.metadata_size = size;
@@ -101,7 +94,7 @@ fn metadata_of(dict: &DictRef) -> BtExtended
     ensures dict { result.dict ≡ length (ben (dictionary dict.now.tree.0)) }
     ensures kind { ShowsKind result (kind_of (dictionary dict.now.tree.0)) }
 {
-    let dict_length = dict_length(dict);
+    let dict_length = dict.spelled().len();
     match kind_ref(dict) {
         Kind::Request(piece) => BtExtended {
             piece,

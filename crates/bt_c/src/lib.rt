@@ -19,7 +19,6 @@ mod next;
 mod reader;
 mod receiver;
 mod say;
-mod slices;
 mod status;
 mod writing;
 

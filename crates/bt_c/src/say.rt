@@ -31,12 +31,9 @@ fn copied(alloc: Global, bytes: &[u8]) -> Result<ByteString, u32>
 fn message_of(alloc: Global, item: &BtItem, body: &[u8]) -> Result<Message, u32>
     ensures { MatchResult result (λ m. said_by item.now body.now ≡ Some m) (λ n. n ≢ 6 → (n ≡ 4) × (said_by item.now body.now ≡ None)) }
 {
-    let BtItem {
-        index,
-        begin,
-        length,
-        ..
-    } = *item;
+    let index = item.index;
+    let begin = item.begin;
+    let length = item.length;
     match item.id {
         0 => Ok(Message::Choke),
         1 => Ok(Message::Unchoke),

@@ -15,7 +15,7 @@ ghost use Rattle.bt_c.specs.Writing.{handshake_of as handshake_by, peer_context,
 use crate::item::{BtItem, bare, shape_of};
 use crate::reader::{BtReader, flag_of, next_item};
 use crate::receiver::{BtOwn, id_of, own_of};
-use bt_bencode::put_bytes;
+use bt_bencode::{put_bytes, suffix};
 use bt_ext::{DictText, Kind, Registered, handshake_text, message_text};
 use bt_wire::{Handshake, Reserved, Shape, negotiate, spell_handshake};
 
@@ -192,20 +192,10 @@ fn put_rest(message: &BtItem, front: &[u8], back: &[u8], out: &mut [u8], at: usi
     if message.id == KEEP_ALIVE {
         return;
     }
-    let place = put_kept(front, back, out, at);
+    let place = put_bytes(back, out, at);
+    let place = put_bytes(front, out, place);
     let place = put_head(shape_of(message.id), message, out, place);
     put_bytes(&[message.id as u8], out, place);
-}
-
-/// Puts the bytes that a message keeps before the place.
-fn put_kept(front: &[u8], back: &[u8], out: &mut [u8], at: usize) -> usize
-    requires { (length (front.now ++ back.now) ≤ at) × (at ≤ length out.old) }
-    ensures room { result + length (front.now ++ back.now) ≡ at }
-    ensures len { length out.new ≡ length out.old }
-    ensures text { drop result out.new ≡ (front.now ++ back.now) ++ drop at out.old }
-{
-    let place = put_bytes(back, out, at);
-    put_bytes(front, out, place)
 }
 
 /// Puts the numbers of a message before the place.
@@ -240,15 +230,6 @@ fn extended_item(id: u8) -> BtItem
         extended_id: id,
         ..bare(0, 0, 20)
     }
-}
-
-/// The text from the place on.
-fn text_from(text: &DictText, place: usize) -> &[u8]
-    requires { place ≤ 220 }
-    ensures text { result.now ≡ drop place text.now }
-    ensures short { length result.now ≤ 220 }
-{
-    &text[place..]
 }
 
 /// Writes an extended message of a dictionary and a block.
@@ -316,7 +297,7 @@ pub extern "C" fn bt_write_metadata(
             let mut text: DictText = [0; 220];
             let place = message_text(kind, &mut text);
             let id = peer.own.metadata_id;
-            write_extended(peer, id, text_from(&text, place), block, out, written)
+            write_extended(peer, id, suffix(&text, place), block, out, written)
         }
     }
 }
@@ -344,5 +325,5 @@ pub extern "C" fn bt_write_extended_handshake(
         size_from(has_size, size),
         &mut text,
     );
-    write_extended(peer, 0, text_from(&text, place), &[], out, written)
+    write_extended(peer, 0, suffix(&text, place), &[], out, written)
 }

@@ -87,7 +87,6 @@ const MAX_LIMIT: u32 = 1_048_576;
 
 impl From<Memory> for TurnError {
     ghost use Rattle.bt_end.specs.declared.end.TurnError.TheVariants.{Memory};
-    ghost use Rattle.std.specs.Prelude.{◌≡◌};
 
     ghost from_gives = { λ _ e. e ≡ Memory };
 
@@ -98,7 +97,6 @@ impl From<Memory> for TurnError {
 
 impl From<Memory> for BeginError {
     ghost use Rattle.bt_end.specs.declared.end.BeginError.TheVariants.{Memory};
-    ghost use Rattle.std.specs.Prelude.{◌≡◌};
 
     ghost from_gives = { λ _ e. e ≡ Memory };
 
@@ -109,7 +107,6 @@ impl From<Memory> for BeginError {
 
 impl From<Memory> for EndError {
     ghost use Rattle.bt_end.specs.declared.config.EndError.TheVariants.{Memory};
-    ghost use Rattle.std.specs.Prelude.{◌≡◌};
 
     ghost from_gives = { λ _ e. e ≡ Memory };
 
@@ -179,13 +176,6 @@ fn is_ready<A: Allocator>(feed: &Feed<A>) -> bool
         Err(Finish::Untaken) => true,
         _ => false,
     }
-}
-
-/// Does nothing: its contract states what holds for every feed.
-fn is_sound<A: Allocator>(feed: &Feed<A>)
-    ensures { IsFeed feed.now }
-{
-    let _ = feed.start();
 }
 
 /// Returns whether an item is ready and the outbox is full.
@@ -301,7 +291,7 @@ impl<A: Allocator + Copy> End<A> {
         ensures end { IsEnd self.now }
         ensures feed { IsFeed self.now.feed }
     {
-        is_sound(&self.feed);
+        let _ = self.feed.start();
         self.reactor.outbox.bytes()
     }
 

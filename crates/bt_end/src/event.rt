@@ -73,9 +73,6 @@ impl Event {
     pub fn is_mismatched(self) -> bool
         ensures { result ≡ is_mismatched self }
     {
-        match self {
-            Event::Mismatched => true,
-            _ => false,
-        }
+        matches!(self, Event::Mismatched)
     }
 }

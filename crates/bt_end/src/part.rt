@@ -225,10 +225,7 @@ impl<A: Allocator + Copy> Part<A> {
     pub fn is_fetching(&self) -> bool
         ensures { result ≡ is_fetching (part_of self.now) }
     {
-        match self {
-            Part::Awaiting(_) | Part::Fetching(_) => true,
-            _ => false,
-        }
+        matches!(self, Part::Awaiting(_) | Part::Fetching(_))
     }
 
     /// Returns whether each block has come, or the peer rejected it.

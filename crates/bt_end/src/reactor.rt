@@ -75,10 +75,7 @@ pub enum Plan<A: Allocator> {
 fn kind_takes_memory(kind: Kind) -> bool
     ensures { result ≡ kind_takes_memory kind }
 {
-    match kind {
-        Kind::Other | Kind::Malformed => false,
-        Kind::Request(_) | Kind::Data { .. } | Kind::Reject(_) => true,
-    }
+    !matches!(kind, Kind::Other | Kind::Malformed)
 }
 
 /// A count with one more, if there is one more. It stays at 2^64 - 1.

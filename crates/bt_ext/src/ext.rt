@@ -3,7 +3,7 @@ ghost use Rattle.std.specs.Prelude.{◌≡◌};
 
 use bt_bencode::{ByteString, DictRef, Value};
 use std::alloc::AllocError;
-use std::fmt::{self, Display};
+use thiserror::Error;
 
 /// An extended payload.
 #[derive(Debug, Drop)]
@@ -32,98 +32,51 @@ pub enum ExtView<'a> {
 }
 
 /// Why a payload is refused. Offsets are counted from its start.
-#[derive(Clone, Copy, Debug, PartialEq, Eq)]
+#[derive(Clone, Copy, Debug, PartialEq, Eq, Error)]
 pub enum ViewError {
     /// The payload has to be a piece index, and doesn't have four bytes.
+    #[error("a piece index has four bytes")]
     BadExtLength,
     /// The payload has to begin with a dictionary within the limits, and doesn't.
     ///
     /// `at` is the offset of the first byte that can't be part of one, or the payload's length if it is truncated.
+    #[error("no dictionary goes on at byte {at}")]
     BadBencode { at: usize },
     /// The key at offset `at` isn't above the key before it.
+    #[error("the key at byte {at} is out of order")]
     Unsorted { at: usize },
     /// A field of the dictionary has the wrong kind.
+    #[error("a field is of the wrong kind")]
     BadField,
     /// The dictionary ends at offset `at`, and what follows has the wrong length.
+    #[error("the block at byte {at} has the wrong length")]
     BadBlock { at: usize },
 }
-
-/// Writes a message with a place in it.
-fn write_place<W: fmt::Write>(
-    f: &mut fmt::Formatter<W>,
-    before: &str,
-    at: usize,
-    after: &str,
-) -> fmt::Result {
-    write!(f, "{before}{at}{after}")
-}
-
-impl Display for ViewError {
-    fn fmt<W: fmt::Write>(&self, f: &mut fmt::Formatter<W>) -> fmt::Result {
-        match self {
-            ViewError::BadExtLength => f.write_str("a piece index has four bytes"),
-            ViewError::BadBencode { at } => {
-                write_place(f, "no dictionary goes on at byte ", *at, "")
-            }
-            ViewError::Unsorted { at } => write_place(
-                f,
-                "the key at byte ",
-                *at,
-                " is out of order",
-            ),
-            ViewError::BadField => f.write_str("a field is of the wrong kind"),
-            ViewError::BadBlock { at } => {
-                write_place(f, "the block at byte ", *at, " has the wrong length")
-            }
-        }
-    }
-}
-
-impl std::error::Error for ViewError {}
 
 /// Why no value is parsed. Offsets are counted from the payload's start.
-#[derive(Clone, Copy, Debug, PartialEq, Eq)]
+#[derive(Clone, Copy, Debug, PartialEq, Eq, Error)]
 pub enum ExtError {
     /// The payload has to be a piece index, and doesn't have four bytes.
+    #[error("a piece index has four bytes")]
     BadExtLength,
     /// The payload has to begin with a dictionary within the limits, and doesn't.
     ///
     /// `at` is the offset of the first byte that can't be part of one, or the payload's length if it is truncated.
+    #[error("no dictionary goes on at byte {at}")]
     BadBencode { at: usize },
     /// The key at offset `at` isn't above the key before it.
+    #[error("the key at byte {at} is out of order")]
     Unsorted { at: usize },
     /// A field of the dictionary has the wrong kind.
+    #[error("a field is of the wrong kind")]
     BadField,
     /// The dictionary ends at offset `at`, and what follows has the wrong length.
+    #[error("the block at byte {at} has the wrong length")]
     BadBlock { at: usize },
     /// Out of memory.
+    #[error("out of memory")]
     Memory,
 }
-
-impl ExtError {
-    /// What is wrong with the payload, unless it is memory.
-    fn fault(&self) -> Option<ViewError> {
-        match *self {
-            ExtError::BadExtLength => Some(ViewError::BadExtLength),
-            ExtError::BadBencode { at } => Some(ViewError::BadBencode { at }),
-            ExtError::Unsorted { at } => Some(ViewError::Unsorted { at }),
-            ExtError::BadField => Some(ViewError::BadField),
-            ExtError::BadBlock { at } => Some(ViewError::BadBlock { at }),
-            ExtError::Memory => None,
-        }
-    }
-}
-
-impl Display for ExtError {
-    fn fmt<W: fmt::Write>(&self, f: &mut fmt::Formatter<W>) -> fmt::Result {
-        match self.fault() {
-            Some(fault) => fault.fmt(f),
-            None => f.write_str("out of memory"),
-        }
-    }
-}
-
-impl std::error::Error for ExtError {}
 
 impl From<ViewError> for ExtError {
     ghost use Rattle.bt_ext.specs.Faults.{read_error_of};

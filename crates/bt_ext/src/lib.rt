@@ -17,6 +17,7 @@ mod table;
 mod told;
 mod view;
 
+pub use bytes::copy_bytes;
 pub use dict_text::{DictText, handshake_text, message_text};
 pub use ext::{Ext, ExtError, ExtReason, ExtView, ViewError};
 pub use fields::{announced, announced_id, announced_ref, metadata_size, metadata_size_ref};

@@ -11,7 +11,7 @@ use crate::fields::bad_field;
 use crate::ids::{Registered, Rules};
 use crate::kinds::kind;
 use crate::metadata::{block_ok, is_malformed};
-use bt_bencode::{ByteString, SpellError, Value, append_value, ben_len, fits, is_sorted, spell};
+use bt_bencode::{ByteString, SpellError, Value, append_value, ben_len, fits, is_sorted};
 use std::alloc::{AllocError, Global};
 
 fn is_dict(dict: &Value) -> bool
@@ -49,8 +49,7 @@ fn has_parts(value: &Ext) -> bool
     ensures { IsTrue result ↔ HasParts value.now }
 {
     match value {
-        Ext::Handshake { dict, .. } => is_dict(dict),
-        Ext::Metadata { dict, .. } => is_dict(dict),
+        Ext::Handshake { dict, .. } | Ext::Metadata { dict, .. } => is_dict(dict),
         Ext::DontHave(index) => {
             let _index = *index;
             true
@@ -94,29 +93,6 @@ pub fn ext_len(reg: Registered, value: &Ext) -> Option<u64>
     }
 }
 
-fn spell_dict(alloc: Global, dict: &Value, rest: &ByteString) -> Result<Vec<u8>, SpellError>
-    requires { IsDict dict.now }
-    ensures ok { IfOk result (λ bytes. bytes.items ≡ ben (tree_of dict.now) ++ rest.now) }
-    ensures memory { IfErr result (λ e. e ≡ SpellError.Memory) }
-{
-    let mut bytes = spell(alloc, dict)?;
-    bytes.extend_from_slice(rest.as_slice())?;
-    Ok(bytes)
-}
-
-fn spell_payload(alloc: Global, value: &Ext) -> Result<Vec<u8>, SpellError>
-    requires { HasParts value.now }
-    ensures ok { IfOk result (λ bytes. bytes.items ≡ payload_of value.now) }
-    ensures memory { IfErr result (λ e. e ≡ SpellError.Memory) }
-{
-    match value {
-        Ext::Handshake { dict, rest } => spell_dict(alloc, dict, rest),
-        Ext::Metadata { dict, rest } => spell_dict(alloc, dict, rest),
-        Ext::DontHave(index) => Ok(index.to_be_bytes().to_vec(alloc)?),
-        Ext::Raw { payload, .. } => Ok(payload.as_slice().to_vec(alloc)?),
-    }
-}
-
 /// Encodes a value into its extended id and its payload.
 ///
 /// # Errors
@@ -130,7 +106,8 @@ pub fn spell_ext(alloc: Global, reg: Registered, value: &Ext) -> Result<(u8, Vec
     let Some(id) = own_id(reg, value) else {
         return Err(SpellError::OutOfRange);
     };
-    let payload = spell_payload(alloc, value)?;
+    let mut payload = Vec::with_capacity(alloc, payload_len(value) as usize)?;
+    append_payload(&mut payload, value)?;
     Ok((id, payload))
 }
 

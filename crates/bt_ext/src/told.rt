@@ -95,19 +95,6 @@ fn told_rising<'a, A: Allocator + Copy>(
     Ok(Some(entries))
 }
 
-/// Returns what a dictionary announces, in whatever order its names are.
-fn told_unsorted<'a, A: Allocator + Copy, D: Dict<'a>>(
-    alloc: A,
-    dict: D,
-) -> Result<Vec<(&'a [u8], u8), A>, AllocError>
-    ensures { IfOk result (λ v. entries_of v.items ≡ told_of (D.tree dict)) }
-{
-    match dict.pairs(b"m") {
-        Some(m) => told_by(alloc, m),
-        None => Ok(Vec::new(alloc)),
-    }
-}
-
 /// Returns the names and ids that an extended handshake's dictionary announces.
 ///
 /// They are in the order of their pairs, and of several pairs with one name the first counts.
@@ -125,6 +112,9 @@ pub fn told_of<'a, A: Allocator + Copy, D: Dict<'a>>(
     };
     match told_rising(alloc, m)? {
         Some(told) => Ok(told),
-        None => told_unsorted(alloc, dict),
+        None => match dict.pairs(b"m") {
+            Some(m) => told_by(alloc, m),
+            None => Ok(Vec::new(alloc)),
+        },
     }
 }

@@ -285,8 +285,7 @@ impl<'a> ExtView<'a> {
         match self {
             ExtView::Handshake { dict, .. } => dict.spelled().len(),
             ExtView::Metadata { dict, .. } => dict.spelled().len(),
-            ExtView::DontHave(_) => 0,
-            ExtView::Raw { .. } => 0,
+            ExtView::DontHave(_) | ExtView::Raw { .. } => 0,
         }
     }
 }

@@ -1,21 +1,9 @@
 -- How many bytes reads give.
 use Rattle.std.proofs.Common.{◌≡◌, ℕ, ◌+◌, ◌-◌, ◌*◌, ◌^◌, ◌≤◌, ◌<◌, min, suc, List, length, Option, Some, None, ap, ◌∙◌, arith}
 use Rattle.std.proofs.Math.Nat.{mul-le-mul_right, suc-mul}
-use Rattle.std.proofs.lemmas.List.{length-append}
-use Rattle.std.specs.Io.KnownBytes.{Consumes, Keeps}
 use Rattle.bt_io.specs.Counts.{one_more}
 use Rattle.bt_io.specs.Seen.{SourceSeen}
 use Rattle.bt_feed.specs.Pumps.{ConsumesAtMost, IsReadBy}
-
-pub none_consumed : (n : ℕ) (old new : Option (List ℕ)) → Keeps old new → ConsumesAtMost n old new
-none_consumed n None new h = tt
-none_consumed n (Some xs) None h = h
-none_consumed n (Some xs) (Some ys) h = omega (arith, ap (length {A = ℕ}) h)
-
-pub few_consumed : (n : ℕ) (old new : Option (List ℕ)) (bytes : List ℕ) → Consumes old new bytes → length bytes ≤ n → ConsumesAtMost n old new
-few_consumed n None new bytes h few = tt
-few_consumed n (Some xs) None bytes h few = h
-few_consumed n (Some xs) (Some ys) bytes h few = omega (arith, ap (length {A = ℕ}) h, length-append bytes ys, few)
 
 pub both_consumed : (m n k : ℕ) (old mid new : Option (List ℕ)) → ConsumesAtMost m old mid → ConsumesAtMost n mid new → m + n ≤ k → ConsumesAtMost k old new
 both_consumed m n k None mid new g h le = tt

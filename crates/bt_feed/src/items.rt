@@ -20,7 +20,6 @@ pub enum ItemError {
 
 impl From<AllocError> for ItemError {
     ghost use Rattle.bt_feed.specs.declared.items.ItemError.TheVariants.{Memory};
-    ghost use Rattle.std.specs.Prelude.{◌≡◌};
 
     ghost from_gives = { λ _ e. e ≡ Memory };
 

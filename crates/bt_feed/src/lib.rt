@@ -15,7 +15,6 @@ mod progress;
 mod pumping;
 mod sender;
 mod sink;
-mod slices;
 mod stage;
 mod transcript;
 mod view;

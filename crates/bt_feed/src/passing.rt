@@ -9,10 +9,10 @@ ghost use Rattle.bt_feed.specs.Pumps.{IsHanded, IsFed, IsOffered, IsPassed};
 ghost use Rattle.bt_feed.specs.Feeds.{waiting};
 
 use crate::sink::{Sink, SinkFault};
-use crate::slices::suffix;
 use crate::stage::END;
 use crate::view::View;
-use bt_wire::{Context, Header, Order, judge_header, next_of_view, view_window};
+use bt_bencode::suffix;
+use bt_wire::{Context, Header, Order, judge_header, next_of_view, number_at_front, view_window};
 
 /// The id of an extended message (BEP 10).
 const EXTENDED: u8 = 20;
@@ -99,12 +99,6 @@ fn pass_extended<S: Sink>(
     }
 }
 
-/// Whether the bytes begin with a keep-alive.
-#[inline(always)]
-fn leads_keep_alive(rest: &[u8]) -> bool {
-    rest.len() >= 4 && u32::from_be_bytes([rest[0], rest[1], rest[2], rest[3]]) == 0
-}
-
 /// Gives the sink the message in front, by a copy of [`pass_one`] for each id.
 #[inline(always)]
 fn pass_by_id<S: Sink>(
@@ -152,7 +146,7 @@ fn pass_next<S: Sink>(
     ensures some { IfSome result (λ g. (m : Message) × IsPassed context.now order rest.now g.bytes g.order m × IsOffered S.takes S.misses sink.old (at, items.Message m) sink.new g.taken) }
     ensures failed { IfSome result (λ g. S.failed sink.new ≡ counted (is_err g.taken) (S.failed sink.old)) }
 {
-    if leads_keep_alive(rest) {
+    if rest.len() >= 4 && number_at_front(rest) == 0 {
         return pass_one::<S, KEEP_ALIVE>(context, order, at, sink, rest);
     }
     pass_by_id(context, order, at, sink, rest)

@@ -11,8 +11,8 @@ ghost use Rattle.bt_feed.specs.Stages.{limit_of, is_closed};
 
 use crate::feed::Feed;
 use crate::sink::{Sink, SinkFault};
-use crate::slices::suffix;
 use crate::view::{Finish, refusal_in};
+use bt_bencode::suffix;
 use bt_io::{Failed, Source};
 use bt_wire::Refusal;
 use std::alloc::Allocator;

@@ -10,8 +10,8 @@ ghost use Rattle.bt_feed.specs.Transcripts.{IsTranscript, Reads, IsReadTo};
 ghost use Rattle.bt_feed.specs.Views.{item_of};
 
 use crate::feed::{Feed, FeedError};
-use crate::slices::suffix;
 use crate::view::{refusal_in, to_item};
+use bt_bencode::suffix;
 use bt_wire::{Item, Own, Refusal};
 use std::alloc::{AllocError, Global};
 

@@ -1,8 +1,8 @@
 //! Reassembly of metadata from its blocks (BEP 9).
-ghost use Rattle.std.specs.Prelude.{◌≡◌, ◌⊎◌, ◌↔◌, ◌+◌, ◌<◌, ◌≤◌, ◌++◌, Some, None, length, map, take, drop, count_by, position, slice_get, option_copied, IfOk, IfSome, IsErrOf, MatchResult};
+ghost use Rattle.std.specs.Prelude.{◌≡◌, ◌⊎◌, ◌↔◌, ◌+◌, ◌*◌, ◌^◌, ◌<◌, ◌≤◌, ◌++◌, Some, None, length, min, max, slice_set, map, take, drop, count_by, position, slice_get, option_copied, IfOk, IfSome, IsErrOf, MatchResult};
 ghost use Rattle.std.specs.List.{list_all};
 ghost use Rattle.bt_ext.specs.Metadata.{block_count};
-ghost use Rattle.bt_metadata.specs.Blocks.{max_metadata, window};
+ghost use Rattle.bt_metadata.specs.Blocks.{block_size, max_metadata, window};
 ghost use Rattle.bt_metadata.specs.Assemblies.{is_asked, is_held, is_settled, started, ask_of, asking, with_slots, data_error, with_data, piece_error, with_reject, disconnected, IsFinished, held_block};
 ghost use Rattle.bt_metadata.specs.Unfinished.{IsUnfinished};
 ghost use Rattle.bt_metadata.specs.Sound.{IsAssembly, lacks, holds, settles, kept_status, error_at, holds_at};
@@ -246,6 +246,27 @@ fn is_held(states: &[Status], piece: usize) -> bool
     piece < states.len() && states[piece] == Status::Held
 }
 
+/// Marks the requested block `k` as rejected; memory is written up to its end, and no further.
+fn reject_asked<A: Allocator>(
+    bytes: &mut Arriving<A>,
+    states: &mut Vec<Status, A>,
+    tally: &mut Tally,
+    k: usize,
+)
+    requires asked { 0 < tally.old.asked }
+    requires rejected { tally.old.rejected < max_metadata }
+    requires place { (k < length states.old.items) × (k < 2 ^ 32) }
+    ensures states { states.new.items ≡ slice_set states.old.items k Status.Rejected }
+    ensures tally { tally.new ≡ after_reject tally.old }
+    ensures whole { bytes.new.whole ≡ bytes.old.whole }
+    ensures written { bytes.new.written ≡ max bytes.old.written (min (block_size * k + block_size) (length bytes.old.whole)) }
+{
+    states[k] = Status::Rejected;
+    tally.reject();
+    let size = bytes.len();
+    bytes.reach((BLOCK * k + BLOCK).min(size));
+}
+
 /// Forgets what is requested and rejected.
 fn forget(states: &mut [Status])
     ensures { states.new ≡ map kept_status states.old }
@@ -394,10 +415,7 @@ impl<A: Allocator> Assembly<A> {
         ensures state { self.new ≡ with_reject self.old piece }
     {
         let place = asked_at(&self.states, piece)?;
-        self.states[place] = Status::Rejected;
-        self.tally.reject();
-        let size = self.bytes.len();
-        self.bytes.reach((BLOCK * place + BLOCK).min(size));
+        reject_asked(&mut self.bytes, &mut self.states, &mut self.tally, place);
         Ok(())
     }
 

@@ -18,9 +18,8 @@ use crate::fields::judge_bytes;
 use crate::ids::EXTENDED;
 use crate::message::{Message, MessageView};
 use crate::numbers::{number_at_front, port_at_front};
-use crate::slices::suffix;
-use bt_bencode::ByteString;
-use bt_ext::{ExtView, ViewError, copy_ext, view_ext, view_judged as judged_ext};
+use bt_bencode::{ByteString, suffix};
+use bt_ext::{ExtView, ViewError, copy_bytes, copy_ext, view_ext, view_judged as judged_ext};
 use std::alloc::{AllocError, Global};
 
 /// Parses the bytes of one message as parts of them.
@@ -146,26 +145,11 @@ fn placed(fault: ViewError, _length: usize) -> Refused
     ensures { result ≡ placed_by fault }
 {
     match fault {
-        ViewError::BadExtLength => Refused {
-            at: PAYLOAD_AT,
-            reason: Reason::BadExtLength,
-        },
-        ViewError::BadBencode { at } => Refused {
-            at: PAYLOAD_AT + at as u64,
-            reason: Reason::BadBencode,
-        },
-        ViewError::Unsorted { at } => Refused {
-            at: PAYLOAD_AT + at as u64,
-            reason: Reason::Unsorted,
-        },
-        ViewError::BadField => Refused {
-            at: PAYLOAD_AT,
-            reason: Reason::BadField,
-        },
-        ViewError::BadBlock { at } => Refused {
-            at: PAYLOAD_AT + at as u64,
-            reason: Reason::BadBlock,
-        },
+        ViewError::BadExtLength => Refused::new(PAYLOAD_AT, Reason::BadExtLength),
+        ViewError::BadBencode { at } => Refused::new(PAYLOAD_AT + at as u64, Reason::BadBencode),
+        ViewError::Unsorted { at } => Refused::new(PAYLOAD_AT + at as u64, Reason::Unsorted),
+        ViewError::BadField => Refused::new(PAYLOAD_AT, Reason::BadField),
+        ViewError::BadBlock { at } => Refused::new(PAYLOAD_AT + at as u64, Reason::BadBlock),
     }
 }
 
@@ -241,12 +225,6 @@ fn part_of(fields: &[u8]) -> (u32, u32, u32)
         number_at_front(suffix(fields, 4)),
         number_at_front(suffix(fields, 8)),
     )
-}
-
-fn copy_bytes(alloc: Global, bytes: &[u8]) -> Result<ByteString, AllocError>
-    ensures { IfOk result (λ s. s ≡ bytes.now) }
-{
-    Ok(ByteString::from_vec(bytes.to_vec(alloc)?))
 }
 
 #[inline(always)]

@@ -110,63 +110,46 @@ pub struct Refused {
     pub reason: Reason,
 }
 
+impl Refused {
+    /// Makes the refusal at this offset, for this reason.
+    #[inline(always)]
+    pub(crate) fn new(at: u64, reason: Reason) -> Refused
+        ensures { result ≡ record { at = at; reason = reason } }
+    {
+        Refused { at, reason }
+    }
+}
+
 /// Why a message isn't legal for a receiver.
 ///
 /// It can't be encoded (`Shape`), or the receiver refuses its encoding.
-#[derive(Clone, Copy, PartialEq, Eq, Debug)]
+#[derive(Clone, Copy, PartialEq, Eq, Debug, Error)]
 pub enum Fault {
+    #[error("the value has no spelling of its own")]
     Shape,
+    #[error("{0}")]
     Reason(Reason),
 }
 
-impl Display for Fault {
-    fn fmt<W: fmt::Write>(&self, f: &mut fmt::Formatter<W>) -> fmt::Result {
-        match self {
-            Fault::Shape => f.write_str("the value has no spelling of its own"),
-            Fault::Reason(reason) => reason.fmt(f),
-        }
-    }
-}
-
-impl std::error::Error for Fault {}
-
 /// Why a message isn't encoded.
-#[derive(Clone, Copy, PartialEq, Eq, Debug)]
+#[derive(Clone, Copy, PartialEq, Eq, Debug, Error)]
 pub enum EncodeError {
+    #[error("{0}")]
     Illegal(Fault),
+    #[error("out of memory")]
     Memory,
 }
-
-impl Display for EncodeError {
-    fn fmt<W: fmt::Write>(&self, f: &mut fmt::Formatter<W>) -> fmt::Result {
-        match self {
-            EncodeError::Illegal(fault) => fault.fmt(f),
-            EncodeError::Memory => f.write_str("out of memory"),
-        }
-    }
-}
-
-impl std::error::Error for EncodeError {}
 
 /// Why the bytes of a message aren't parsed.
 ///
 /// They have this fault at this offset, or memory ran out.
-#[derive(Clone, Copy, PartialEq, Eq, Debug)]
+#[derive(Clone, Copy, PartialEq, Eq, Debug, Error)]
 pub enum DecodeError {
+    #[error("{reason} at {at}")]
     Refused { at: u64, reason: Reason },
+    #[error("out of memory")]
     Memory,
 }
-
-impl Display for DecodeError {
-    fn fmt<W: fmt::Write>(&self, f: &mut fmt::Formatter<W>) -> fmt::Result {
-        match *self {
-            DecodeError::Refused { at, reason } => Refused { at, reason }.fmt(f),
-            DecodeError::Memory => f.write_str("out of memory"),
-        }
-    }
-}
-
-impl std::error::Error for DecodeError {}
 
 /// What the first bytes of a message say about it.
 #[derive(Clone, Copy, PartialEq, Eq)]

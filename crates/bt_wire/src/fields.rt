@@ -49,13 +49,10 @@ fn judge_fields(pieces: Option<u32>, length: u32, fields: &Fields) -> Option<Ref
         return None;
     };
     match fields {
-        Fields::Nothing => None,
-        Fields::Index(index) => judge_index(pieces, *index),
-        Fields::Part { index, .. } => judge_index(pieces, *index),
-        Fields::Block { index, .. } => judge_index(pieces, *index),
-        Fields::Port(_) => None,
+        Fields::Index(index) | Fields::Part { index, .. } | Fields::Block { index, .. } =>
+            judge_index(pieces, *index),
         Fields::Field(bits) => judge_bits(pieces, length, bits),
-        Fields::Payload(_) => None,
+        Fields::Nothing | Fields::Port(_) | Fields::Payload(_) => None,
     }
 }
 
@@ -100,10 +97,7 @@ fn judge_index(pieces: u32, index: u32) -> Option<Refused>
     ensures { result ≡ (if nat_le pieces index then Some (record { at = 5; reason = Reason.BadIndex }) else None) }
 {
     if index >= pieces {
-        return Some(Refused {
-            at: FIELDS_AT,
-            reason: Reason::BadIndex,
-        });
+        return Some(Refused::new(FIELDS_AT, Reason::BadIndex));
     }
     None
 }
@@ -114,10 +108,7 @@ fn judge_bits(pieces: u32, length: u32, bits: &[u8]) -> Option<Refused>
     ensures { result ≡ (if has_spare (Some pieces) bits.now then Some (record { at = 3 + length; reason = Reason.SpareBits }) else None) }
 {
     if has_spare_bits(pieces, bits) {
-        return Some(Refused {
-            at: 3 + u64::from(length),
-            reason: Reason::SpareBits,
-        });
+        return Some(Refused::new(3 + u64::from(length), Reason::SpareBits));
     }
     None
 }

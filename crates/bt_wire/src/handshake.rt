@@ -41,16 +41,10 @@ pub fn judge_handshake(own: &Own, bytes: &[u8]) -> Option<Refused>
     ensures { result ≡ hand_fault own.now bytes.now }
 {
     if let Some(place) = first_difference(PROTOCOL, bytes) {
-        return Some(Refused {
-            at: place as u64,
-            reason: Reason::BadProtocol,
-        });
+        return Some(Refused::new(place as u64, Reason::BadProtocol));
     }
     if bytes.len() >= 48 && has_other_hash(own, &bytes[28..48]) {
-        return Some(Refused {
-            at: 28,
-            reason: Reason::WrongInfoHash,
-        });
+        return Some(Refused::new(28, Reason::WrongInfoHash));
     }
     None
 }

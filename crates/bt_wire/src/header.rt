@@ -61,10 +61,7 @@ fn is_agreed(context: &Context, kind: Option<Kind>) -> bool
 fn is_strict(context: &Context) -> bool
     ensures { result ≡ judges_strictly context.now }
 {
-    match context.rules {
-        Rules::Free => false,
-        Rules::Bep => true,
-    }
+    matches!(context.rules, Rules::Bep)
 }
 
 /// Returns whether a bitfield, have all or have none is late (BEP 3, BEP 6).
@@ -75,12 +72,8 @@ fn is_late(order: Order, kind: Option<Kind>) -> bool
     match kind {
         None => false,
         Some(kind) => match kind.turn {
-            Turn::Apart => false,
-            Turn::Counted => false,
-            Turn::Opening => match order {
-                Order::Fresh => false,
-                Order::Past => true,
-            },
+            Turn::Apart | Turn::Counted => false,
+            Turn::Opening => matches!(order, Order::Past),
         },
     }
 }
@@ -93,12 +86,8 @@ fn is_missing(context: &Context, order: Order, kind: Option<Kind>) -> bool
     match kind {
         None => false,
         Some(kind) => match kind.turn {
-            Turn::Apart => false,
-            Turn::Counted => match order {
-                Order::Fresh => context.fast,
-                Order::Past => false,
-            },
-            Turn::Opening => false,
+            Turn::Counted => context.fast && matches!(order, Order::Fresh),
+            Turn::Apart | Turn::Opening => false,
         },
     }
 }

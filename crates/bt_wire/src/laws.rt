@@ -7,7 +7,7 @@ use crate::context::{Context, Order, Own, negotiate};
 use crate::front::{Front, read_front};
 use crate::handshake::{Opening, read_opening};
 use crate::order::next_of_view as next;
-use crate::slices::suffix;
+use bt_bencode::suffix;
 
 /// States that a whole window has one fault, or its message is legal, never both.
 pub fn legal_or_fault()

@@ -19,7 +19,6 @@ mod message;
 mod numbers;
 mod order;
 mod reserved;
-mod slices;
 
 pub use context::{Context, Order, Own, negotiate};
 pub use decode::{copy_message, decode_window, dict_len, view_judged, view_window};
@@ -36,5 +35,6 @@ pub use header::judge_header;
 pub use ids::{Kind, Needs, Shape, Turn, id_name, id_named, kind_of};
 pub use item::{Item, Refusal};
 pub use message::{Message, MessageView};
+pub use numbers::{number_at_front, port_at_front};
 pub use order::{next, next_of_view};
 pub use reserved::Reserved;

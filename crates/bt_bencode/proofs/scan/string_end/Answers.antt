@@ -1,18 +1,15 @@
-use Rattle.std.proofs.Common.{arith, refl}
-use Rattle.bt_bencode.proofs.Tokens.{string_starts, string_goes_on, string_value, string_key}
+use Rattle.std.proofs.Common.{sym, ◌∙◌}
+use Rattle.bt_bencode.proofs.Tokens.{string_within, string_value, string_key}
 use Rattle.bt_bencode.proofs.scan.string_end.Goals as goal
 
-pub loop-i-init : goal.loop-i-init
-loop-i-init c = string_starts c.args.payload.now c.args.at c.requires (c.if-not-is_digit.ensures.0 refl)
+pub returns-clause-within : goal.returns-clause-within
+returns-clause-within c = string_within c.args.payload.now c.in_ok-rest.field-0-0.now c.in_ok-rest.rest.now c.args.at c.requires
+    (sym c.suffix.ensures ∙ c.in_ok-rest.ensures.split)
 
-pub loop-i-preserved : goal.loop-i-preserved
-loop-i-preserved c = string_goes_on c.args.payload.now c.args.at c.loop-i.i c.loop-i.n c.loop-i.invariant c.loop-i-test.true
-    (c.if-not-is_digit-2.ensures.0 refl) (omega arith) (omega arith)
+pub returns-clause-value : goal.returns-clause-value
+returns-clause-value c = λ stack. string_value c.args.payload.now c.in_ok-rest.field-0-0.now c.in_ok-rest.rest.now c.args.at c.requires
+    c.in_ok-rest.ensures.short (sym c.suffix.ensures ∙ c.in_ok-rest.ensures.split) stack
 
-pub returns-then-byte-eq58-clause-value : goal.returns-then-byte-eq58-clause-value
-returns-then-byte-eq58-clause-value c = λ stack. string_value c.args.payload.now c.args.at c.loop-i.i c.loop-i.n c.loop-i.invariant c.loop-i-test.true
-    c.if-byte-eq58.true (omega arith) stack
-
-pub returns-then-byte-eq58-clause-key : goal.returns-then-byte-eq58-clause-key
-returns-then-byte-eq58-clause-key c = λ stack. string_key c.args.payload.now c.args.at c.loop-i.i c.loop-i.n c.loop-i.invariant c.loop-i-test.true
-    c.if-byte-eq58.true (omega arith) stack
+pub returns-clause-key : goal.returns-clause-key
+returns-clause-key c = λ stack. string_key c.args.payload.now c.in_ok-rest.field-0-0.now c.in_ok-rest.rest.now c.args.at c.requires
+    c.in_ok-rest.ensures.short (sym c.suffix.ensures ∙ c.in_ok-rest.ensures.split) stack

@@ -44,12 +44,13 @@ returns-clause-state g c =
     let d = c.self.inside.bytes.whole in
     let ss = c.self.inside.states.items in
     let e : error_at ss piece ≡ None = ap (λ ss. error_at ss piece) (sym c.deref.ensures.value) ∙ c.in_ok-place.ensures.2 in
-    ap (λ w. state_of h w (set ss c.in_ok-place.place status.Rejected)) c.reach.ensures.whole
+    ap (λ xs. state_of h c.reject_asked.new.bytes.whole xs) c.reject_asked.ensures.states
+    ∙ ap (λ w. state_of h w (set ss c.in_ok-place.place status.Rejected)) c.reject_asked.ensures.whole
     ∙ ap (λ k. state_of h d (set ss k status.Rejected)) c.in_ok-place.ensures.0 ∙ rejected_is h d ss piece e ∙ ap (λ (a : AssemblyState). with_reject a piece)
     c.self.view_is
 
-pub reject-requires-clause-asked : goal.reject-requires-clause-asked
-reject-requires-clause-asked g c =
+pub reject_asked-requires-clause-asked : goal.reject_asked-requires-clause-asked
+reject_asked-requires-clause-asked g c =
     let inside = c.self.inside in
     one_asked inside.tally inside.states.items c.in_ok-place.place c.self.invariant.tallied
     (none_at c.deref.ensures.value c.in_ok-place.ensures.0 c.in_ok-place.ensures.2)
@@ -61,16 +62,17 @@ invariant_of-self g c =
     let k = c.in_ok-place.place in
     let none = none_at c.deref.ensures.value c.in_ok-place.ensures.0 c.in_ok-place.ensures.2 in
     let right : IsTallied (after_reject inside.tally) (set ss k status.Rejected) = tallied-reject inside.tally ss k c.self.invariant.tallied none in
-    let same = sym c.reach.ensures.whole in
-    let end : min (16384 * k + 16384) (length inside.bytes.whole) ≤ c.reach.new.self.written =
-    omega (arith, c.reach.ensures.written, c.min.ensures, c.len-size.ensures) in
-    let all : AreWritten (set ss k status.Rejected) (length inside.bytes.whole) c.reach.new.self.written = written-settled ss k (length inside.bytes.whole)
-    inside.bytes.written c.reach.new.self.written status.Rejected c.self.invariant.written (omega (arith, c.reach.ensures.written)) end in
+    let after = c.reject_asked.new in
+    let same = sym c.reject_asked.ensures.whole in
+    let end : min (16384 * k + 16384) (length inside.bytes.whole) ≤ after.bytes.written = omega (arith, c.reject_asked.ensures.written) in
+    let all : AreWritten (set ss k status.Rejected) (length inside.bytes.whole) after.bytes.written = written-settled ss k (length inside.bytes.whole)
+    inside.bytes.written after.bytes.written status.Rejected c.self.invariant.written (omega (arith, c.reject_asked.ensures.written)) end in
     record {
       least = subst (λ w. 0 < length w) same c.self.invariant.least;
       most = subst (λ w. length w ≤ max_metadata) same c.self.invariant.most;
-      count = length-set ss k status.Rejected ∙ c.self.invariant.count ∙ ap (λ w. block_count (length w)) same;
-      asked = omega (arith, right.asked, c.self.invariant.asked, c.self.invariant.tallied.asked);
-      tallied = subst (λ (t : Tally). IsTallied t (set ss k status.Rejected)) (sym c.reject.ensures) right;
-      written = subst (λ w. AreWritten (set ss k status.Rejected) (length w) c.reach.new.self.written) same all;
+      count = rw c.reject_asked.ensures.states (length-set ss k status.Rejected ∙ c.self.invariant.count ∙ ap (λ w. block_count (length w)) same);
+      asked = rw c.reject_asked.ensures.states (omega (arith, right.asked, c.self.invariant.asked, c.self.invariant.tallied.asked));
+      tallied = rw c.reject_asked.ensures.states (subst (λ (t : Tally). IsTallied t (set ss k status.Rejected)) (sym c.reject_asked.ensures.tally) right);
+      written =
+          rw c.reject_asked.ensures.states (subst (λ w. AreWritten (set ss k status.Rejected) (length w) after.bytes.written) same all);
     }
