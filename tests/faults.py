@@ -18,6 +18,7 @@ import subprocess
 import sys
 import tempfile
 
+import capture
 from peers import INFO, Link, Peer, giving, handshake, info_of, summary, timeless
 from statuses import FETCH, FETCHED, HAND, HASH, HAVE_9, JSON_HAND, LINE, ROOT, TWO, NO_STEPS, message, naming
 
@@ -142,6 +143,15 @@ COMMANDS = [
     ("link", FETCH, [(None, FETCHED)]),
     ("loop", b"abc", [(None, LOOPED)]),
 ]
+
+
+def capture_of(name):
+    """A capture of tests/btcap.py, which nothing is wrong with, and what is written of it at the end."""
+    rows = capture.module_of("btcap").rows()
+    return next(("capture", packets, [(None, capture.reported(text).encode())]) for what, _, packets, text, _, _ in rows if what == name)
+
+
+CAPTURE = capture_of("two connections")
 
 
 class Runner:
@@ -284,6 +294,54 @@ def two_directions(runner):
                 yield "%s: %s %d %r: %r" % (words, kind, number, further, answer)
 
 
+def seen_in(packets, count):
+    """The numbers of the connections that send a byte in the first `count` bytes of a capture of Ethernet frames."""
+    seen, opened, at = [], [], 24
+    while at + 16 <= count:
+        size = int.from_bytes(packets[at + 8:at + 12], "little")
+        frame, at = packets[at + 16:at + 16 + size], at + 16 + size
+        if at > count:
+            break
+        packet = frame[14:]
+        if frame[12:14] != b"\x08\0" or packet[9] != 6:
+            continue
+        tcp = packet[4 * (packet[0] & 15):int.from_bytes(packet[2:4], "big")]
+        ends = [packet[12:16] + tcp[:2], packet[16:20] + tcp[2:4]]
+        flags, data = tcp[13], tcp[4 * (tcp[12] >> 4):]
+        if flags & 18 == 2:
+            opened.append(ends)
+        number = max(k for k, it in enumerate(opened) if sorted(it) == sorted(ends))
+        if data and number not in seen:
+            seen.append(number)
+    return sorted(seen)
+
+
+def capturing(runner):
+    """The calls of a `capture` of three connections fail in turn: reports of what was read are written, or a part of them."""
+    words, packets, parts = CAPTURE
+    text = whole(parts)
+    reports = [b"connection " + part for part in text.split(b"connection ")[1:]]
+    heads = [report.splitlines()[0] for report in reports]
+    ample = (text, b"", 0)
+    # A connection for which memory runs out isn't told; the others are, or a part of them.
+    rests = [b"".join(report for at, report in enumerate(reports) if kept >> at & 1) for kept in range(1 << len(reports))]
+    for number, answer, was_made in runner.in_turn(words, packets, "MEMORY"):
+        out, errors, ended = answer
+        is_fault = any(rest.startswith(out) for rest in rests) and (errors, ended) == (b"fault: memory\n", 3)
+        if answer != ample and not (was_made and is_fault):
+            yield "capture: request %d: %r" % (number, answer)
+    for most in (7, 100):
+        for number, (out, errors, ended), was_made in runner.in_turn(words, packets, "READ", READ_MOST=most):
+            told = [line for line in out.splitlines() if line.startswith(b"connection ")]
+            wanted = [heads[number] for number in seen_in(packets, most * (number - 1))]
+            is_fault = (sorted(told), errors, ended) == (sorted(wanted), b"fault: read\n", 3)
+            if not (is_fault if was_made else (out, errors, ended) == ample):
+                yield "capture: read %d of %d bytes: %r, not %r" % (number, most, (out, errors, ended), wanted)
+    for number, answer, was_made in runner.in_turn(words, packets, "WRITE", WRITE_MOST=1):
+        if answer != ((text[:number - 1], b"fault: write\n", 3) if was_made else ample):
+            yield "capture: write %d of one byte: %r" % (number, answer)
+
+
 def summed(lines):
     """These lines of a fetch and their summary, as `fetched_in_turn` gives them."""
     return (lines + summary(lines)).encode()
@@ -385,7 +443,7 @@ def main():
                 for line in device(runner, words, given, parts):
                     wrong += 1
                     print("faults: wrong: bt_tool %s: %s" % (words, line))
-        for part in (two_files, two_directions, looping, fetching, serving):
+        for part in (two_files, two_directions, capturing, looping, fetching, serving):
             for line in part(runner):
                 wrong += 1
                 print("faults: wrong: bt_tool " + line)

@@ -14,10 +14,11 @@ import sys
 import tempfile
 import time
 
-from faults import COMMANDS, HAND, LINE, whole
+from faults import COMMANDS as STREAMS, HAND, LINE, capture_of, whole
 from peers import summary, timeless
 from statuses import HASH, ROOT
 
+COMMANDS = STREAMS + [capture_of("no Fast Extension")]
 HAVES = 60_000
 # A stream of some hundred thousand bytes, its script, and what is written of it.
 LONG = HAND + b"".join(b"\0\0\0\x05\x04" + number.to_bytes(4, "big") for number in range(HAVES))
