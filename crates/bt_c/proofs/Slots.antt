@@ -1,9 +1,8 @@
 -- What a slot owns: its two words, and the box of the end that it has.
-use Rattle.std.proofs.Common.{◌≡◌, List, [], ◌∷◌, refl, sym, subst}
+use Rattle.std.proofs.Common.{◌≡◌, List, [], ◌∷◌, refl}
 use seplogic.Ra.Ura.{Ura}
 use mir.Syntax.{impl, tnil, dnil}
 use mir.Val.{Val}
-use base.Fml.{ftrue}
 use base.Logic.{id⊢}
 use types.Logic.{Logic}
 use types.Kit.{Item, Goal, Seq, Step, step, ‵, ◌$◌, move, drop, fsplit, fjoin, use1, rewrite}
@@ -20,7 +19,7 @@ use Rattle.std.proofs.alloc.Calls.{Al}
 use Rattle.std.proofs.alloc.Global.TheLaws as heap_laws
 use Rattle.std.proofs.cell.Inside.{Good}
 use Rattle.bt_end.specs.contracts.end.End as end
-use Rattle.bt_c.proofs.Words.{words, Fields, words_out, words_in}
+use Rattle.bt_c.proofs.Words.{words, words_out, words_in}
 use Rattle.bt_c.specs.Held.{owned_by}
 use Rattle.bt_c.specs.contracts.held.Slot as slot
 use Rattle.bt_c.specs.contracts.loose.Loose as loose

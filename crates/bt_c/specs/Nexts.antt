@@ -1,5 +1,5 @@
 -- What the next call tells: an item of the peer, and what it made of the end.
-use Rattle.std.specs.Prelude.{◌≡◌, ℕ, ◌<◌, ◌≤◌, ◌^◌, List, ◌++◌, length, drop, Option, Some, None, Result, Ok, Err}
+use Rattle.std.specs.Prelude.{◌≡◌, ℕ, ◌<◌, ◌≤◌, ◌^◌, List, ◌++◌, length, drop, Option, Some, None, Result, Ok}
 use Rattle.bt_ext.specs.Ids.{metadata_only}
 use Rattle.bt_wire.specs.declared.context.Context.{Context}
 use Rattle.bt_wire.specs.declared.item.Item.{Item}
@@ -11,7 +11,7 @@ use Rattle.bt_feed.specs.Stages.{start_of}
 use Rattle.bt_end.specs.Events.{event_of}
 use Rattle.bt_end.specs.Halves.{HalfState, received, IsTurned}
 use Rattle.bt_end.specs.declared.end.Turn.{Turn}
-use Rattle.bt_end.specs.declared.end.Turn.TheVariants.{Handled, Idle}
+use Rattle.bt_end.specs.declared.end.Turn.TheVariants.{Handled}
 use Rattle.bt_end.specs.declared.end.TurnError.{TurnError}
 use Rattle.bt_end.specs.declared.event.Event.{Event}
 use Rattle.bt_end.specs.declared.event.Event.TheVariants as event

@@ -1,7 +1,7 @@
 -- What the end's call says of an item, said of the end before the bytes came.
-use Rattle.std.proofs.Common.{◌≡◌, ℕ, refl, ap, subst, ◌∙◌, Option, Result, Ok, Some}
+use Rattle.std.proofs.Common.{ℕ, refl, ap, subst, ◌∙◌, Option, Result, Ok, Some}
 use Rattle.bt_feed.specs.Views.{item_of}
-use Rattle.bt_end.specs.Halves.{HalfState, received, IsTurned}
+use Rattle.bt_end.specs.Halves.{HalfState, IsTurned}
 use Rattle.bt_end.specs.Nexts.{IsHeard, turn_of}
 use Rattle.bt_end.specs.declared.end.Heard.{Heard}
 use Rattle.bt_end.specs.declared.end.Turn.TheVariants.{Handled}

@@ -14,9 +14,9 @@ returns c =
     let reg = c.metadata_only.ensures.ids ∙ ap metadata_only id in
     let text = c.handshake_text-place.ensures.text ∙ ap (λ k. ben (handshake_tree k c.size_from.result)) reg
     ∙ ap (λ k. ben (handshake_tree (metadata_only (flagged c.args.metadata_id c.args.metadata_id)) k)) size in
-    let bytes : c.text_from.result.now ++ []
+    let bytes : c.suffix.result.now ++ []
     ≡ ben (handshake_tree (metadata_only (flagged c.args.metadata_id c.args.metadata_id)) (flagged c.args.has_size c.args.size)) =
-    append-nil c.text_from.result.now ∙ c.text_from.ensures.text ∙ text in (
+    append-nil c.suffix.result.now ∙ c.suffix.ensures ∙ text in (
       told.0,
       told.1,
       subst (λ (b : List ℕ). Writes c.args.peer.now told.0 b c.write_extended.new.peer c.args.out.now c.write_extended.new.out

@@ -1,14 +1,12 @@
 -- Nothing is owned but the two words, and no statement needs them.
-use Rattle.std.proofs.Common.{◌≡◌, List, [], ◌∷◌, ◌++◌, refl, sym, subst}
+use Rattle.std.proofs.Common.{List, [], ◌∷◌, ◌++◌, refl, sym, subst}
 use mir.Syntax.{Fn}
 use mir.Val.{Val, vunit}
-use base.Logic.{SProp, ent, emp, id⊢}
-use base.Fml.{ftrue}
+use base.Logic.{SProp, ent, id⊢}
 use prog.Wp.{WpFn}
 use types.Kit.{‵, raw, ◌⊛◌, ◌$◌, ◌∵◌, !, qed, by, move, keep, drop, split, fsplit, fjoin, suffices, feq_i}
 use types.Run.{of_opd, unit_lit, returns, enter}
 use types.ByLocal.{alloc_all, pass_all, free_all, look_at, sets}
-use contract.Monad.{fact}
 use contract.Running.{tables}
 use denote.RattleType.{owns}
 use denote.Signature.{types_at, plain}

@@ -34,7 +34,7 @@ use Rattle.std.proofs.BoxSteps.Steps.{box_out, box_in}
 use Rattle.std.proofs.raw_atomic.Walks.{proved_at, leaves}
 use Rattle.std.specs.contracts.boxed.Box.into_raw_with_allocator as callee
 use Rattle.std.proofs.boxed.Box.into_raw_with_allocator.Met.{met}
-use Rattle.bt_c.proofs.Boxes.{Apart, apart_in}
+use Rattle.bt_c.proofs.Boxes.{apart_in}
 use Rattle.bt_c.specs.contracts.loose.Loose.of.{ended, clauses}
 use Rattle.bt_c.specs.contracts.loose.Loose.of.Key.{name}
 use Rattle.bt_c.proofs.loose.Loose.of.Statement.{statement}
