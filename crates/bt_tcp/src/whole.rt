@@ -1,9 +1,9 @@
 //! A whole direction at once: what the clauses of a ring say together.
-ghost use Rattle.std.specs.Prelude.{◌≡◌, ℕ, ◌+◌, ◌<◌, ◌≤◌, ◌^◌, List, [], ◌∷◌, ◌++◌, length, IfOk, OnOk};
+ghost use Rattle.std.specs.Prelude.{◌≡◌, ℕ, ◌+◌, ◌<◌, ◌≤◌, ◌^◌, List, [], ◌∷◌, ◌++◌, length, IfOk, IfErr, OnOk};
 ghost use Rattle.bt_tcp.specs.Segments.{Segment, IsStream};
 ghost use Rattle.bt_tcp.specs.Rings.{ahead, IsSound};
 ghost use Rattle.bt_tcp.specs.Windows.{IsTaken};
-ghost use Rattle.bt_tcp.specs.Whole.{segments, Drains, TakesAll};
+ghost use Rattle.bt_tcp.specs.Whole.{segments, Drains, TakesAll, IsFull, FailsFor};
 
 use crate::rings::{Put, Ring};
 use std::alloc::{AllocError, Global};
@@ -27,6 +27,10 @@ pub enum Failed {
 }
 
 impl From<AllocError> for Failed {
+    ghost use Rattle.bt_tcp.specs.declared.whole.Failed.TheVariants.{Memory};
+
+    ghost from_gives = { λ _ e. e ≡ Memory };
+
     fn from(_: AllocError) -> Failed {
         Failed::Memory
     }
@@ -63,6 +67,7 @@ fn take(
     requires sound { IsSound ring.old known.old memory.old }
     requires end { segment.now.place + length segment.now.bytes.now < 2 ^ 64 }
     ensures sound { IsSound ring.new known.new memory.new }
+    ensures full { IfErr result (λ why. IsFull ring.old.next (length known.old) segment.now why) }
     ensures taken { OnOk result (TakesAll segment.now.place segment.now.bytes.now ring.old known.old memory.old out.old.items ring.new known.new memory.new out.new.items) }
 {
     match ring.put(known, memory, segment.place, segment.bytes) {
@@ -88,7 +93,8 @@ pub fn reassemble(
 ) -> Result<Vec<u8>, Failed>
     requires room { 0 < length known.old }
     requires same { length memory.old ≡ length known.old }
-    ensures { IfOk result (λ out. IsStream (segments captured.now) base out.items) }
+    ensures stream { IfOk result (λ out. IsStream (segments captured.now) base out.items) }
+    ensures fails { IfErr result (λ why. FailsFor base (length known.old) captured.now why) }
 {
     let mut ring = Ring::new(base, known, memory);
     let mut out = Vec::new(alloc);
