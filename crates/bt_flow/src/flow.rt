@@ -70,7 +70,7 @@ fn offsets(gaps: Gaps, base: u64) -> Gaps
 impl Flow {
     ghost use Rattle.bt_tcp.specs.Heard.{Heard, Acked, opening_of};
     ghost use Rattle.bt_tcp.specs.Segments.{Segment};
-    ghost use Rattle.bt_flow.specs.Flows.{IsFlow, FlowTakes, IsLost, Begins, StreamOnly, IsBaseNow, IsPlaceNow, HasHole, IsClosed, conflicts_in, high_in, NotesIn, AreGapsOf, gaps_end};
+    ghost use Rattle.bt_flow.specs.Flows.{IsFlow, FlowTakes, IsLost, Begins, StreamOnly, IsBaseNow, IsPlaceNow, HasHole, IsClosed, conflicts_in, held_in, high_in, NotesIn, AreGapsOf, gaps_end};
     ghost use Rattle.bt_flow.specs.Notes.{spans_noted};
     ghost use Rattle.bt_tcp.specs.Covered.{is_covered, AreGaps};
     ghost use Rattle.bt_tcp.specs.Halves.{IsHalf};
@@ -177,7 +177,8 @@ impl Flow {
 
     /// Takes an acknowledgement by the other side. `opens` says whether it came with that side's SYN.
     pub fn hear(&mut self, acked: u32, opens: bool)
-        ensures { (heard : List Heard) → (segs : List Segment) → (out : List ℕ) → IsFlow heard segs out self.old
+        ensures stream { self.new.stream ≡ self.old.stream }
+        ensures heard { (heard : List Heard) → (segs : List Segment) → (out : List ℕ) → IsFlow heard segs out self.old
             → (at : ℕ) × IsFlow (heard ++ Acked (record { number = acked; opens = opens; place = at }) ∷ []) segs out self.new }
     {
         self.half.hear(acked, opens);
@@ -295,7 +296,9 @@ impl Flow {
     }
 
     /// Returns how many bytes of memory it holds past a gap.
-    pub fn held(&self) -> usize {
+    pub fn held(&self) -> usize
+        ensures { result ≡ held_in self.now.stream }
+    {
         match &self.stream {
             Some(stream) => stream.held(),
             None => 0,

@@ -31,7 +31,7 @@ pub struct Stream {
 }
 
 impl Stream {
-    ghost use Rattle.bt_flow.specs.Memory.{next_of};
+    ghost use Rattle.bt_flow.specs.Memory.{next_of, capacity_of};
     ghost use Rattle.bt_flow.specs.Streams.{IsStreamOf, Advances, StreamTakes, conflicts_with};
 
     /// Returns a stream that begins at a place.
@@ -85,7 +85,9 @@ impl Stream {
     }
 
     /// Returns how many bytes of memory it has past a gap.
-    pub fn held(&self) -> usize {
+    pub fn held(&self) -> usize
+        ensures { result + 1 ≡ capacity_of self.now.window }
+    {
         self.window.held()
     }
 

@@ -2,8 +2,8 @@ use Rattle.std.proofs.Common.{refl}
 use Rattle.bt_flow.proofs.Flows.{stream_quiet}
 use Rattle.bt_flow.proofs.flow.Flow.hear.Goals as goal
 
-pub returns : goal.returns
-returns c = λ heard segs out f. (
+pub returns-clause-heard : goal.returns-clause-heard
+returns-clause-heard c = λ heard segs out f. (
   c.hear.result,
   record {
     half = c.hear.ensures heard f.half;
