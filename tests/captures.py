@@ -1,0 +1,466 @@
+#!/usr/bin/env python3
+"""Runs `bt_tool capture` on random captures, and compares its reports with those of a plain model.
+
+usage: tests/captures.py [PROGRAM]
+
+PROGRAM is the built bt_tool, or else the script at the top of the repository. The model is written from the standards and from
+docs/CAPTURES.md and docs/RULES.md: it keeps all bytes, and looks at all of them again for each packet. The captures have lost, swapped,
+repeated, overlapping, changed and cut segments, sequence numbers that wrap, several connections between the same ports, both formats
+and byte orders; two files are cut after each byte. The seed is fixed. The limits of memory are those of tests/limits.py.
+"""
+import importlib.machinery
+import importlib.util
+import os
+import random
+import struct
+import subprocess
+import sys
+
+sys.dont_write_bytecode = True
+ROOT = os.path.dirname(os.path.dirname(os.path.abspath(__file__)))
+FILES = 500
+HELLO, HANDSHAKE, EXCHANGE = b"\x13BitTorrent protocol", 68, 2048
+FIN, SYN, RST, ACK = 1, 2, 4, 16
+FAST, EXT = 0x4, 0x100000
+# How far back a repeated byte is compared, and how long a connection that is over is waited for.
+HISTORY, QUIET = 16384, 4_000_000_000
+
+
+def module_of(name):
+    """The script of this name beside this one."""
+    loader = importlib.machinery.SourceFileLoader(name, os.path.join(ROOT, "tests", name + ".py"))
+    module = importlib.util.module_from_spec(importlib.util.spec_from_loader(name, loader))
+    loader.exec_module(module)
+    return module
+
+
+WRITER = module_of("btcap")
+
+
+# ---- the model: messages
+
+class Receiver:
+    """Who a stream is judged for. Its ids don't matter: no stream here has a message under one."""
+
+    def __init__(self, reserved, limit=262144, metadata=0, donthave=None, guessed=False):
+        self.reserved, self.limit, self.guessed = reserved, limit, guessed
+        self.options = "--reserved %016x --metadata-id %d" % (reserved, metadata)
+        self.options += "" if donthave is None else " --donthave-id %d" % donthave
+
+
+LENGTHS = {**dict.fromkeys(range(4), 1), 4: 5, 6: 13, 8: 13, 9: 3, 13: 5, 14: 1, 15: 1, 16: 13, 17: 5}
+FIRST, UNCOUNTED = (5, 14, 15), (9, 20)
+
+
+def reason_of(receiver, rules, sender, length, number, counted):
+    """Why a message is refused by its first five bytes, and at which of them; docs/RULES.md."""
+    on = receiver.reserved & sender
+    known = number in LENGTHS or number in (5, 7, 20)
+    if rules == "bep" and not known:
+        return "UnknownId", 4
+    if number in (13, 14, 15, 16, 17) and not on & FAST or number == 20 and not on & EXT:
+        return "NotNegotiated", 4
+    if length != LENGTHS.get(number, length) or number in (5, 20) and length < 2 or number == 7 and length < 9:
+        return "WrongLength", 0
+    if rules == "bep" and number in FIRST and counted:
+        return "Late", 4
+    if rules == "bep" and on & FAST and not counted and number not in FIRST and known and number not in UNCOUNTED:
+        return "Missing", 4
+    return None
+
+
+def read(stream, receiver, rules):
+    """The messages of a stream that begins with a handshake, and its refusal as message, offset and reason, if there is one."""
+    found, at, counted = [], HANDSHAKE, False
+    if len(stream) < HANDSHAKE:
+        return None, (0, len(stream), "EndInside")
+    sender = int.from_bytes(stream[20:28], "big")
+    while at < len(stream):
+        head = stream[at:at + 5]
+        length = int.from_bytes(head[:4], "big")
+        if len(head) >= 4 and length > receiver.limit:
+            return found, (len(found) + 1, at, "TooLong")
+        if len(head) == 5 and length:
+            refused = reason_of(receiver, rules, sender, length, head[4], counted)
+            if refused:
+                return found, (len(found) + 1, at + refused[1], refused[0])
+        if len(head) < 4 or at + 4 + length > len(stream):
+            return found, (len(found) + 1, len(stream), "EndInside")
+        found.append(stream[at + 4:at + 4 + length])
+        if length and (head[4] in LENGTHS or head[4] in (5, 7)) and head[4] not in UNCOUNTED:
+            counted = True
+        at += 4 + length
+    return found, None
+
+
+def number_in(dictionary, key):
+    at = dictionary.find(b"%d:%s" % (len(key), key))
+    return int(dictionary[dictionary.index(b"i", at + 2 + len(key)) + 1:].split(b"e")[0]) if at >= 0 else None
+
+
+class Said:
+    """What the front of what a side sends says of that side."""
+
+    def __init__(self, front):
+        place = front[:EXCHANGE + len(HELLO)].find(HELLO)
+        self.start, self.size = place if place >= 0 else None, len(front)
+        self.stranger = place < 0 and len(front) >= EXCHANGE + len(HELLO)
+        self.reserved, self.name, self.all, self.ids = None, None, False, (None, None)
+        found, refused = read(front[place:], Receiver(EXT | 5, 1048576), "free") if place >= 0 else (None, None)
+        if found is not None:
+            self.reserved, self.name = int.from_bytes(front[place + 20:place + 28], "big"), front[place + 48:place + 68]
+            extended = [it[2:] for it in found if it[:2] == b"\x14\0"]
+            self.all = bool(extended) or len(found) >= 1000 or bool(refused and refused[2] != "EndInside")
+            for it in extended:
+                self.ids = number_in(it, b"ut_metadata"), number_in(it, b"lt_donthave")
+                self.name = it[it.index(b"1:v") + 5:][:int(it[it.index(b"1:v") + 3:][:1])] if b"1:v" in it else self.name
+
+
+def is_settled(a, b):
+    """Whether the opening of a connection is over."""
+    if a.reserved is not None and b.reserved is not None:
+        return not a.reserved & b.reserved & EXT or a.all and b.all
+    return all(it.stranger or it.reserved is not None for it in (a, b)) and (a.stranger or b.stranger)
+
+
+# ---- the model: TCP
+
+def nearest(zero, near, sequence):
+    """The place nearest to another one that has a sequence number; 2^40 has `zero`. Of two the later one."""
+    ahead = (sequence - zero - near) % 2 ** 32
+    return near + ahead - (2 ** 32 if ahead > 2 ** 31 else 0)
+
+
+class Side:
+    """A direction. Its stream begins after the SYN if that is known at the first captured byte, and else with that byte."""
+
+    def __init__(self):
+        self.zero = self.opening = self.fin = self.base = None
+        self.last = self.end = self.acked = 2 ** 40
+        self.bytes, self.conflicts, self.length = {}, 0, 0
+
+    def hear(self, acked, opens):
+        self.zero = acked if self.zero is None else self.zero
+        if opens and self.opening is None:
+            self.opening = (acked - 1) % 2 ** 32
+        self.acked = max(self.acked, nearest(self.zero, self.last, acked))
+
+    def after_syn(self):
+        return None if self.opening is None else nearest(self.zero, 2 ** 40, (self.opening + 1) % 2 ** 32)
+
+    def next(self):
+        return self.after_syn() if self.base is None else self.base + self.length
+
+    def take(self, it):
+        number = (it.sequence + bool(it.flags & SYN)) % 2 ** 32
+        self.zero = number if self.zero is None else self.zero
+        at = self.last = nearest(self.zero, self.last, number)
+        self.opening = it.sequence % 2 ** 32 if it.flags & SYN else self.opening
+        self.end = max(self.end, at + len(it.payload))
+        self.fin = at + len(it.payload) if it.flags & FIN else self.fin
+        if not it.captured:
+            return
+        if self.base is None:
+            self.base = self.after_syn() or at
+        for place, byte in enumerate(it.captured, at):
+            if self.base <= place and self.next() <= place + HISTORY and self.bytes.get(place, byte) != byte:
+                self.conflicts += 1
+        for place, byte in enumerate(it.captured, at):
+            self.bytes.setdefault(place, byte)
+        while self.base + self.length in self.bytes:
+            self.length += 1
+
+    def stream(self):
+        return b"" if self.base is None else bytes(self.bytes[self.base + k] for k in range(self.length))
+
+    def high(self):
+        return 0 if self.base is None else max(0, max(self.bytes) + 1 - self.base)
+
+    def gaps(self):
+        """The runs of bytes that were sent and not captured: offset from the base, and length."""
+        first = self.next()
+        if first is None:
+            return []
+        highest = max(self.bytes, default=0) + 1
+        known = max(first, highest)
+        sent = self.fin if self.fin is not None else max(self.end, self.acked if self.acked > known + 1 else known)
+        missing = [place for place in range(first, max(sent, highest)) if place not in self.bytes]
+        runs = [k for k, place in enumerate(missing) if not k or missing[k - 1] != place - 1] + [len(missing)]
+        return [(missing[k] - (first - self.length), n - k) for k, n in zip(runs, runs[1:])]
+
+    def is_closed(self):
+        return self.fin is not None and self.next() is not None and self.fin <= self.next() and self.fin < self.acked
+
+
+class Connection:
+    def __init__(self, number, it):
+        self.number, self.said, self.settled, self.closed, self.over = number, {}, False, None, None
+        self.ends = it.ends[::-1] if it.flags & SYN and it.flags & ACK else it.ends
+        self.sides = {end: Side() for end in self.ends}
+        self.has_bytes = False
+
+    def opens_again(self, it):
+        side = self.sides[it.ends[0]]
+        return it.flags & (SYN | ACK) == SYN and (side.high() > 0 if side.opening is None else side.opening != it.sequence % 2 ** 32)
+
+    def take(self, it):
+        if not it.flags & RST:
+            self.has_bytes |= bool(it.captured)
+            if it.flags & ACK:
+                self.sides[it.ends[1]].hear(it.acked % 2 ** 32, it.flags & SYN)
+            self.sides[it.ends[0]].take(it)
+        if it.flags & (FIN | RST) and self.closed is None:
+            self.closed = it.ends[0], "RST" if it.flags & RST else "FIN", it.nanos
+        if self.over is None and (it.flags & RST or all(side.is_closed() for side in self.sides.values())):
+            self.over = it.nanos
+        self.settle()
+
+    def settle(self, over=False):
+        if not self.settled:
+            for end, side in self.sides.items():
+                if end not in self.said or self.said[end].size != side.length:
+                    self.said[end] = Said(side.stream())
+            self.settled = over or is_settled(*self.said.values())
+
+    def direction(self, end, other):
+        """The lines of a direction, and whether it is refused."""
+        side, own, letter = self.sides[end], self.said[end], "AB"[self.ends.index(end)]
+        gaps, stream = side.gaps(), side.stream()
+        lines = ""
+        if own.start:
+            lines += "    handshake after %d bytes of a key exchange; offsets count from it\n" % own.start
+        if side.conflicts:
+            lines += "    repeated with other bytes: %d; the first ones count\n" % side.conflicts
+        if gaps:
+            more = "; %d gaps, %d bytes in all" % (len(gaps), sum(n for _, n in gaps)) if len(gaps) > 1 else ""
+            lines += "    gap at %d: %d bytes aren't in the capture%s\n" % (max(0, gaps[0][0] - (own.start or 0)), gaps[0][1], more)
+        if own.reserved is None:
+            return "  %s sent %d bytes and no whole handshake\n%s" % (letter, len(stream), lines), False
+        if self.said[other].reserved is None:
+            receiver = Receiver(own.reserved, guessed=True)
+        else:
+            metadata, donthave = self.said[other].ids
+            donthave = None if donthave == metadata else donthave
+            receiver = Receiver(self.said[other].reserved, 262144, metadata or 0, donthave)
+        refused = False
+        for rules in ("free", "bep"):
+            found, why = read(stream[own.start:], receiver, rules)
+            note, cut = "", why is not None and why[2] == "EndInside"
+            if gaps:
+                note = " (cut by the gap)" if cut else " (up to the gap)" if why is None else ""
+            elif cut and (self.closed is None or self.closed[0] != end):
+                note = " (cut by the capture's end)" if self.closed is None else " (cut by the close of the other end)"
+            verdict = "refused message=%d at=%d %s" % why if why else "ok messages=%d bytes=%d" % (len(found), len(stream) - own.start)
+            lines += "    %-4s %s%s\n" % (rules, verdict, note)
+            refused |= rules == "free" and why is not None and not (cut and note)
+        guess = " (guessed: its receiver's handshake isn't there)" if receiver.guessed else ""
+        return "  %s %s\n%s    options %s%s\n" % (letter, own.name.decode(), lines, receiver.options, guess), refused
+
+    def report(self, start):
+        """The lines, whether it is a BitTorrent connection, and whether a direction is refused."""
+        self.settle(True)
+        names = "connection %d  A %s > B %s" % (self.number, *("%s:%d" % end for end in self.ends))
+        if all(said.start is None for said in self.said.values()):
+            return names + "  no BitTorrent handshake: encrypted, another protocol, or begun before the capture\n", False, False
+        (a, bad_a), (b, bad_b) = self.direction(*self.ends), self.direction(*self.ends[::-1])
+        close = "  still open at the capture's end\n"
+        if self.closed:
+            end, means, nanos = self.closed
+            micros = max(0, nanos - start) // 1000
+            close = "  %s closed first, by %s, at %d.%06d s\n" % ("AB"[self.ends.index(end)], means, *divmod(micros, 10 ** 6))
+        return names + "\n" + a + b + close, True, bad_a or bad_b
+
+
+def reports(packets):
+    """What `capture` writes, and its exit status."""
+    current, done, begun = {}, [], 0
+    start = packets[0].nanos if packets else 0
+    for it in packets:
+        key = frozenset(it.ends)
+        old = current.get(key)
+        if old and (old.over is not None and it.nanos - old.over >= QUIET or old.opens_again(it)):
+            done.append(current.pop(key))
+        if key not in current:
+            current[key] = Connection(begun, it)
+            begun += 1
+        current[key].take(it)
+    done += sorted(current.values(), key=lambda it: it.number)
+    told = [it.report(start) for it in done if it.has_bytes]
+    status = 3 if not any(it[1] for it in told) else int(any(it[2] for it in told))
+    return "".join(it[0] for it in told), status
+
+
+# ---- random captures
+
+class Segment(WRITER.Packet):
+    """A segment, with its ends, of which a front of the payload was captured."""
+
+    def __init__(self, ends, flags, sequence, acked, payload=b"", nanos=0, captured=None):
+        super().__init__(None, flags, sequence, acked, payload, nanos)
+        self.ends, self.nanos, self.captured = ends, nanos, payload if captured is None else payload[:captured]
+
+
+def message(*parts):
+    body = b"".join(parts)
+    return struct.pack(">I", len(body)) + body
+
+
+def any_message(rng):
+    """A message after the first ones, and where its block begins."""
+    index = struct.pack(">I", rng.randrange(9))
+    kind = rng.random()
+    if kind < 0.3:
+        return message(b"\x07", index, bytes(4), rng.randbytes(rng.choice((0, 1, 40, 900, 3000)))), 13
+    if kind < 0.97:
+        return rng.choice((message(), message(b"\1"), message(b"\2"), message(b"\4", index), message(b"\6", index, bytes(8)),
+                           message(b"\x09\x1a\xe1"), message(b"\x14\x7f", b"any"))), None
+    return rng.choice((message(b"\4", bytes(3)), b"\0\4\0\1\7", message(b"\x15", b"new"), message(b"\5\xff"), message(b"\x0e"))), None
+
+
+def stream_of(rng):
+    """What a side sends, and the offsets at which another byte changes no message."""
+    if rng.random() < 0.08:
+        return b"GET / HTTP/1.1\r\n\r\n" + bytes(rng.choice((0, 3000))), set()
+    stream = rng.randbytes(rng.choice((100, 608, 2048, 2049))) if rng.random() < 0.1 else b""
+    free = set(range(len(stream)))
+    reserved = rng.choice((EXT | 5, EXT | 4, EXT | 4, EXT | 1, 5, 0))
+    stream += HELLO + struct.pack(">Q", reserved) + bytes(20) + b"-XX%04d-000000000000" % rng.randrange(10 ** 4)
+    parts = []
+    if reserved & FAST and rng.random() < 0.9:
+        parts.append(rng.choice((message(b"\x0f"), message(b"\x0e"), message(b"\5\xf0"))))
+    if reserved & EXT and rng.random() < 0.9:
+        ids = b"".join((b"11:lt_donthavei7e" * rng.randrange(2), b"11:ut_metadatai%de" % rng.randrange(1, 9)))
+        parts.insert(rng.randrange(len(parts) + 1), message(b"\x14\0d1:md", ids, b"e", b"1:v5:Seven" * rng.randrange(2), b"e"))
+    stream += b"".join(parts)
+    for _ in range(rng.choice((0, 2, 6, 15))):
+        part, block = any_message(rng)
+        if block is not None:
+            free |= set(range(len(stream) + block, len(stream) + len(part)))
+        stream += part
+    return stream[:len(stream) - (rng.random() < 0.2) * rng.randrange(4)], free
+
+
+def changed(rng, payload, offset, free):
+    """The payload with other bytes, where these change no message."""
+    return bytes(byte ^ 1 if offset + k in free and rng.random() < 0.5 else byte for k, byte in enumerate(payload))
+
+
+def talk(rng, ends, first):
+    """The segments of a connection with these first sequence numbers, in the order in which they were sent."""
+    sides = [ends, ends[::-1]]
+    streams = [stream_of(rng) for _ in sides]
+    done, size = [0, 0], rng.choice((30, 536, 1460))
+    found = [Segment(ends, SYN, first[0], 0), Segment(ends[::-1], SYN | ACK, first[1], first[0] + 1),
+             Segment(ends, ACK, first[0] + 1, first[1] + 1)]
+    while any(done[k] < len(streams[k][0]) for k in (0, 1)):
+        k = rng.randrange(2)
+        stream, free = streams[k]
+        at, end = done[k], min(len(stream), done[k] + rng.randint(1, size))
+        if at and rng.random() < 0.1:  # again, also over what came before
+            at = rng.randrange(at)
+            end = min(end, at + rng.randint(1, 2 * size))
+        payload = stream[at:end]
+        if rng.random() < 0.1:
+            payload = changed(rng, payload, at, free)
+        done[k] = max(done[k], end)
+        acked = first[1 - k] + 1 + done[1 - k]
+        captured = rng.randrange(len(payload) + 1) if rng.random() < 0.02 else None
+        found.append(Segment(sides[k], ACK, first[k] + 1 + at, acked, payload, captured=captured))
+    for k in rng.choice(((), (0, 1), (1, 0), (0,))):
+        found.append(Segment(sides[k], FIN | ACK, first[k] + 1 + done[k], first[1 - k] + 1 + done[1 - k]))
+        done[k] += 1
+        found.append(Segment(sides[1 - k], ACK, first[1 - k] + 1 + done[1 - k], first[k] + 1 + done[k]))
+    if rng.random() < 0.1:
+        found.append(Segment(ends, RST, first[0] + 1 + done[0], 0))
+    return found
+
+
+def captured(rng, found, keep):
+    """The segments as they were captured: some are lost, some swapped, some there twice."""
+    loss, swaps, twice = (rng.choice((0, 0, 0.02, 0.1)) for _ in range(3))
+    found = [it for it in found if it in keep or rng.random() >= loss]
+    for k in range(len(found) - 1):
+        if rng.random() < swaps and found[k + 1] not in keep and found[k] not in keep:
+            found[k], found[k + 1] = found[k + 1], found[k]
+    for k in range(len(found)):
+        if rng.random() < twice:
+            found.insert(rng.randint(k, len(found)), found[k])
+    return found
+
+
+def capture_of(rng):
+    """The packets of a random capture."""
+    lanes = []
+    for lane in range(rng.choice((1, 1, 1, 2, 3))):
+        ends, found = (("10.0.0.%d" % rng.randint(1, 9), 6881 + lane), ("10.0.1.1", 51413)), []
+        first = [rng.choice((7, 2 ** 32 - 1, 2 ** 32 - 900, 2 ** 31 + 5, rng.randrange(2 ** 32))) for _ in ends]
+        for turn in range(rng.choice((1, 1, 1, 2, 3))):
+            part = talk(rng, ends, [number + 64_000 * turn for number in first])
+            found += captured(rng, part, part[:1] if turn else [])
+        lanes.append(found)
+    packets, nanos = [], 1_000_000_000_000
+    while any(lanes):
+        it = rng.choice([lane for lane in lanes if lane]).pop(0)
+        nanos += 1000 * rng.choice((0, 20, 50_000, 50_000, 4_100_000 if rng.random() < 0.05 else 1))
+        packets.append(Segment(it.ends, it.flags, it.sequence, it.acked, it.payload, nanos, len(it.captured)))
+    return packets
+
+
+def files_of(rng, packets, form=None):
+    """The file of a capture, and how many of its bytes each front of the packets takes."""
+    link, frame = WRITER.FRAMES[rng.choice(("ethernet", "vlan", "two tags", "cooked", "cooked 2", "raw"))]
+    order, nano, ng = form or (rng.choice("<>"), rng.random() < 0.5, rng.random() < 0.5)
+    unit = 1 if nano else 1000
+    file = WRITER.pcapng((link, []), order, nano) if ng else WRITER.pcap((link, []), order, nano)
+    sizes = [len(file)]
+    for it in packets:
+        whole = frame(WRITER.ipv4(it, it.ends), b"\x08\x00")
+        kept = whole[:len(whole) - len(it.payload) + len(it.captured)]
+        if ng:
+            ticks = it.nanos // unit
+            file += WRITER.block(order, 6, struct.pack(order + "5I", 1, ticks >> 32, ticks & 0xFFFFFFFF, len(kept), len(whole)) + kept)
+        else:
+            file += struct.pack(order + "4I", it.nanos // 10 ** 9, it.nanos % 10 ** 9 // unit, len(kept), len(whole)) + kept
+        sizes.append(len(file))
+    return file, sizes
+
+
+def short_talk():
+    """A few packets of a connection."""
+    left, right = WRITER.handshakes(reserved="0000000000000000")
+    found = WRITER.Talk().say("A", left).say("B", right + message(b"\2")).close("A").packets
+    ends = ("10.0.0.1", 6881), ("10.0.1.1", 51413)
+    return [Segment(ends if it.side == "A" else ends[::-1], it.flags, it.sequence, it.acked, it.payload, 10 ** 12 + it.at * 10 ** 6)
+            for it in found]
+
+
+def rows():
+    """Name, file, output and status."""
+    for seed in range(FILES):
+        rng = random.Random(seed)
+        packets = capture_of(rng)
+        yield ("seed %d" % seed, files_of(rng, packets)[0], *reports(packets))
+    packets = short_talk()
+    wanted = [reports(packets[:n]) for n in range(len(packets) + 1)]
+    for form in (("<", False, False), (">", True, True)):
+        file, sizes = files_of(random.Random(1), packets, form)
+        for cut in range(len(file) + 1):
+            whole = sum(size <= cut for size in sizes[1:])
+            yield ("%r cut after %d bytes" % (form, cut), file[:cut], *wanted[whole])
+
+
+def main():
+    program = sys.argv[1] if len(sys.argv) > 1 else os.path.join(ROOT, "bt_tool")
+    tried = failed = 0
+    for name, file, out, status in rows():
+        done = subprocess.run([program, "capture", "-"], input=file, capture_output=True, timeout=100)
+        tried += 1
+        if (done.stdout.decode(), done.returncode) != (out, status):
+            failed += 1
+            print("captures: %s: got %d\n%s\nexpected %d\n%s" % (name, done.returncode, done.stdout.decode(), status, out))
+    print("captures: %d of %d as expected" % (tried - failed, tried))
+    return int(failed > 0 or tried == 0)
+
+
+if __name__ == "__main__":
+    sys.exit(main())
