@@ -1,5 +1,6 @@
 //! What a capture tells of a direction beside its bytes. All values are by hand.
 use bt_tcp::{Gap, Gaps, Half, PlaceFault, Put, Ring, Span, Spans, TableFull, history};
+use std::alloc::AllocError;
 
 /// The place of the first number.
 const FIRST: u64 = 0x100_0000_0000;
@@ -66,8 +67,8 @@ fn acknowledges_lost_bytes(rt: HostRuntime) {
 
 /// Of eight bytes two differ from those that were handed out, and one from those ahead, also in a larger ring.
 #[test]
-fn compares_and_moves(rt: HostRuntime) {
-    let mut memory = [0u8; 16384];
+fn compares_and_moves(rt: HostRuntime) -> Result<(), AllocError> {
+    let mut memory = Vec::new(rt.alloc());
     let mut known = [false; 4];
     let mut bytes = [0u8; 4];
     let mut ring = Ring::new(1000, &mut known, &bytes);
@@ -75,7 +76,7 @@ fn compares_and_moves(rt: HostRuntime) {
         ring.put(&mut known, &mut bytes, 1000, b"abc"),
         Put::Taken { from: 0, len: 3 }
     );
-    history::remember(&mut memory, 1000, b"abc");
+    history::remember(&mut memory, 0, b"abc")?;
     assert_eq!(rt;
         ring.put(&mut known, &mut bytes, 1005, b"fg"),
         Put::Taken { from: 0, len: 0 }
@@ -101,6 +102,7 @@ fn compares_and_moves(rt: HostRuntime) {
         Put::Taken { from: 0, len: 2 }
     );
     assert_eq!(rt; more.ready(&mut more_known, &more_bytes), b"fg".as_slice());
+    Ok(())
 }
 
 /// Spans that touch, overlap or stand alone, and the gaps that they leave.

@@ -32,7 +32,7 @@ conflicts_past base out at (b ∷ bytes) h =
 pub advance : (at : ℕ) (bytes : List ℕ) (s : Stream) (given : List ℕ) (s' : Stream) (given' part : List ℕ) → s'.base ≡ s.base
     → s'.conflicts ≡ s.conflicts → s.is_lost ≡ false → s'.is_lost ≡ false
     → (t : TakesIn at bytes (next_of s.window) (seen s.window) given (next_of s'.window) (seen s'.window) given') → part ≡ t.more
-    → ((base : ℕ) (out : List ℕ) → next_of s.window ≡ base + length out → IsHistory s.history.items base out → IsHistory s'.history.items base (out ++ part))
+    → ((out : List ℕ) → next_of s.window ≡ s.base + length out → IsHistory s.history.items out → IsHistory s'.history.items (out ++ part))
     → Advances at bytes s given s' given'
 advance at bytes s given s' given' part b c l l' t p h = record {
   more = t.more;
@@ -46,8 +46,7 @@ advance at bytes s given s' given' part b c l l' t p h = record {
       record {
         next_is = omega (arith, t.next_is, i.next_is, b, length-append out t.more);
         front = subst (λ x. IsFront (segs ++ one ∷ []) x (out ++ t.more)) (sym b) both.0.front;
-        history = subst (λ x. IsHistory s'.history.items x (out ++ t.more)) (sym b) (subst (λ x. IsHistory s'.history.items s.base (out ++ x)) p
-            (h s.base out i.next_is i.history));
+        history = subst (λ x. IsHistory s'.history.items (out ++ x)) p (h out i.next_is i.history);
         taken = λ _. subst (λ x. IsTaken (segs ++ one ∷ []) x (out ++ t.more) (next_of s'.window) (seen s'.window)) (sym b) both.0;
         stream = λ _. subst (λ x. IsStream (segs ++ one ∷ []) x (out ++ t.more)) (sym b) both.1;
       });
@@ -61,12 +60,11 @@ lost_one at bytes s s' b l n h segs out i =
     let one : Segment = record { place = at; bytes = bytes } in
     let e : out ≡ out ++ [] = sym (append-nil out) in
     let f : IsFront (segs ++ one ∷ []) s'.base out = subst (λ x. IsFront (segs ++ one ∷ []) x out) (sym b) (front_push segs one s.base out i.front) in
-    let m : IsHistory s'.history.items s'.base out = subst (λ x. IsHistory s'.history.items x out) (sym b) (subst (λ x. IsHistory x s.base out)
-    (sym h) i.history) in
+    let m : IsHistory s'.history.items out = subst (λ x. IsHistory x out) (sym h) i.history in
     record {
       next_is = n ∙ i.next_is ∙ ap (λ x. x + length out) (sym b) ∙ ap (λ x. s'.base + length x) e;
       front = subst (λ x. IsFront (segs ++ one ∷ []) s'.base x) e f;
-      history = subst (λ x. IsHistory s'.history.items s'.base x) e m;
+      history = subst (λ x. IsHistory s'.history.items x) e m;
       taken = λ x. absurd (let t : true ≡ false = sym l ∙ x in cc);
       stream = λ x. absurd (let t : true ≡ false = sym l ∙ x in cc);
     }

@@ -10,7 +10,7 @@ use Rattle.bt_flow.specs.Memory.{next_of, seen}
 pub record IsStreamOf (segs : List Segment) (out : List ℕ) (s : Stream) : Type 0 where
   pub next_is : next_of s.window ≡ s.base + length out
   pub front : IsFront segs s.base out
-  pub history : IsHistory s.history.items s.base out
+  pub history : IsHistory s.history.items out
   pub taken : s.is_lost ≡ false → IsTaken segs s.base out (next_of s.window) (seen s.window)
   pub stream : s.is_lost ≡ false → IsStream segs s.base out
 

@@ -6,19 +6,6 @@ use crate::window::Window;
 use bt_tcp::history;
 use std::alloc::{AllocError, Global};
 
-/// How many bytes are remembered.
-const HISTORY: usize = 16_384;
-
-/// Remembers bytes that were handed out.
-fn remember(memory: &mut Vec<u8>, next: u64, bytes: &[u8])
-    requires size { length memory.old.items ≡ 16384 }
-    requires end { next + length bytes.now < 2 ^ 64 }
-    ensures size { length memory.new.items ≡ 16384 }
-    ensures kept { (base : ℕ) → (out : List ℕ) → next ≡ base + length out → IsHistory memory.old.items base out → IsHistory memory.new.items base (out ++ bytes.now) }
-{
-    history::remember(memory, next, bytes);
-}
-
 /// A stream from its base on.
 #[derive(Drop)]
 pub struct Stream {
@@ -27,7 +14,6 @@ pub struct Stream {
     history: Vec<u8>,
     conflicts: u64,
     is_lost: bool,
-    ghost size: { length history.items ≡ 16384 },
 }
 
 impl Stream {
@@ -44,13 +30,11 @@ impl Stream {
         ensures conflicts { IfOk result (λ s. s.conflicts ≡ 0) }
         ensures open { IfOk result (λ s. s.is_lost ≡ false) }
     {
-        let mut history = Vec::new(alloc);
-        history.resize(HISTORY, 0)?;
         let window = Window::new(alloc, base)?;
         Ok(Stream {
             base,
             window,
-            history,
+            history: Vec::new(alloc),
             conflicts: 0,
             is_lost: false,
         })
@@ -94,7 +78,7 @@ impl Stream {
     /// Counts the bytes of a segment that differ from those that came first.
     fn count_conflicts(&self, at: u64, part: &[u8]) -> u64
         requires { at + length part.now < 2 ^ 63 }
-        ensures { (out : List ℕ) → next_of self.now.window ≡ self.now.base + length out → IsHistory self.now.history.items self.now.base out
+        ensures { (out : List ℕ) → next_of self.now.window ≡ self.now.base + length out → IsHistory self.now.history.items out
             → result ≡ min (2 ^ 64 - 1) (conflicts_with out self.now at part.now) }
     {
         let next = self.window.next();
@@ -116,7 +100,7 @@ impl Stream {
         if self.window.take(at, part, out)? {
             let count = (self.window.next() - next) as usize;
             let more = &out[out.len() - count..];
-            remember(&mut self.history, next, more);
+            history::remember(&mut self.history, next.saturating_sub(self.base), more)?;
         } else {
             self.window.close();
             self.is_lost = true;

@@ -12,8 +12,8 @@ newest xs given more x e h =
     let n : length xs - x ≡ length more = omega (arith, h) in
     grind (arith, common_steps)
 
-pub returns-then-branch : goal.returns-then-branch
-returns-then-branch c =
+pub returns-in_ok-remember : goal.returns-in_ok-remember
+returns-in_ok-remember c =
     let t = subst (λ b. Takes c.args.at c.args.part.now (next_of c.args.self.now.window) (seen c.args.self.now.window) c.args.out.now.items b
     (next_of c.take.new.self) (seen c.take.new.self) c.take.new.out.items)
     c.if-branch.true c.in_ok-take.ensures in
@@ -24,7 +24,7 @@ returns-then-branch c =
     refl refl c.requires.open c.requires.open t
     (newest c.deref.result.now c.args.out.now.items t.more (c.len.result - (c.next.result - c.next-next.result)) e
     (omega (arith, c.deref.ensures.value, c.len.ensures, c.next.ensures, c.next-next.ensures, t.next_is, k)))
-    (λ base out n h. c.remember.ensures.kept base out (c.next-next.ensures ∙ n) h)
+    (λ out n h. c.in_ok-remember.ensures out (omega (arith, c.next-next.ensures, n)) h)
 
 pub returns-else-branch : goal.returns-else-branch
 returns-else-branch c =
