@@ -11,9 +11,11 @@ use Rattle.bt_judge.specs.Readings.{IsStanding}
 use Rattle.bt_jobs.specs.Others.{reader_of_other}
 use Rattle.bt_intro.specs.declared.introduction.Introduction.{Introduction}
 use Rattle.bt_intro.specs.declared.voice.Voice.{Voice}
+use Rattle.bt_intro.specs.declared.voice.Reader.{Reader}
+use Rattle.bt_intro.specs.declared.voice.Reader.TheVariants.{Open, Settled}
 use Rattle.bt_intro.specs.Hellos.{IsFirstHello, HasNoHello, IsFirstFrom}
 use Rattle.bt_intro.specs.Listening.{IsHeard}
-use Rattle.bt_intro.specs.Hearing.{IsSaid, IsVoiceOf, IsVoiced, IsHeardOf}
+use Rattle.bt_intro.specs.Hearing.{IsSaid, IsReadBy, IsVoiceOf, IsVoiced, IsHeardOf}
 use Rattle.bt_intro.proofs.Searching.{whole, hello_fits, first_more, start_more}
 
 -- without a handshake nothing is said
@@ -26,12 +28,14 @@ pub record Told (b : List ℕ) (voice : Voice) : Type 0 where
   pub is : IsVerdict reader_of_other b now
   pub heard : IsHeard now.items voice.listener
 
+told_read : (b : List ℕ) (items : List (ℕ × Item)) (r : Reader) → IsReadBy b items r → (v : Outcome) × IsVerdict reader_of_other b v × (v.items ≡ items)
+told_read b items (Open reading) j = (j.now, j.is, j.items)
+told_read b items (Settled refused) j = (j.0, j.1, j.2)
+
 pub told_by : (b : List ℕ) (voice : Voice) → IsVoiceOf b voice → Told b voice
-told_by b voice h = record {
-  now = h.judged.now;
-  is = h.judged.is;
-  heard = subst (λ (xs : List (ℕ × Item)). IsHeard xs voice.listener) (sym h.judged.items) h.heard;
-}
+told_by b voice h =
+    let t = told_read b h.items voice.reader h.read in
+    record { now = t.0; is = t.1; heard = subst (λ (xs : List (ℕ × Item)). IsHeard xs voice.listener) (sym t.2) h.heard }
 
 pub voiced : (front : List ℕ) (i : Introduction) (v : Voice) → IsHeardOf front i → i.voice ≡ Some v → IsFirstHello front v.start
     × IsVoiceOf (drop v.start front) v
@@ -57,15 +61,18 @@ pub rest_is : (front old more new : List ℕ) (n : ℕ) → front ≡ old ++ mor
 rest_is front old more new n parts size is =
     is ∙ ap (λ (l : List ℕ). drop n l) parts ∙ ap (λ (k : ℕ). drop k (old ++ more)) size ∙ drop-append_seam old more
 
+-- the bytes from the handshake on, and those that follow
+pub from_start : (front more : List ℕ) (start : ℕ) → IsFirstHello front start → drop start (front ++ more) ≡ drop start front ++ more
+from_start front more start first =
+    let fits : start + 20 ≤ length front = hello_fits front start first.here in
+    drop-append-le start front more (omega arith)
+
 -- what was heard, and the bytes that follow
 pub voiced_more : (front more : List ℕ) (old new : Voice) → IsFirstHello front old.start → new.start ≡ old.start
     → IsVoiceOf (drop old.start front ++ more) new → IsVoiced (front ++ more) (Some new)
 voiced_more front more old new first same h =
-    let fits : old.start + 20 ≤ length front = hello_fits front old.start first.here in
-    let within : old.start ≤ length front = omega arith in
-    let parts : drop old.start (front ++ more) ≡ drop old.start front ++ more = drop-append-le old.start front more within in
     let P : ℕ → Type 0 = λ k. IsFirstHello (front ++ more) k × IsVoiceOf (drop k (front ++ more)) new in
-    subst P (sym same) (first_more front more old.start first, subst (λ (l : List ℕ). IsVoiceOf l new) (sym parts) h)
+    subst P (sym same) (first_more front more old.start first, subst (λ (l : List ℕ). IsVoiceOf l new) (sym (from_start front more old.start first)) h)
 
 -- a handshake is found in what is new
 pub voiced_first : (front old more : List ℕ) (i : Introduction) (low start : ℕ) (new : Voice) → IsHeardOf old i → i.voice ≡ None → front ≡ old ++ more

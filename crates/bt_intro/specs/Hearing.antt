@@ -1,11 +1,13 @@
 -- What the front of what one side sends says of that side.
-use Rattle.std.specs.Prelude.{◌≡◌, ◌≤◌, ◌⊎◌, ℕ, true, List, [], length, drop, Option, Some, None, IsSome}
+use Rattle.std.specs.Prelude.{◌≡◌, ◌≤◌, ◌⊎◌, ◌↔◌, ℕ, Bool, true, IsTrue, List, [], length, drop, Option, Some, None, IsSome}
 use Rattle.bt_wire.specs.declared.item.Item.{Item}
 use Rattle.bt_wire.specs.Streams.{Outcome, IsVerdict, awaiting}
 use Rattle.bt_judge.specs.Readings.{IsJudged}
 use Rattle.bt_jobs.specs.Others.{reader_of_other}
 use Rattle.bt_intro.specs.declared.introduction.Introduction.{Introduction}
 use Rattle.bt_intro.specs.declared.voice.Voice.{Voice}
+use Rattle.bt_intro.specs.declared.voice.Reader.{Reader}
+use Rattle.bt_intro.specs.declared.voice.Reader.TheVariants.{Open, Settled}
 use Rattle.bt_intro.specs.Hellos.{IsFirstHello, HasNoHello}
 use Rattle.bt_intro.specs.Listening.{IsHeard, has_extended}
 
@@ -19,11 +21,19 @@ HasSaidAll v = (has_extended v.items ≡ true) ⊎ (IsSome v.refusal ⊎ (1001 �
 
 -- ---- what was heard
 
--- these bytes were read by the reading, and heard by the listener
+-- These bytes were read, and have these items. What is settled knows only whether they are refused.
+abbrev pub IsReadBy : List ℕ → List (ℕ × Item) → Reader → Type 0
+IsReadBy b items (Open reading) = IsJudged reader_of_other b items reading
+IsReadBy b items (Settled refused) = (v : Outcome) × IsVerdict reader_of_other b v × (v.items ≡ items) × (IsTrue refused ↔ IsSome v.refusal)
+
+-- they were heard by the listener
 pub record IsVoiceOf (b : List ℕ) (voice : Voice) : Type 0 where
   pub items : List (ℕ × Item)
-  pub judged : IsJudged reader_of_other b items voice.reading
+  pub read : IsReadBy b items voice.reader
   pub heard : IsHeard items voice.listener
+
+abbrev pub HasNoReader : Voice → Type 0
+HasNoReader voice = (refused : Bool) × (voice.reader ≡ Settled refused)
 
 abbrev pub IsVoiced : List ℕ → Option Voice → Type 0
 IsVoiced front None = HasNoHello front
@@ -33,3 +43,11 @@ IsVoiced front (Some voice) = IsFirstHello front voice.start × IsVoiceOf (drop 
 pub record IsHeardOf (front : List ℕ) (intro : Introduction) : Type 0 where
   pub all : intro.heard ≡ length front
   pub voiced : IsVoiced front intro.voice
+
+-- Without a reader it holds no memory.
+abbrev pub IsSettled : Option Voice → Type 0
+IsSettled None = Unit {0}
+IsSettled (Some voice) = HasNoReader voice
+
+abbrev pub HasNoMemory : Introduction → Type 0
+HasNoMemory intro = IsSettled intro.voice

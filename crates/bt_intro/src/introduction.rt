@@ -25,7 +25,7 @@ pub struct Introduction {
 impl Introduction {
     ghost use Rattle.bt_intro.specs.Hellos.{IsStartOf, IsOfStranger};
     ghost use Rattle.bt_intro.specs.Listening.{handshake_of, last_client};
-    ghost use Rattle.bt_intro.specs.Hearing.{IsHeardOf, IsSaid, HasSaidAll};
+    ghost use Rattle.bt_intro.specs.Hearing.{IsHeardOf, IsSaid, HasSaidAll, HasNoMemory};
 
     /// Makes the introduction of a side of which no byte has come.
     pub fn new() -> Introduction
@@ -52,14 +52,24 @@ impl Introduction {
             return Ok(());
         };
         if let Some(voice) = &mut self.voice {
-            voice.hear(new);
+            voice.hear(alloc, front, new)?;
         } else if let Some(start) = find_hello(front, self.heard.saturating_sub(OVERLAP)) {
-            let mut voice = Voice::new(alloc, start)?;
-            voice.hear(&front[start..]);
-            self.voice = Some(voice);
+            self.voice = Some(Voice::of(alloc, start, &front[start..])?);
         }
         self.heard = front.len();
         Ok(())
+    }
+
+    /// Gives the reader's memory back, once nothing more of the side's bytes is to be heard. What it announced stays.
+    ///
+    /// `hear` may still be called: then it reads all of the side's bytes again.
+    pub fn settle(&mut self)
+        ensures same { (front : List ℕ) → IsHeardOf front self.old → IsHeardOf front self.new }
+        ensures free { HasNoMemory self.new }
+    {
+        if let Some(voice) = &mut self.voice {
+            voice.settle();
+        }
     }
 
     /// Returns the place in the side's bytes at which its handshake starts.

@@ -1,13 +1,14 @@
-use Rattle.std.proofs.Common.{◌≡◌, ◌∙◌, ℕ, List, ◌++◌, [], Some, Option, drop, refl, sym, subst}
+use Rattle.std.proofs.Common.{◌≡◌, ◌∙◌, ℕ, List, ◌++◌, Some, Option, drop, refl, sym, ap, subst}
 use Rattle.bt_intro.specs.declared.introduction.Introduction.{Introduction}
 use Rattle.bt_intro.specs.declared.voice.Voice.{Voice}
 use Rattle.bt_intro.specs.Hearing.{IsVoiced, IsVoiceOf}
 use Rattle.bt_intro.proofs.Searching.{whole}
-use Rattle.bt_intro.proofs.Hearing.{voiced, voiced_more, voiced_first, unvoiced, rest_is}
+use Rattle.bt_intro.proofs.Hearing.{voiced, voiced_more, voiced_first, unvoiced, rest_is, from_start}
 use Rattle.bt_intro.proofs.introduction.Introduction.hear.Goals as goal
-use Rattle.bt_intro.proofs.introduction.Introduction.hear.Goals.{in-Some-voice, in_default-voice+in_default-find_hello}
-use Rattle.bt_intro.proofs.introduction.Introduction.hear.Goals.{in_default-voice+in-Some-find_hello+in_ok-voice+in-Some-1}
-use Rattle.bt_intro.proofs.introduction.Introduction.hear.Goals.{in_default-voice+in-Some-find_hello+in_ok-voice+in-None-1}
+use Rattle.bt_intro.proofs.introduction.Introduction.hear.Goals.{in-Some-voice+in_ok-hear, in_default-voice+in_default-find_hello}
+use Rattle.bt_intro.proofs.introduction.Introduction.hear.Goals.{in_default-voice+in-Some-find_hello+in_ok-of+in-Some+in-Open-1}
+use Rattle.bt_intro.proofs.introduction.Introduction.hear.Goals.{in_default-voice+in-Some-find_hello+in_ok-of+in-Some+in-Settled-1}
+use Rattle.bt_intro.proofs.introduction.Introduction.hear.Goals.{in_default-voice+in-Some-find_hello+in_ok-of+in-None-1}
 
 by_voice : (front : List ℕ) (i : Introduction) (o : Option Voice) (j : Introduction) → j ≡ record { heard = i.heard; voice = o }
     → IsVoiced front o → IsVoiced front j.voice
@@ -21,26 +22,31 @@ returns-clause-ok c = λ old more h parts.
     record {
       all = refl;
       voiced = elim c.match-self.branch [
-        | in-Some-voice w ↦
+        | in-Some-voice+in_ok-hear w ↦
             let v = voiced old i w.in-Some-voice.voice h w.in-Some-voice.is in
+            let start = w.in-Some-voice.voice.start in
             let rest : c.in-Some.new.now ≡ more = rest_is front old more c.in-Some.new.now i.heard parts h.all (lookup.0.2 ∙ whole front i.heard lookup.0.0) in
-            let first : List ℕ = drop w.in-Some-voice.voice.start old in
-            let more_heard : IsVoiceOf (first ++ more) w.hear.new.self =
-            subst (λ (l : List ℕ). IsVoiceOf (first ++ l) w.hear.new.self) rest (w.hear.ensures.heard first v.1) in
+            let from : drop start front ≡ drop start old ++ c.in-Some.new.now = ap (drop start) parts ∙ from_start old more start v.0
+            ∙ ap (λ l. drop start old ++ l) (sym rest) in
+            let more_heard : IsVoiceOf (drop start old ++ more) w.hear.new.self =
+            subst (λ (l : List ℕ). IsVoiceOf (drop start old ++ l) w.hear.new.self) rest (w.in_ok-hear.ensures.heard (drop start old) v.1 from) in
             by_voice front i (Some w.hear.new.self) c.match-self.self w.self-is (subst (λ (l : List ℕ). IsVoiced l (Some w.hear.new.self)) (sym parts)
-            (voiced_more old more w.in-Some-voice.voice w.hear.new.self v.0 w.hear.ensures.start more_heard))
-        | in_default-voice+in-Some-find_hello+in_ok-voice+in-Some-1 w ↦
-            let made = w.in_ok-voice.ensures in
-            let new : Voice = w.hear-in-Some-find_hello.new.self in
-            by_voice front i (Some new) c.match-self.self w.self-is
-            (voiced_first front old more i w.saturating_sub.result w.in-Some-find_hello.start new h w.in_default-voice.is parts w.saturating_sub.ensures
-            w.in-Some-find_hello.ensures (w.hear-in-Some-find_hello.ensures.start ∙ made.1) (w.hear-in-Some-find_hello.ensures.heard [] made.0))
-        | in_default-voice+in-Some-find_hello+in_ok-voice+in-None-1 w ↦
-            let made = w.in_ok-voice.ensures in
-            let new : Voice = w.hear-in-Some-find_hello.new.self in
-            by_voice front i (Some new) c.match-self.self w.self-is
-            (voiced_first front old more i w.saturating_sub.result w.in-Some-find_hello.start new h w.in_default-voice.is parts w.saturating_sub.ensures
-            w.in-Some-find_hello.ensures (w.hear-in-Some-find_hello.ensures.start ∙ made.1) (w.hear-in-Some-find_hello.ensures.heard [] made.0))
+            (voiced_more old more w.in-Some-voice.voice w.hear.new.self v.0 w.in_ok-hear.ensures.start more_heard))
+        | in_default-voice+in-Some-find_hello+in_ok-of+in-Some+in-Open-1 w ↦
+            let made = w.in_ok-of.ensures in
+            by_voice front i (Some w.in_ok-of.field-0) c.match-self.self w.self-is
+            (voiced_first front old more i w.saturating_sub.result w.in-Some-find_hello.start w.in_ok-of.field-0 h w.in_default-voice.is parts
+            w.saturating_sub.ensures w.in-Some-find_hello.ensures made.1 made.0)
+        | in_default-voice+in-Some-find_hello+in_ok-of+in-Some+in-Settled-1 w ↦
+            let made = w.in_ok-of.ensures in
+            by_voice front i (Some w.in_ok-of.field-0) c.match-self.self w.self-is
+            (voiced_first front old more i w.saturating_sub.result w.in-Some-find_hello.start w.in_ok-of.field-0 h w.in_default-voice.is parts
+            w.saturating_sub.ensures w.in-Some-find_hello.ensures made.1 made.0)
+        | in_default-voice+in-Some-find_hello+in_ok-of+in-None-1 w ↦
+            let made = w.in_ok-of.ensures in
+            by_voice front i (Some w.in_ok-of.field-0) c.match-self.self w.self-is
+            (voiced_first front old more i w.saturating_sub.result w.in-Some-find_hello.start w.in_ok-of.field-0 h w.in_default-voice.is parts
+            w.saturating_sub.ensures w.in-Some-find_hello.ensures made.1 made.0)
         | in_default-voice+in_default-find_hello w ↦
             by_voice front i i.voice c.match-self.self w.self-is (subst (λ (o : Option Voice). IsVoiced front o) (sym w.in_default-voice.is)
             (unvoiced front old more i w.saturating_sub.result h w.in_default-voice.is parts w.saturating_sub.ensures w.in_default-find_hello.ensures))
