@@ -106,6 +106,19 @@ fn advanced(known: &[bool], head: usize, count: usize) -> usize
     }
 }
 
+/// Copies cells to the front of larger memory, from the head on and then those before it.
+fn unroll<T: Copy>(cells: &[T], head: usize, to: &mut [T])
+    requires head { head < length cells.now }
+    requires room { length cells.now ≤ length to.old }
+    ensures copied { (k : ℕ) → k < length cells.now → slice_get to.new k ≡ slice_get cells.now (slot_of (length cells.now) head k) }
+    ensures rest { (k : ℕ) → length cells.now ≤ k → slice_get to.new k ≡ slice_get to.old k }
+{
+    let (front, back) = cells.split_at(head);
+    let (first, rest) = to.split_at_mut(back.len());
+    first.copy_from_slice(back);
+    rest[..head].copy_from_slice(front);
+}
+
 /// Copies a ring to the front of larger memory that has no byte.
 fn copy(known: &[bool], bytes: &[u8], head: usize, to_known: &mut [bool], to_bytes: &mut [u8])
     requires ring { IsRing known.now bytes.now head }
@@ -114,12 +127,8 @@ fn copy(known: &[bool], bytes: &[u8], head: usize, to_known: &mut [bool], to_byt
     requires unknown { (k : ℕ) → slice_index_or to_known.old k false ≡ false }
     ensures { (k : ℕ) → ring to_known.new to_bytes.new 0 k ≡ ring known.now bytes.now head k }
 {
-    let capacity = known.len();
-    for k in 0..capacity {
-        let i = slot(capacity, head, k);
-        to_known[k] = known[i];
-        to_bytes[k] = bytes[i];
-    }
+    unroll(known, head, to_known);
+    unroll(bytes, head, to_bytes);
 }
 
 /// One direction's place in its stream.
@@ -262,13 +271,13 @@ impl Ring {
 
     /// Counts the bytes of a segment that differ from those ahead, which came first.
     ///
-    /// While nothing is ahead, it looks at none.
+    /// It looks at none if nothing is ahead at its place or after it.
     pub fn count_conflicts_ahead(&self, known: &[bool], bytes: &[u8], at: u64, part: &[u8]) -> usize
         requires sound { IsSound self.now known.now bytes.now }
         requires end { at + length part.now < 2 ^ 64 }
         ensures { result ≡ conflicts (held self.now.next (ahead self.now known.now bytes.now)) at part.now }
     {
-        if self.next >= self.end {
+        if at.max(self.next) >= self.end {
             return 0;
         }
         let mut count = 0usize;
