@@ -118,7 +118,7 @@ impl Half {
 
     /// Returns the place after the SYN, if its number is known.
     ///
-    /// Otherwise the stream begins at the least place that was captured.
+    /// Otherwise the stream begins with its first captured byte.
     pub fn base(&self) -> Option<u64>
         ensures { (heard : List Heard) → IsHalf heard self.now → IsBase heard result }
     {
