@@ -4,7 +4,7 @@ use Rattle.bt_talk.proofs.direction.Direction.hear.Goals as goal
 
 pub returns-clause-heard : goal.returns-clause-heard
 returns-clause-heard c = λ pieces p other d.
-    let f = c.hear.ensures p.heard p.segs p.out d.flow in (
+    let f = c.hear.ensures.heard p.heard p.segs p.out d.flow in (
       f.0,
       record {
         flow = f.1;
