@@ -18,6 +18,8 @@ pub struct Hearing<A: Allocator = Global> {
     buffer: Vec<u8, A>,
     at: usize,
     filled: usize,
+    /// How many bytes waited to be sent after the last item, if it was a block; else 0.
+    requests: usize,
 }
 
 impl<A: Allocator> Model for Hearing<A> {
@@ -46,6 +48,7 @@ impl<A: Allocator> Hearing<A> {
             buffer,
             at: 0,
             filled: 0,
+            requests: 0,
         })
     }
 
@@ -62,6 +65,22 @@ impl<A: Allocator> Hearing<A> {
         ensures { self.new ≡ drop n self.old }
     {
         self.at += n;
+    }
+
+    /// Drops the first n of them, which were given to the end, and keeps how many bytes of requests wait to be sent since.
+    pub(crate) fn pass_item(&mut self, n: usize, requests: usize)
+        requires { n ≤ length self.old }
+        ensures { self.new ≡ drop n self.old }
+    {
+        self.requests = requests;
+        self.pass(n);
+    }
+
+    /// Returns whether what waits to be sent, so many bytes, is to wait until these were given to the end.
+    ///
+    /// The requests after a block do, so that those after all blocks that were read together go out in one write.
+    pub(crate) fn holds_back(&self, waiting: usize) -> bool {
+        waiting == self.requests && self.at < self.filled
     }
 
     /// Drops all of them.

@@ -11,7 +11,7 @@ ghost use Rattle.bt_exchange.specs.Watches.{IsJudged, IsRounded, IsVerdict, is_o
 use crate::connection::Connection;
 use crate::hearing::Hearing;
 use crate::watch::Watch;
-use bt_end::{End, Event, TurnError};
+use bt_end::{End, Event, HIGH_WATER, TurnError};
 use bt_io::Failed;
 use bt_wire::Refusal;
 use std::alloc::Allocator;
@@ -170,6 +170,17 @@ fn send<C: Connection, A: Allocator + Copy>(
     write_step(end, wrote)
 }
 
+/// Returns how many bytes wait to be sent after a block, all of them requests; 0 after anything else.
+fn requests_after<A: Allocator + Copy>(
+    turned: Result<Option<Event>, TurnError>,
+    end: &End<A>,
+) -> usize {
+    match turned {
+        Ok(Some(Event::Block(_))) => end.outgoing().len(),
+        _ => 0,
+    }
+}
+
 /// Gives the end bytes, up to the end of an item, and handles it if it is whole.
 fn take_turn<A: Allocator + Copy>(end: &mut End<A>, hearing: &mut Hearing<A>) -> Result<Step, Stop>
     requires feed { IsFeed end.old.feed }
@@ -181,8 +192,9 @@ fn take_turn<A: Allocator + Copy>(end: &mut End<A>, hearing: &mut Hearing<A>) ->
         (record { seen = seen; pending = hearing.new; half = end.new }) result }
 {
     let n = end.receive(hearing.bytes());
-    hearing.pass(n);
-    turn_step(next_event(end))
+    let turned = next_event(end);
+    hearing.pass_item(n, requests_after(turned, end));
+    turn_step(turned)
 }
 
 /// Whether, and why, a fetch is over.
@@ -235,6 +247,14 @@ fn judge<A: Allocator + Copy>(step: Step, end: &End<A>) -> Result<Option<Event>,
     }
 }
 
+/// Returns whether what waits to be sent goes out before what was read goes to the end.
+fn sends_first<A: Allocator + Copy>(end: &End<A>, hearing: &Hearing<A>) -> bool
+    ensures { result ≡ false → length end.now.outbox < high_water }
+{
+    let waiting = end.outgoing().len();
+    waiting >= HIGH_WATER || !hearing.holds_back(waiting)
+}
+
 /// Makes a step, and keeps watch. Returns the event if it is news.
 fn round<C: Connection, A: Allocator + Copy>(
     connection: &mut C,
@@ -248,7 +268,8 @@ fn round<C: Connection, A: Allocator + Copy>(
         (record { seen = C.seen connection.new; pending = hearing.new; half = end.new }) result }
     ensures done { is_over result ≡ is_some (metadata_of end.new.end.part) }
 {
-    let step = advance(connection, end, hearing, true)?;
+    let may_send = sends_first(end, hearing);
+    let step = advance(connection, end, hearing, may_send)?;
     if let Some(event) = judge(step, end)? {
         return Ok(Some(event));
     }
@@ -263,7 +284,7 @@ fn round<C: Connection, A: Allocator + Copy>(
 ///
 /// News is each item that does something for the fetch: the peer's handshake, an extended handshake, and a block that was asked
 /// for, which came or was rejected. At most `steps` steps are made, each of which writes once, reads once or handles an item;
-/// `steps` is then the number of those that are left.
+/// `steps` is then the number of those that are left. After a block, requests are sent once all that was read with it is handled.
 ///
 /// # Errors
 /// `Done` if the metadata is there, `Hopeless` or `Mismatch` if no more of it can come, `Unasked` if a block of a piece came, `Silent` if
