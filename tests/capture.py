@@ -5,9 +5,11 @@ usage: tests/capture.py [PROGRAM]
 
 PROGRAM is the built bt_tool, or else the script at the top of the repository. The expected reports are those that tests/btcap.py
 states, without the lines that only btcap has: remarks, what a side had sent when the other closed, sentences on reasons, and uTP.
+The sentences on reasons that bt_told defines have the words of tools/reasons.json.
 """
 import importlib.machinery
 import importlib.util
+import json
 import os
 import re
 import subprocess
@@ -41,9 +43,34 @@ def fault_of(words):
     return words if b"BitTorrent" in words or b"inside a packet" in words else words and b"fault: capture: "
 
 
+def read(*names):
+    with open(os.path.join(ROOT, *names), encoding="utf8") as file:
+        return file.read()
+
+
+def words_of(reason, text):
+    """The words between the numbers of each sentence that bt_told's definitions have for a reason."""
+    clause = re.search(r"^reason_sentence reasons\.%s .*?^(?=\S)" % reason, text, re.M | re.S)
+    name = re.search(r"\w+_sentence\b(?! reasons)", clause.group())
+    found = re.search(r"^abbrev pub %s .*?^$" % name.group(), text, re.M | re.S) if name else clause
+    return sorted(json.loads(words) for words in re.findall(r'codes ("(?:[^"\\]|\\.)*")', found.group()))
+
+
+def other_words():
+    """The reasons whose sentences have other words in bt_told's definitions than in tools/reasons.json."""
+    text = read("crates", "bt_told", "specs", "Whys.antt")
+    for reason, row in json.loads(read("tools", "reasons.json")).items():
+        said = (words for key, words in row.items() if key.startswith("words"))
+        if sorted(part for words in said for part in re.split(r"\{\w+\}", words) if part) != words_of(reason, text):
+            yield reason
+
+
 def main():
     program = sys.argv[1] if len(sys.argv) > 1 else os.path.join(ROOT, "bt_tool")
-    tried = failed = 0
+    tried, failed = 1, 0
+    for reason in other_words():
+        failed = 1
+        print("capture: %s has other words in bt_told than in tools/reasons.json" % reason)
     with tempfile.TemporaryDirectory() as folder:
         path = os.path.join(folder, "capture")
         for name, words, capture, out, errors, status in module_of("btcap").rows():
@@ -61,7 +88,7 @@ def main():
                     failed += 1
                     print("capture: %s, from %s: got\n%s\nexpected\n%s\nstandard error: %s" % (name, given[0][-7:], found, wanted, done.stderr))
     print("capture: %d of %d as expected" % (tried - failed, tried))
-    return int(failed > 0 or tried == 0)
+    return int(failed > 0 or tried == 1)
 
 
 if __name__ == "__main__":

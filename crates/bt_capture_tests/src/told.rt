@@ -6,8 +6,8 @@ use bt_remarks::{Remarks, Side};
 use bt_tcp::{Gap, Gaps};
 use bt_text::ended::Ended;
 use bt_told::{
-    Before, Body, Closed, Deed, Direction, Finding, Judged, Last, Means, Noted, Numbers, Remarked,
-    Report, Row, Said, Sender, Title, Told, UtpPackets, Words, put_report, put_row, put_utp,
+    Before, Body, Closed, Deed, Direction, Finding, Judged, Last, Means, Noted, Numbers,
+    RefusedMessage, Remarked, Report, Row, Said, Sender, Title, Told, UtpPackets, Words, put_report, put_row, put_utp,
 };
 use bt_wire::{Handshake, MessageView, Own, Reason, Refusal, Reserved};
 use std::test::Fail;
@@ -63,6 +63,8 @@ fn known(title: Title, ended: Ended, receiver: Own) -> Direction {
             title,
             free: ended,
             bep: ended,
+            free_message: None,
+            bep_message: None,
             receiver,
             is_guessed: false,
         }),
@@ -275,6 +277,8 @@ fn guessed(rt: HostRuntime) -> Result<(), Fail> {
             title: Title::of_client(b"libtorrent/2.0.8.0"),
             free: accepted(6, 25889),
             bep: accepted(6, 25889),
+            free_message: None,
+            bep_message: None,
             receiver: own(0x100005, 0, 0, None),
             is_guessed: true,
         }),
@@ -443,6 +447,135 @@ fn refused_and_limited(rt: HostRuntime) -> Result<(), Fail> {
   B closed first, by FIN, at 1.009000 s
     A had sent 87 bytes, last: refused message=2 at=78 BadIndex
     B had sent 0 bytes, last: nothing
+";
+    assert_eq!(rt; out.as_slice(), wanted.as_slice());
+    Ok(())
+}
+
+/// A refusal, and what is there of its message, which has these bytes from the offset `start` on.
+fn bad(number: u64, reason: Reason, start: u64, bytes: &[u8], at: u64) -> (Ended, RefusedMessage) {
+    let message = RefusedMessage::of(start, bytes, at);
+    (refused(number, at, reason), message)
+}
+
+/// A direction with these refusals.
+fn refused_twice(free: (Ended, RefusedMessage), bep: (Ended, RefusedMessage)) -> Direction {
+    Direction {
+        sender: Sender::Known(Judged {
+            title: Title::PeerId(*A_ID),
+            free: free.0,
+            bep: bep.0,
+            free_message: Some(free.1),
+            bep_message: Some(bep.1),
+            receiver: own(0x100005, 0, 0, Some(38)),
+            is_guessed: false,
+        }),
+        exchange: 0,
+        conflicts: 0,
+        gaps: NO_GAPS,
+    }
+}
+
+/// A report on two directions, of which A closed first.
+fn both(a: Direction, b: Direction) -> Report {
+    let closed = Closed {
+        first: Side::A,
+        by: Means::Fin,
+        at: 9_000_000,
+        a: None,
+        b: None,
+    };
+    report(Body::Told(Told {
+        a,
+        b,
+        closed: Some(closed),
+        remarked_a: NO_REMARKS,
+        remarked_b: NO_REMARKS,
+    }))
+}
+
+/// Each rule set refuses another message.
+#[test]
+fn why(rt: HostRuntime) -> Result<(), Fail> {
+    let index = bad(2, Reason::BadIndex, 73, b"\0\0\0\x05\x04\0\0\0\x26", 78);
+    let missing = bad(1, Reason::Missing, 68, b"\0\0\0\x01\x02", 72);
+    let long = bad(2, Reason::TooLong, 73, b"\0\x04\0\x01", 73);
+    let unknown = bad(1, Reason::UnknownId, 68, b"\0\0\0\x01\x1e", 72);
+    let out = text_of(
+        &rt,
+        &both(refused_twice(index, missing), refused_twice(long, unknown)),
+    )?;
+    let wanted = b"connection 0  A 10.0.0.1:51413 > B 10.0.0.2:6881
+  A -AA0001-000000000000
+    free refused message=2 at=78 BadIndex
+    why  The have message names piece 38, and the torrent has 38 pieces, so the last index is 37.
+    bep  refused message=1 at=72 Missing
+    why  Both peers have the Fast Extension, so a bitfield, have all or have none has to come first, and interested came.
+    options --reserved 0000000000100005 --metadata-id 0 --pieces 38
+  B -AA0001-000000000000
+    free refused message=2 at=73 TooLong
+    why  The message has the length 262145, and the receiver takes at most 262144.
+    bep  refused message=1 at=72 UnknownId
+    why  The message has the id 30, and BEP 3, 5, 6 and 10 have no such id.
+    options --reserved 0000000000100005 --metadata-id 0 --pieces 38
+  A closed first, by FIN, at 0.009000 s
+";
+    assert_eq!(rt; out.as_slice(), wanted.as_slice());
+    Ok(())
+}
+
+/// B's stream is refused at a byte, and A's, which A ended, inside a message. What both rule sets refuse is explained once.
+#[test]
+fn why_once(rt: HostRuntime) -> Result<(), Fail> {
+    let end = bad(2, Reason::EndInside, 73, b"\0\0\0\x0d\x06\0\0", 80);
+    let bencode = bad(1, Reason::BadBencode, 68, b"\0\0\0\x03\x14\x01x", 74);
+    let out = text_of(
+        &rt,
+        &both(refused_twice(end, end), refused_twice(bencode, bencode)),
+    )?;
+    let wanted = b"connection 0  A 10.0.0.1:51413 > B 10.0.0.2:6881
+  A -AA0001-000000000000
+    free refused message=2 at=80 EndInside
+    bep  refused message=2 at=80 EndInside
+    why  The stream ends after 7 of the 17 bytes of a message.
+    options --reserved 0000000000100005 --metadata-id 0 --pieces 38
+  B -AA0001-000000000000
+    free refused message=1 at=74 BadBencode
+    bep  refused message=1 at=74 BadBencode
+    why  The payload has to begin with a bencoded dictionary, and none goes on with the byte 0x78 at 74.
+    options --reserved 0000000000100005 --metadata-id 0 --pieces 38
+  A closed first, by FIN, at 0.009000 s
+";
+    assert_eq!(rt; out.as_slice(), wanted.as_slice());
+    Ok(())
+}
+
+/// Sentences with an id's lengths, an extension, a byte of a bitfield, and the end of a dictionary; a message follows the last.
+#[test]
+fn why_by_the_message(rt: HostRuntime) -> Result<(), Fail> {
+    let length = bad(2, Reason::WrongLength, 73, b"\0\0\0\x02\x05\xff", 73);
+    let other = bad(1, Reason::NotNegotiated, 68, b"\0\0\0\x01\x0e", 72);
+    let bits = b"\0\0\0\x06\x05\xff\xff\xff\xff\xfe";
+    let spare = bad(2, Reason::SpareBits, 73, bits, 82);
+    let cut = bad(1, Reason::BadBencode, 68, b"\0\0\0\x03\x14\0d\0\0\0\x01", 75);
+    let out = text_of(
+        &rt,
+        &both(refused_twice(length, other), refused_twice(spare, cut)),
+    )?;
+    let wanted = b"connection 0  A 10.0.0.1:51413 > B 10.0.0.2:6881
+  A -AA0001-000000000000
+    free refused message=2 at=73 WrongLength
+    why  The message has the length 2, and the length of a bitfield message is 6 for 38 pieces.
+    bep  refused message=1 at=72 NotNegotiated
+    why  A have all message needs the Fast Extension, and the two handshakes do not both have its reserved bit.
+    options --reserved 0000000000100005 --metadata-id 0 --pieces 38
+  B -AA0001-000000000000
+    free refused message=2 at=82 SpareBits
+    why  The torrent has 38 pieces, and the last byte of the bitfield is 0xfe, which has a 1 after them.
+    bep  refused message=1 at=75 BadBencode
+    why  The payload has to begin with a bencoded dictionary, and the message ends inside it.
+    options --reserved 0000000000100005 --metadata-id 0 --pieces 38
+  A closed first, by FIN, at 0.009000 s
 ";
     assert_eq!(rt; out.as_slice(), wanted.as_slice());
     Ok(())

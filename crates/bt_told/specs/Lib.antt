@@ -1,6 +1,7 @@
 pub mod Said
 pub mod Names
 pub mod Numbers
+pub mod Whys
 pub mod Sides
 pub mod Closings
 pub mod Remarked

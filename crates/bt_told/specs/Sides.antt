@@ -6,6 +6,7 @@ use Rattle.bt_remarks.specs.declared.events.Side.{Side}
 use Rattle.bt_remarks.specs.declared.events.Side.TheVariants.{A, B}
 use Rattle.bt_tcp.specs.declared.covered.Gap.{Gap}
 use Rattle.bt_tcp.specs.declared.covered.Gaps.{Gaps}
+use Rattle.bt_text.specs.contracts.ended.EndedPartialEq.TheImpl as ended_eq
 use Rattle.bt_text.specs.declared.ended.Ended.{Ended}
 use Rattle.bt_text.specs.declared.ended.Ended.TheVariants.{Accepted, Refused}
 use Rattle.bt_wire.specs.declared.context.Own.{Own}
@@ -20,6 +21,7 @@ use Rattle.bt_told.specs.declared.report.Sender.{Sender}
 use Rattle.bt_told.specs.declared.report.Sender.TheVariants.{Unknown, Known}
 use Rattle.bt_told.specs.Names.{title_text}
 use Rattle.bt_told.specs.Numbers.{option_text}
+use Rattle.bt_told.specs.Whys.{why_line}
 
 abbrev pub side_text : Side → List ℕ
 side_text A = codes "A"
@@ -107,10 +109,20 @@ options_text own is_guessed =
 
 -- ---- a direction
 
+abbrev pub is_same : Ended → Ended → Bool
+is_same = (ended_eq.ghosts).eq
+
+-- what both rule sets refuse alike is explained once, after the strict rules' verdict
+unfoldable pub free_text : Judged → List ℕ → List ℕ
+free_text j limit =
+    verdict_line (codes "    free ") j.free limit ++ (if is_same j.free j.bep then [] else why_line j.free limit j.free_message j.receiver)
+
+unfoldable pub bep_text : Judged → List ℕ → List ℕ
+bep_text j limit = verdict_line (codes "    bep  ") j.bep limit ++ why_line j.bep limit j.bep_message j.receiver
+
 abbrev pub judged_text : Side → Bool → Option Side → Judged → List ℕ
 judged_text side has_gap closer j =
-    verdict_line (codes "    free ") j.free (note j.free has_gap closer side)
-    ++ (verdict_line (codes "    bep  ") j.bep (note j.bep has_gap closer side) ++ options_text j.receiver j.is_guessed)
+    free_text j (note j.free has_gap closer side) ++ (bep_text j (note j.bep has_gap closer side) ++ options_text j.receiver j.is_guessed)
 
 abbrev pub verdicts_text : Side → Bool → Option Side → Sender → List ℕ
 verdicts_text side has_gap closer (Unknown sent) = []

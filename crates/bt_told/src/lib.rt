@@ -17,6 +17,7 @@ mod rows;
 mod said;
 mod sides;
 mod utp;
+mod why;
 
 pub use finding::Finding;
 pub use printing::put_report;
@@ -27,3 +28,4 @@ pub use report::{
 pub use rows::{Deed, Row, put_row};
 pub use said::{Name, Numbers, Said, Words};
 pub use utp::{UtpPackets, put_utp};
+pub use why::RefusedMessage;

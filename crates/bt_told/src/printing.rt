@@ -12,7 +12,7 @@ use bt_text::putting::{grow, put_word};
 use std::alloc::AllocError;
 
 /// Room for the longest report, without its addresses.
-const ROOM: usize = 5000;
+const ROOM: usize = 5900;
 
 /// Returns the side that closed first.
 pub(crate) fn closer_of(closed: &Option<Closed>) -> Option<Side>
@@ -26,8 +26,8 @@ pub(crate) fn closer_of(closed: &Option<Closed>) -> Option<Side>
 
 /// Puts what is told of a BitTorrent connection.
 fn put_told(told: &Told, text: &mut [u8], at: usize) -> usize
-    requires { at + 4900 ≤ length text.old }
-    ensures room { (at ≤ result) × (result ≤ at + 4900) }
+    requires { at + 5800 ≤ length text.old }
+    ensures room { (at ≤ result) × (result ≤ at + 5800) }
     ensures size { length text.new ≡ length text.old }
     ensures text { take result text.new ≡ take at text.old ++ told_text told.now }
 {
@@ -41,8 +41,8 @@ fn put_told(told: &Told, text: &mut [u8], at: usize) -> usize
 
 /// Puts what comes after the addresses.
 fn put_body(body: &Body, text: &mut [u8], at: usize) -> usize
-    requires { at + 5000 ≤ length text.old }
-    ensures room { (at ≤ result) × (result ≤ at + 5000) }
+    requires { at + 5900 ≤ length text.old }
+    ensures room { (at ≤ result) × (result ≤ at + 5900) }
     ensures size { length text.new ≡ length text.old }
     ensures text { take result text.new ≡ take at text.old ++ body_text body.now }
 {

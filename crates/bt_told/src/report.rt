@@ -1,5 +1,6 @@
 //! The facts of a report on a connection.
 use crate::said::Said;
+use crate::why::RefusedMessage;
 use bt_packet::Address;
 use bt_remarks::Side;
 use bt_tcp::Gaps;
@@ -23,6 +24,10 @@ pub struct Judged {
     pub free: Ended,
     /// The verdict under the strict rules.
     pub bep: Ended,
+    /// The message that the lenient rules refuse, if it is there.
+    pub free_message: Option<RefusedMessage>,
+    /// The message that the strict rules refuse, if it is there.
+    pub bep_message: Option<RefusedMessage>,
     /// The receiver that the verdicts are for.
     pub receiver: Own,
     /// Whether the receiver is a guess: its handshake isn't there.

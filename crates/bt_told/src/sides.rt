@@ -2,11 +2,12 @@
 ghost use Rattle.std.specs.Prelude.{◌≡◌, ◌+◌, ◌≤◌, ◌++◌, [], codes, decimal, is_some, length, take};
 ghost use Rattle.hex.specs.Hex.{encode_lower};
 ghost use Rattle.bt_wire.specs.Numbers.{be64};
-ghost use Rattle.bt_told.specs.Sides.{conflicts_text, cut_note, direction_text, exchange_text, gaps_text, guess_text, judged_text, more_text, note, options_text, refusal_text, sender_text, side_text, verdict_line, verdict_text};
+ghost use Rattle.bt_told.specs.Sides.{bep_text, conflicts_text, cut_note, direction_text, exchange_text, free_text, gaps_text, guess_text, judged_text, more_text, note, options_text, refusal_text, sender_text, side_text, verdict_line, verdict_text};
 
 use crate::names::put_title;
 use crate::numbers::put_option;
 use crate::report::{Direction, Judged, Sender};
+use crate::why::put_why_line;
 use bt_remarks::Side;
 use bt_tcp::Gaps;
 use bt_text::ended::Ended;
@@ -265,6 +266,37 @@ fn put_options(own: &Own, is_guessed: bool, text: &mut [u8], at: usize) -> usize
     put_guess(is_guessed, text, at)
 }
 
+/// Puts the lenient rules' verdict, and why they refuse, unless the strict rules refuse alike.
+#[tactic(auto, unfolding(crate::specs::Sides::free_text))]
+fn put_free(judged: &Judged, note: &[u8], text: &mut [u8], at: usize) -> usize
+    requires short { length note.now ≤ 40 }
+    requires room { at + 360 ≤ length text.old }
+    ensures room { (at ≤ result) × (result ≤ at + 360) }
+    ensures size { length text.new ≡ length text.old }
+    ensures text { take result text.new ≡ take at text.old ++ free_text judged.now note.now }
+{
+    let own = &judged.receiver;
+    let at = put_verdict_line(b"    free ", &judged.free, note, text, at);
+    if judged.free == judged.bep {
+        return at;
+    }
+    put_why_line(&judged.free, note, &judged.free_message, own, text, at)
+}
+
+/// Puts the strict rules' verdict, and why they refuse.
+#[tactic(auto, unfolding(crate::specs::Sides::bep_text))]
+fn put_bep(judged: &Judged, note: &[u8], text: &mut [u8], at: usize) -> usize
+    requires short { length note.now ≤ 40 }
+    requires room { at + 360 ≤ length text.old }
+    ensures room { (at ≤ result) × (result ≤ at + 360) }
+    ensures size { length text.new ≡ length text.old }
+    ensures text { take result text.new ≡ take at text.old ++ bep_text judged.now note.now }
+{
+    let own = &judged.receiver;
+    let at = put_verdict_line(b"    bep  ", &judged.bep, note, text, at);
+    put_why_line(&judged.bep, note, &judged.bep_message, own, text, at)
+}
+
 /// Puts the verdicts and the options of a direction with a handshake.
 fn put_judged(
     side: Side,
@@ -274,15 +306,15 @@ fn put_judged(
     text: &mut [u8],
     at: usize,
 ) -> usize
-    requires { at + 480 ≤ length text.old }
-    ensures room { (at ≤ result) × (result ≤ at + 480) }
+    requires { at + 920 ≤ length text.old }
+    ensures room { (at ≤ result) × (result ≤ at + 920) }
     ensures size { length text.new ≡ length text.old }
     ensures text { take result text.new ≡ take at text.old ++ judged_text side has_gap closer judged.now }
 {
     let note = note_of(&judged.free, has_gap, closer, side);
-    let at = put_verdict_line(b"    free ", &judged.free, note, text, at);
+    let at = put_free(judged, note, text, at);
     let note = note_of(&judged.bep, has_gap, closer, side);
-    let at = put_verdict_line(b"    bep  ", &judged.bep, note, text, at);
+    let at = put_bep(judged, note, text, at);
     put_options(&judged.receiver, judged.is_guessed, text, at)
 }
 
@@ -294,8 +326,8 @@ pub(crate) fn put_direction(
     text: &mut [u8],
     at: usize,
 ) -> usize
-    requires { at + 910 ≤ length text.old }
-    ensures room { (at ≤ result) × (result ≤ at + 910) }
+    requires { at + 1350 ≤ length text.old }
+    ensures room { (at ≤ result) × (result ≤ at + 1350) }
     ensures size { length text.new ≡ length text.old }
     ensures text { take result text.new ≡ take at text.old ++ direction_text side closer direction.now }
 {
