@@ -12,6 +12,8 @@ mod frames;
 #[cfg(test)]
 mod halves;
 #[cfg(test)]
+mod objects;
+#[cfg(test)]
 mod remarks;
 #[cfg(test)]
 mod runs;

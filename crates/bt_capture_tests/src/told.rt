@@ -7,7 +7,8 @@ use bt_tcp::{Gap, Gaps};
 use bt_text::ended::Ended;
 use bt_told::{
     Before, Body, Closed, Deed, Direction, Finding, Judged, Last, Means, Noted, Numbers,
-    RefusedMessage, Remarked, Report, Row, Said, Sender, Title, Told, UtpPackets, Words, put_report, put_row, put_utp,
+    RefusedMessage, Remarked, Report, Row, Said, Sender, Title, Told, UtpPackets, Words,
+    put_report, put_row, put_utp,
 };
 use bt_wire::{Handshake, MessageView, Own, Reason, Refusal, Reserved};
 use std::test::Fail;
@@ -18,7 +19,7 @@ const NO_GAPS: Gaps = Gaps {
     sum: 0,
 };
 
-const NO_REMARKS: Remarked = Remarked {
+pub(crate) const NO_REMARKS: Remarked = Remarked {
     unasked: None,
     choked: None,
     again: None,
@@ -36,7 +37,7 @@ fn address(last: u8, port: u16) -> Address {
 }
 
 /// The report of the first connection, from 10.0.0.1:51413 to 10.0.0.2:6881.
-fn report(body: Body) -> Report {
+pub(crate) fn report(body: Body) -> Report {
     Report {
         number: 0,
         a: address(1, 51413),
@@ -45,7 +46,7 @@ fn report(body: Body) -> Report {
     }
 }
 
-fn own(reserved: u64, metadata: u8, donthave: u8, pieces: Option<u32>) -> Own {
+pub(crate) fn own(reserved: u64, metadata: u8, donthave: u8, pieces: Option<u32>) -> Own {
     Own {
         reserved: Reserved(reserved),
         info_hash: None,
@@ -57,7 +58,7 @@ fn own(reserved: u64, metadata: u8, donthave: u8, pieces: Option<u32>) -> Own {
 }
 
 /// A direction with the same verdict under both rule sets.
-fn known(title: Title, ended: Ended, receiver: Own) -> Direction {
+pub(crate) fn known(title: Title, ended: Ended, receiver: Own) -> Direction {
     Direction {
         sender: Sender::Known(Judged {
             title,
@@ -119,9 +120,8 @@ const A_ID: &[u8; 20] = b"-AA0001-000000000000";
 
 const B_ID: &[u8; 20] = b"-BB0001-000000000000";
 
-/// B has two gaps, and A closes.
-#[test]
-fn gaps(rt: HostRuntime) -> Result<(), Fail> {
+/// A report in which B has two gaps, and A closed.
+pub(crate) fn with_gaps() -> Report {
     let a = known(
         Title::of_client(b"Transmission 3.00"),
         accepted(5, 278),
@@ -156,16 +156,18 @@ fn gaps(rt: HostRuntime) -> Result<(), Fail> {
             Last::Item(said(296, bt_told::Name::Choke, Numbers::Zero)),
         ),
     };
-    let out = text_of(
-        &rt,
-        &report(Body::Told(Told {
-            a,
-            b,
-            closed: Some(closed),
-            remarked_a: NO_REMARKS,
-            remarked_b: NO_REMARKS,
-        })),
-    )?;
+    report(Body::Told(Told {
+        a,
+        b,
+        closed: Some(closed),
+        remarked_a: NO_REMARKS,
+        remarked_b: NO_REMARKS,
+    }))
+}
+
+#[test]
+fn gaps(rt: HostRuntime) -> Result<(), Fail> {
+    let out = text_of(&rt, &with_gaps())?;
     let wanted = b"connection 0  A 10.0.0.1:51413 > B 10.0.0.2:6881
   A Transmission 3.00
     free ok messages=5 bytes=278
@@ -188,9 +190,8 @@ fn noted(count: u64, first: Said) -> Option<Noted> {
     Some(Noted { count, first })
 }
 
-/// Both directions have remarks, and B closes.
-#[test]
-fn remarks(rt: HostRuntime) -> Result<(), Fail> {
+/// A report in which both directions have remarks, and B closed.
+pub(crate) fn with_remarks() -> Report {
     let name = bt_told::Name::Request;
     let a = known(
         Title::PeerId(*A_ID),
@@ -232,7 +233,12 @@ fn remarks(rt: HostRuntime) -> Result<(), Fail> {
         remarked_a,
         remarked_b,
     };
-    let out = text_of(&rt, &report(Body::Told(told)))?;
+    report(Body::Told(told))
+}
+
+#[test]
+fn remarks(rt: HostRuntime) -> Result<(), Fail> {
+    let out = text_of(&rt, &with_remarks())?;
     let wanted = b"connection 0  A 10.0.0.1:51413 > B 10.0.0.2:6881
   A -AA0001-000000000000
     free ok messages=8 bytes=176
@@ -256,9 +262,8 @@ fn remarks(rt: HostRuntime) -> Result<(), Fail> {
     Ok(())
 }
 
-/// A's start is lost, so that B's receiver is a guess.
-#[test]
-fn guessed(rt: HostRuntime) -> Result<(), Fail> {
+/// A report in which B's receiver is a guess, since A's start is lost.
+pub(crate) fn with_a_guess() -> Report {
     let a = Direction {
         sender: Sender::Unknown(0),
         exchange: 0,
@@ -301,7 +306,12 @@ fn guessed(rt: HostRuntime) -> Result<(), Fail> {
         remarked_a: NO_REMARKS,
         remarked_b: NO_REMARKS,
     };
-    let out = text_of(&rt, &report(Body::Told(told)))?;
+    report(Body::Told(told))
+}
+
+#[test]
+fn guessed(rt: HostRuntime) -> Result<(), Fail> {
+    let out = text_of(&rt, &with_a_guess())?;
     let wanted = b"connection 0  A 10.0.0.1:51413 > B 10.0.0.2:6881
   A sent 0 bytes and no whole handshake
     gap at 0: 278 bytes aren't in the capture
@@ -453,13 +463,22 @@ fn refused_and_limited(rt: HostRuntime) -> Result<(), Fail> {
 }
 
 /// A refusal, and what is there of its message, which has these bytes from the offset `start` on.
-fn bad(number: u64, reason: Reason, start: u64, bytes: &[u8], at: u64) -> (Ended, RefusedMessage) {
+pub(crate) fn bad(
+    number: u64,
+    reason: Reason,
+    start: u64,
+    bytes: &[u8],
+    at: u64,
+) -> (Ended, RefusedMessage) {
     let message = RefusedMessage::of(start, bytes, at);
     (refused(number, at, reason), message)
 }
 
 /// A direction with these refusals.
-fn refused_twice(free: (Ended, RefusedMessage), bep: (Ended, RefusedMessage)) -> Direction {
+pub(crate) fn refused_twice(
+    free: (Ended, RefusedMessage),
+    bep: (Ended, RefusedMessage),
+) -> Direction {
     Direction {
         sender: Sender::Known(Judged {
             title: Title::PeerId(*A_ID),
@@ -477,7 +496,7 @@ fn refused_twice(free: (Ended, RefusedMessage), bep: (Ended, RefusedMessage)) ->
 }
 
 /// A report on two directions, of which A closed first.
-fn both(a: Direction, b: Direction) -> Report {
+pub(crate) fn both(a: Direction, b: Direction) -> Report {
     let closed = Closed {
         first: Side::A,
         by: Means::Fin,
@@ -557,7 +576,13 @@ fn why_by_the_message(rt: HostRuntime) -> Result<(), Fail> {
     let other = bad(1, Reason::NotNegotiated, 68, b"\0\0\0\x01\x0e", 72);
     let bits = b"\0\0\0\x06\x05\xff\xff\xff\xff\xfe";
     let spare = bad(2, Reason::SpareBits, 73, bits, 82);
-    let cut = bad(1, Reason::BadBencode, 68, b"\0\0\0\x03\x14\0d\0\0\0\x01", 75);
+    let cut = bad(
+        1,
+        Reason::BadBencode,
+        68,
+        b"\0\0\0\x03\x14\0d\0\0\0\x01",
+        75,
+    );
     let out = text_of(
         &rt,
         &both(refused_twice(length, other), refused_twice(spare, cut)),
@@ -591,7 +616,7 @@ fn not_bittorrent(rt: HostRuntime) -> Result<(), Fail> {
     Ok(())
 }
 
-fn row(at: u64, side: Side, offset: u64, deed: Deed) -> Row {
+pub(crate) fn row(at: u64, side: Side, offset: u64, deed: Deed) -> Row {
     Row {
         connection: 0,
         at,
@@ -608,9 +633,7 @@ fn row(at: u64, side: Side, offset: u64, deed: Deed) -> Row {
 }
 
 /// Rows of both sides; the words are made of views.
-#[test]
-fn rows(rt: HostRuntime) -> Result<(), Fail> {
-    let mut out = Vec::new(rt.alloc());
+pub(crate) fn sample_rows() -> [Row; 5] {
     let none = View::Message(MessageView::HaveNone);
     let refusal = Refusal {
         message: 2,
@@ -622,7 +645,7 @@ fn rows(rt: HostRuntime) -> Result<(), Fail> {
         begin: 0,
         length: 1,
     });
-    let given = [
+    [
         row(3_000_000, Side::A, 68, Deed::Item(Words::of(&none))),
         row(7_000_999, Side::A, 78, Deed::Refused(refusal)),
         row(12_000_000_000, Side::A, 87, Deed::Gap(1000)),
@@ -642,8 +665,13 @@ fn rows(rt: HostRuntime) -> Result<(), Fail> {
                 Deed::Item(Words::of(&asked)),
             )
         },
-    ];
-    for row in &given {
+    ]
+}
+
+#[test]
+fn rows(rt: HostRuntime) -> Result<(), Fail> {
+    let mut out = Vec::new(rt.alloc());
+    for row in &sample_rows() {
         put_row(row, &mut out)?;
     }
     let wanted = b"\

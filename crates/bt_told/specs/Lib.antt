@@ -2,10 +2,12 @@ pub mod Said
 pub mod Names
 pub mod Numbers
 pub mod Whys
+pub mod Members
 pub mod Sides
 pub mod Closings
 pub mod Remarked
 pub mod Reports
+pub mod Objects
 pub mod Rows
 pub mod Utp
 pub mod Findings

@@ -1,5 +1,5 @@
 -- The lines of one direction of a connection.
-use Rattle.std.specs.Prelude.{ℕ, Bool, true, false, ◌==◌, List, [], ◌++◌, Option, Some, None, codes, decimal, is_some, nat_lt, unwrap_or, if◌then◌else◌}
+use Rattle.std.specs.Prelude.{ℕ, Bool, true, false, ◌==◌, List, [], ◌∷◌, ◌++◌, Option, Some, None, codes, decimal, is_some, nat_lt, unwrap_or, if◌then◌else◌}
 use Rattle.hex.specs.Hex.{encode_lower}
 use Rattle.bt_ext.specs.Ids.{metadata_id, donthave_id}
 use Rattle.bt_remarks.specs.declared.events.Side.{Side}
@@ -70,16 +70,16 @@ verdict_text (Refused r) = refusal_text r
 abbrev pub closed_by : Side → Side → List ℕ
 closed_by A A = []
 closed_by B B = []
-closed_by closer side = codes " (cut by the close of the other end)"
+closed_by closer side = codes "cut by the close of the other end"
 
 abbrev pub open_or_closed : Option Side → Side → List ℕ
-open_or_closed None side = codes " (cut by the capture's end)"
+open_or_closed None side = codes "cut by the capture's end"
 open_or_closed (Some closer) side = closed_by closer side
 
 -- Why a side's stream may end inside a message for a reason that isn't its sender's: it has a gap, or the other side closed first,
 -- or nobody had closed at the capture's end.
 abbrev pub cut_note : Bool → Option Side → Side → List ℕ
-cut_note true closer side = codes " (cut by the gap)"
+cut_note true closer side = codes "cut by the gap"
 cut_note false closer side = open_or_closed closer side
 
 -- such a reason matters only to a stream that ends inside a message
@@ -89,11 +89,15 @@ if_cut reason cut = []
 
 -- what a verdict is limited by
 abbrev pub note : Ended → Bool → Option Side → Side → List ℕ
-note (Accepted messages bytes) has_gap closer side = if has_gap then codes " (up to the gap)" else []
+note (Accepted messages bytes) has_gap closer side = if has_gap then codes "up to the gap" else []
 note (Refused r) has_gap closer side = if_cut r.reason (cut_note has_gap closer side)
 
+abbrev pub note_text : List ℕ → List ℕ
+note_text [] = []
+note_text (byte ∷ bytes) = codes " (" ++ ((byte ∷ bytes) ++ codes ")")
+
 abbrev pub verdict_line : List ℕ → Ended → List ℕ → List ℕ
-verdict_line rules ended limit = rules ++ (verdict_text ended ++ (limit ++ codes "\n"))
+verdict_line rules ended limit = rules ++ (verdict_text ended ++ (note_text limit ++ codes "\n"))
 
 -- ---- the receiver
 

@@ -1,7 +1,8 @@
-//! The two ends of a connection.
-ghost use Rattle.std.specs.Prelude.{◌≡◌, ◌++◌, OnErr, OnOk, take, vec_len};
+//! The parts of a line that are appended: a number between words, and the two ends of a connection.
+ghost use Rattle.std.specs.Prelude.{◌≡◌, ◌+◌, ◌≤◌, ◌++◌, OnErr, OnOk, decimal, length, take, vec_len};
 ghost use Rattle.bt_packet.specs.Addresses.{address_text};
 
+use crate::sides::put_between;
 use bt_packet::{Address, put_address};
 use std::alloc::AllocError;
 
@@ -18,4 +19,20 @@ pub(crate) fn push_ends(
     put_address(first, out)?;
     out.extend_from_slice(between)?;
     put_address(second, out)
+}
+
+/// Appends a number between words.
+pub(crate) fn push_between<const N: usize, const M: usize>(
+    before: &[u8; N],
+    n: u64,
+    after: &[u8; M],
+    out: &mut Vec<u8>,
+) -> Result<(), AllocError>
+    requires { 20 + length before.now + length after.now ≤ 80 }
+    ensures ok { OnOk result (out.new.items ≡ out.old.items ++ (before.now ++ (decimal n ++ after.now))) }
+    ensures err { OnErr result (out.new.items ≡ out.old.items) }
+{
+    let mut text = [0; 80];
+    let end = put_between(before, n, after, &mut text, 0);
+    out.extend_from_slice(&text[..end])
 }

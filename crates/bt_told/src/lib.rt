@@ -8,8 +8,10 @@
 mod closing;
 mod ends;
 mod finding;
+mod members;
 mod names;
 mod numbers;
+mod objects;
 mod printing;
 mod remarked;
 mod report;
@@ -20,12 +22,13 @@ mod utp;
 mod why;
 
 pub use finding::Finding;
+pub use objects::put_report_object;
 pub use printing::put_report;
 pub use report::{
     Before, Body, Closed, Direction, Judged, Last, Means, Noted, Remarked, Report, Sender, Title,
     Told,
 };
-pub use rows::{Deed, Row, put_row};
+pub use rows::{Deed, Row, put_row, put_row_object};
 pub use said::{Name, Numbers, Said, Words};
 pub use utp::{UtpPackets, put_utp};
 pub use why::RefusedMessage;

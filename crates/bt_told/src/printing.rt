@@ -3,10 +3,10 @@ ghost use Rattle.std.specs.Prelude.{◌≡◌, ◌+◌, ◌≤◌, ◌++◌, OnE
 ghost use Rattle.bt_told.specs.Reports.{body_text, closer, report_text, told_text};
 
 use crate::closing::put_closing;
-use crate::ends::push_ends;
+use crate::ends::{push_between, push_ends};
 use crate::remarked::put_remarked;
 use crate::report::{Body, Closed, Report, Told};
-use crate::sides::{put_between, put_direction};
+use crate::sides::put_direction;
 use bt_remarks::Side;
 use bt_text::putting::{grow, put_word};
 use std::alloc::AllocError;
@@ -59,16 +59,6 @@ fn put_body(body: &Body, text: &mut [u8], at: usize) -> usize
     }
 }
 
-/// Appends a connection's number.
-fn push_number(number: u64, out: &mut Vec<u8>) -> Result<(), AllocError>
-    ensures ok { OnOk result (out.new.items ≡ out.old.items ++ (codes "connection " ++ (decimal number ++ codes "  A "))) }
-    ensures err { OnErr result (out.new.items ≡ out.old.items) }
-{
-    let mut text = [0; 35];
-    let end = put_between(b"connection ", number, b"  A ", &mut text, 0);
-    out.extend_from_slice(&text[..end])
-}
-
 /// Appends what comes after the addresses.
 fn push_body(body: &Body, out: &mut Vec<u8>) -> Result<(), AllocError>
     ensures ok { OnOk result (out.new.items ≡ out.old.items ++ body_text body.now) }
@@ -85,7 +75,7 @@ fn push_report(report: &Report, out: &mut Vec<u8>) -> Result<(), AllocError>
     ensures ok { OnOk result (out.new.items ≡ out.old.items ++ report_text report.now) }
     ensures err { OnErr result (take (vec_len out.old) out.new.items ≡ out.old.items) }
 {
-    push_number(report.number, out)?;
+    push_between(b"connection ", report.number, b"  A ", out)?;
     push_ends(&report.a, b" > B ", &report.b, out)?;
     push_body(&report.body, out)
 }

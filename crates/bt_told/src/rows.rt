@@ -1,8 +1,9 @@
 //! A row: something that one side did, at its time.
-ghost use Rattle.std.specs.Prelude.{◌≡◌, ◌+◌, ◌<◌, ◌≤◌, ◌||◌, ◌++◌, OnErr, OnOk, codes, decimal, length, take, vec_capacity, vec_len};
-ghost use Rattle.bt_told.specs.Rows.{clock_text, deed_text, end_text, name_if, pad_text, remarks_text, row_text};
+ghost use Rattle.std.specs.Prelude.{◌≡◌, ◌+◌, ◌*◌, ◌<◌, ◌≤◌, ◌||◌, ◌++◌, OnErr, OnOk, codes, decimal, length, take, vec_capacity, vec_len};
+ghost use Rattle.bt_told.specs.Rows.{back_if, clock_text, deed_members, deed_text, name_if, pad_text, remarks_in, row_object, row_text};
 
 use crate::closing::means;
+use crate::members::{put_item, put_refusal_members};
 use crate::numbers::put_time;
 use crate::report::Means;
 use crate::said::{Words, put_words};
@@ -88,60 +89,77 @@ fn put_deed(deed: &Deed, text: &mut [u8], at: usize) -> usize
     }
 }
 
-/// Puts a remark's name if the row has it, after what stands between names.
-fn put_name_if<const N: usize>(
+/// Puts a remark's name if the row has it, after `between` if another one stands before it, or else after `front`.
+fn put_name_if<const F: usize, const B: usize, const N: usize>(
     has_it: bool,
     has_one: bool,
+    front: &[u8; F],
+    between: &[u8; B],
     name: &[u8; N],
     text: &mut [u8],
     at: usize,
 ) -> usize
-    requires { at + (3 + length name.now) ≤ length text.old }
-    ensures room { (at ≤ result) × (result ≤ at + (3 + length name.now)) }
+    requires { at + (length front.now + length between.now + length name.now) ≤ length text.old }
+    ensures room { (at ≤ result) × (result ≤ at + (length front.now + length between.now + length name.now)) }
     ensures size { length text.new ≡ length text.old }
-    ensures text { take result text.new ≡ take at text.old ++ name_if has_it has_one name.now }
+    ensures text { take result text.new ≡ take at text.old ++ name_if has_it has_one front.now between.now name.now }
 {
     if !has_it {
         return at;
     }
     let at = if has_one {
-        put_word(b", ", text, at)
+        put_word(between, text, at)
     } else {
-        put_word(b"  (", text, at)
+        put_word(front, text, at)
     };
     put_word(name, text, at)
 }
 
-/// Puts the line's end, after a bracket if the row has a remark.
-fn put_end(has_one: bool, text: &mut [u8], at: usize) -> usize
-    requires { at + 2 ≤ length text.old }
-    ensures room { (at ≤ result) × (result ≤ at + 2) }
+/// Puts what stands after the remarks, if the row has one.
+fn put_back<const N: usize>(has_one: bool, back: &[u8; N], text: &mut [u8], at: usize) -> usize
+    requires { at + length back.now ≤ length text.old }
+    ensures room { (at ≤ result) × (result ≤ at + length back.now) }
     ensures size { length text.new ≡ length text.old }
-    ensures text { take result text.new ≡ take at text.old ++ end_text has_one }
+    ensures text { take result text.new ≡ take at text.old ++ back_if has_one back.now }
 {
     if has_one {
-        put_word(b")\n", text, at)
+        put_word(back, text, at)
     } else {
-        put_word(b"\n", text, at)
+        at
     }
 }
 
-/// Puts the remarks and the line's end.
-fn put_remarks(remarks: &Remarks, text: &mut [u8], at: usize) -> usize
-    requires { at + 60 ≤ length text.old }
-    ensures room { (at ≤ result) × (result ≤ at + 60) }
+/// Puts the remarks, if there are some: `front`, the names with `between` between them, and `back`.
+fn put_remarks<const F: usize, const B: usize, const K: usize>(
+    front: &[u8; F],
+    between: &[u8; B],
+    back: &[u8; K],
+    remarks: &Remarks,
+    text: &mut [u8],
+    at: usize,
+) -> usize
+    requires { at + (27 + 4 * (length front.now + length between.now) + length back.now) ≤ length text.old }
+    ensures room { (at ≤ result) × (result ≤ at + (27 + 4 * (length front.now + length between.now) + length back.now)) }
     ensures size { length text.new ≡ length text.old }
-    ensures text { take result text.new ≡ take at text.old ++ remarks_text remarks.now }
+    ensures text { take result text.new ≡ take at text.old ++ remarks_in front.now between.now back.now remarks.now }
 {
     let one = remarks.unasked;
     let two = one || remarks.choked;
     let three = two || remarks.again;
     let four = three || remarks.elsewhere;
-    let at = put_name_if(remarks.unasked, false, b"unasked", text, at);
-    let at = put_name_if(remarks.choked, one, b"choked", text, at);
-    let at = put_name_if(remarks.again, two, b"again", text, at);
-    let at = put_name_if(remarks.elsewhere, three, b"elsewhere", text, at);
-    put_end(four, text, at)
+    let at = put_name_if(remarks.unasked, false, front, between, b"unasked", text, at);
+    let at = put_name_if(remarks.choked, one, front, between, b"choked", text, at);
+    let at = put_name_if(remarks.again, two, front, between, b"again", text, at);
+    let at = put_name_if(
+        remarks.elsewhere,
+        three,
+        front,
+        between,
+        b"elsewhere",
+        text,
+        at,
+    );
+    put_back(four, back, text, at)
 }
 
 /// Puts a row.
@@ -157,7 +175,8 @@ fn put_row_text(row: &Row, text: &mut [u8], at: usize) -> usize
     let at = put_word(letter(row.side), text, at);
     let at = put_between(b" ", row.offset, b" ", text, at);
     let at = put_deed(&row.deed, text, at);
-    put_remarks(&row.remarks, text, at)
+    let at = put_remarks(b"  (", b", ", b")", &row.remarks, text, at);
+    put_word(b"\n", text, at)
 }
 
 /// Appends a row as text.
@@ -171,6 +190,73 @@ pub fn put_row(row: &Row, out: &mut Vec<u8>) -> Result<(), AllocError>
 {
     let place = grow(out, 260)?;
     let end = put_row_text(row, out.as_mut_slice(), place);
+    out.truncate(end);
+    Ok(())
+}
+
+/// Puts what a side did as members.
+fn put_deed_members(offset: u64, deed: &Deed, text: &mut [u8], at: usize) -> usize
+    requires { at + 210 ≤ length text.old }
+    ensures room { (at ≤ result) × (result ≤ at + 210) }
+    ensures size { length text.new ≡ length text.old }
+    ensures text { take result text.new ≡ take at text.old ++ deed_members offset deed.now }
+{
+    match deed {
+        Deed::Item(words) => {
+            let at = put_between(b",\"offset\":", offset, b"", text, at);
+            put_item(words, text, at)
+        }
+        Deed::Refused(refusal) => {
+            let at = put_word(b",", text, at);
+            put_refusal_members(refusal, text, at)
+        }
+        Deed::Gap(bytes) => {
+            let at = put_between(b",\"offset\":", offset, b",\"gap\":", text, at);
+            put_number(*bytes, text, at)
+        }
+        Deed::Closed(by) => {
+            let at = put_between(b",\"offset\":", offset, b",\"closed\":\"", text, at);
+            let word = means(*by);
+            let at = put_word(word, text, at);
+            put_word(b"\"", text, at)
+        }
+    }
+}
+
+/// Puts a row as an object.
+fn put_object(packet: u64, row: &Row, text: &mut [u8], at: usize) -> usize
+    requires { at + 420 ≤ length text.old }
+    ensures size { length text.new ≡ length text.old }
+    ensures text { take result text.new ≡ take at text.old ++ row_object packet row.now }
+{
+    let at = put_between(b"{\"connection\":", row.connection, b",\"time\":", text, at);
+    let at = put_time(row.at, text, at);
+    let at = put_between(b",\"packet\":", packet, b",\"side\":\"", text, at);
+    let at = put_word(letter(row.side), text, at);
+    let at = put_word(b"\"", text, at);
+    let at = put_deed_members(row.offset, &row.deed, text, at);
+    let at = put_remarks(
+        b",\"remarks\":[\"",
+        b"\",\"",
+        b"\"]",
+        &row.remarks,
+        text,
+        at,
+    );
+    put_word(b"}\n", text, at)
+}
+
+/// Appends a row as a JSON object on a line: what `show --json` has of it, and its packet's number, counted from 1.
+///
+/// # Errors
+/// `AllocError` if the capacity has no room for 420 bytes and out of memory; the text is then as before.
+pub fn put_row_object(packet: u64, row: &Row, out: &mut Vec<u8>) -> Result<(), AllocError>
+    ensures ok { OnOk result (out.new.items ≡ out.old.items ++ row_object packet row.now) }
+    ensures err { OnErr result (out.new.items ≡ out.old.items) }
+    ensures full { OnErr result (vec_capacity out.old < vec_len out.old + 420) }
+{
+    let place = grow(out, 420)?;
+    let end = put_object(packet, row, out.as_mut_slice(), place);
     out.truncate(end);
     Ok(())
 }

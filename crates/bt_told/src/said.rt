@@ -76,7 +76,7 @@ pub struct Said {
 
 impl Name {
     /// Returns the name as text.
-    fn text(self) -> &'static [u8]
+    pub(crate) fn text(self) -> &'static [u8]
         ensures name { result.now ≡ name_text self }
         ensures short { length result.now ≤ 20 }
     {

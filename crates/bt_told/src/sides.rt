@@ -2,7 +2,7 @@
 ghost use Rattle.std.specs.Prelude.{◌≡◌, ◌+◌, ◌≤◌, ◌++◌, [], codes, decimal, is_some, length, take};
 ghost use Rattle.hex.specs.Hex.{encode_lower};
 ghost use Rattle.bt_wire.specs.Numbers.{be64};
-ghost use Rattle.bt_told.specs.Sides.{bep_text, conflicts_text, cut_note, direction_text, exchange_text, free_text, gaps_text, guess_text, judged_text, more_text, note, options_text, refusal_text, sender_text, side_text, verdict_line, verdict_text};
+ghost use Rattle.bt_told.specs.Sides.{bep_text, conflicts_text, cut_note, direction_text, exchange_text, free_text, gaps_text, guess_text, judged_text, more_text, note, note_text, options_text, refusal_text, sender_text, side_text, verdict_line, verdict_text};
 
 use crate::names::put_title;
 use crate::numbers::put_option;
@@ -167,28 +167,48 @@ fn cut_note_of(has_gap: bool, closer: Option<Side>, side: Side) -> &'static [u8]
     ensures short { length result.now ≤ 40 }
 {
     if has_gap {
-        return b" (cut by the gap)";
+        return b"cut by the gap";
     }
     match (closer, side) {
-        (None, _) => b" (cut by the capture's end)",
+        (None, _) => b"cut by the capture's end",
         (Some(Side::A), Side::A) => b"",
         (Some(Side::B), Side::B) => b"",
-        (Some(_), _) => b" (cut by the close of the other end)",
+        (Some(_), _) => b"cut by the close of the other end",
     }
 }
 
 /// Returns what a verdict is limited by.
-fn note_of(ended: &Ended, has_gap: bool, closer: Option<Side>, side: Side) -> &'static [u8]
+pub(crate) fn note_of(
+    ended: &Ended,
+    has_gap: bool,
+    closer: Option<Side>,
+    side: Side,
+) -> &'static [u8]
     ensures note { result.now ≡ note ended.now has_gap closer side }
     ensures short { length result.now ≤ 40 }
 {
     match ended {
-        Ended::Accepted { .. } => { if has_gap { b" (up to the gap)" } else { b"" } }
+        Ended::Accepted { .. } => { if has_gap { b"up to the gap" } else { b"" } }
         Ended::Refused(refusal) => match refusal.reason {
             Reason::EndInside => cut_note_of(has_gap, closer, side),
             _ => b"",
         },
     }
+}
+
+/// Puts what a verdict is limited by in brackets, if it is.
+fn put_note(note: &[u8], text: &mut [u8], at: usize) -> usize
+    requires { (length note.now ≤ 40) × (at + 43 ≤ length text.old) }
+    ensures room { (at ≤ result) × (result ≤ at + 43) }
+    ensures size { length text.new ≡ length text.old }
+    ensures text { take result text.new ≡ take at text.old ++ note_text note.now }
+{
+    if note.is_empty() {
+        return at;
+    }
+    let at = put_word(b" (", text, at);
+    let at = put(note, text, at);
+    put_word(b")", text, at)
 }
 
 /// Puts the line of a verdict.
@@ -200,14 +220,14 @@ fn put_verdict_line(
     at: usize,
 ) -> usize
     requires short { length note.now ≤ 40 }
-    requires room { at + 140 ≤ length text.old }
-    ensures room { (at ≤ result) × (result ≤ at + 140) }
+    requires room { at + 150 ≤ length text.old }
+    ensures room { (at ≤ result) × (result ≤ at + 150) }
     ensures size { length text.new ≡ length text.old }
     ensures text { take result text.new ≡ take at text.old ++ verdict_line rules.now ended.now note.now }
 {
     let at = put_word(rules, text, at);
     let at = put_verdict(ended, text, at);
-    let at = put(note, text, at);
+    let at = put_note(note, text, at);
     put_word(b"\n", text, at)
 }
 
@@ -230,7 +250,7 @@ fn put_guess(is_guessed: bool, text: &mut [u8], at: usize) -> usize
 }
 
 /// Returns the number of an id.
-fn number_of(id: Option<bt_ext::ExtId>) -> Option<u64>
+pub(crate) fn number_of(id: Option<bt_ext::ExtId>) -> Option<u64>
     ensures { result ≡ id }
 {
     match id {
@@ -240,7 +260,7 @@ fn number_of(id: Option<bt_ext::ExtId>) -> Option<u64>
 }
 
 /// Returns a count of pieces as a number of a text.
-fn count_of(pieces: Option<u32>) -> Option<u64>
+pub(crate) fn count_of(pieces: Option<u32>) -> Option<u64>
     ensures { result ≡ pieces }
 {
     match pieces {
@@ -270,8 +290,8 @@ fn put_options(own: &Own, is_guessed: bool, text: &mut [u8], at: usize) -> usize
 #[tactic(auto, unfolding(crate::specs::Sides::free_text))]
 fn put_free(judged: &Judged, note: &[u8], text: &mut [u8], at: usize) -> usize
     requires short { length note.now ≤ 40 }
-    requires room { at + 360 ≤ length text.old }
-    ensures room { (at ≤ result) × (result ≤ at + 360) }
+    requires room { at + 370 ≤ length text.old }
+    ensures room { (at ≤ result) × (result ≤ at + 370) }
     ensures size { length text.new ≡ length text.old }
     ensures text { take result text.new ≡ take at text.old ++ free_text judged.now note.now }
 {
@@ -287,8 +307,8 @@ fn put_free(judged: &Judged, note: &[u8], text: &mut [u8], at: usize) -> usize
 #[tactic(auto, unfolding(crate::specs::Sides::bep_text))]
 fn put_bep(judged: &Judged, note: &[u8], text: &mut [u8], at: usize) -> usize
     requires short { length note.now ≤ 40 }
-    requires room { at + 360 ≤ length text.old }
-    ensures room { (at ≤ result) × (result ≤ at + 360) }
+    requires room { at + 370 ≤ length text.old }
+    ensures room { (at ≤ result) × (result ≤ at + 370) }
     ensures size { length text.new ≡ length text.old }
     ensures text { take result text.new ≡ take at text.old ++ bep_text judged.now note.now }
 {
@@ -306,8 +326,8 @@ fn put_judged(
     text: &mut [u8],
     at: usize,
 ) -> usize
-    requires { at + 920 ≤ length text.old }
-    ensures room { (at ≤ result) × (result ≤ at + 920) }
+    requires { at + 940 ≤ length text.old }
+    ensures room { (at ≤ result) × (result ≤ at + 940) }
     ensures size { length text.new ≡ length text.old }
     ensures text { take result text.new ≡ take at text.old ++ judged_text side has_gap closer judged.now }
 {
@@ -326,8 +346,8 @@ pub(crate) fn put_direction(
     text: &mut [u8],
     at: usize,
 ) -> usize
-    requires { at + 1350 ≤ length text.old }
-    ensures room { (at ≤ result) × (result ≤ at + 1350) }
+    requires { at + 1370 ≤ length text.old }
+    ensures room { (at ≤ result) × (result ≤ at + 1370) }
     ensures size { length text.new ≡ length text.old }
     ensures text { take result text.new ≡ take at text.old ++ direction_text side closer direction.now }
 {

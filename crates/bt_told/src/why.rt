@@ -417,7 +417,7 @@ fn put_bad_protocol(offset: u64, byte: Option<u8>, text: &mut [u8], at: usize) -
 }
 
 /// Puts why a stream is refused.
-fn put_why(
+pub(crate) fn put_why(
     refusal: &Refusal,
     message: &RefusedMessage,
     own: &Own,

@@ -1,0 +1,207 @@
+//! Members of JSON objects (RFC 8259): an item and a verdict, as `show --json` has them.
+ghost use Rattle.std.specs.Prelude.{◌≡◌, ◌+◌, ◌*◌, ◌≤◌, [], ◌∷◌, ◌++◌, codes, decimal, length, take};
+ghost use Rattle.hex.specs.Hex.{encode_lower};
+ghost use Rattle.bt_told.specs.Members.{escaped, first_key, member, number_members, said_object, second_key, third_key, verdict_members, words_members};
+ghost use Rattle.bt_told.specs.Numbers.{option_text};
+ghost use Rattle.bt_told.specs.declared.said.Words.TheVariants as words;
+ghost use Rattle.bt_text.specs.declared.ended.Ended.TheVariants as ended_by;
+
+use crate::numbers::put_option;
+use crate::said::{Name, Numbers, Said, Words};
+use crate::sides::put_between;
+use bt_text::ended::Ended;
+use bt_text::putting::{put, put_hex, put_number, put_word};
+use bt_wire::{Handshake, Refusal};
+
+/// Puts a byte as it stands between quotes.
+fn put_escaped_byte(byte: u8, text: &mut [u8], at: usize) -> usize
+    requires { at + 2 ≤ length text.old }
+    ensures room { (at ≤ result) × (result ≤ at + 2) }
+    ensures size { length text.new ≡ length text.old }
+    ensures text { take result text.new ≡ take at text.old ++ escaped (byte ∷ []) }
+{
+    match byte {
+        b'"' | b'\\' => put(&[b'\\', byte], text, at),
+        _ => put(&[byte], text, at),
+    }
+}
+
+/// Puts printable ASCII as it stands between quotes.
+pub(crate) fn put_escaped(bytes: &[u8], text: &mut [u8], at: usize) -> usize
+    requires { at + 2 * length bytes.now ≤ length text.old }
+    ensures room { (at ≤ result) × (result ≤ at + 2 * length bytes.now) }
+    ensures size { length text.new ≡ length text.old }
+    ensures text { take result text.new ≡ take at text.old ++ escaped bytes.now }
+{
+    let [byte, rest @ ..] = bytes else {
+        return at;
+    };
+    let at = put_escaped_byte(*byte, text, at);
+    put_escaped(rest, text, at)
+}
+
+impl Name {
+    /// Returns what the first number after the name is.
+    fn first_key(self) -> &'static [u8]
+        ensures key { result.now ≡ first_key self }
+        ensures short { length result.now ≤ 10 }
+    {
+        match self {
+            Name::Bitfield => b"bytes",
+            Name::Port => b"port",
+            Name::Extended | Name::Unknown => b"id",
+            Name::MetadataRequest | Name::MetadataData | Name::MetadataReject => b"piece",
+            Name::MetadataOther | Name::MetadataMalformed => b"dictionary",
+            _ => b"index",
+        }
+    }
+
+    /// Returns what the second number after the name is.
+    fn second_key(self) -> &'static [u8]
+        ensures key { result.now ≡ second_key self }
+        ensures short { length result.now ≤ 10 }
+    {
+        match self {
+            Name::Extended | Name::Unknown => b"bytes",
+            Name::MetadataData => b"total_size",
+            Name::MetadataOther | Name::MetadataMalformed => b"rest",
+            _ => b"begin",
+        }
+    }
+
+    /// Returns what the third number after the name is.
+    fn third_key(self) -> &'static [u8]
+        ensures key { result.now ≡ third_key self }
+        ensures short { length result.now ≤ 10 }
+    {
+        match self {
+            Name::Piece | Name::MetadataData => b"bytes",
+            _ => b"length",
+        }
+    }
+}
+
+/// Puts a number under its key.
+fn put_member(key: &[u8], n: u64, text: &mut [u8], at: usize) -> usize
+    requires { (length key.now ≤ 10) × (at + 34 ≤ length text.old) }
+    ensures room { (at ≤ result) × (result ≤ at + 34) }
+    ensures size { length text.new ≡ length text.old }
+    ensures text { take result text.new ≡ take at text.old ++ member key.now n }
+{
+    let at = put_word(b",\"", text, at);
+    let at = put(key, text, at);
+    let at = put_word(b"\":", text, at);
+    put_number(n, text, at)
+}
+
+/// Puts the numbers after a name.
+fn put_numbers(name: Name, numbers: Numbers, text: &mut [u8], at: usize) -> usize
+    requires { at + 102 ≤ length text.old }
+    ensures room { (at ≤ result) × (result ≤ at + 102) }
+    ensures size { length text.new ≡ length text.old }
+    ensures text { take result text.new ≡ take at text.old ++ number_members name numbers }
+{
+    match numbers {
+        Numbers::Zero => at,
+        Numbers::One(n) => put_member(name.first_key(), n, text, at),
+        Numbers::Two(n, m) => {
+            let at = put_member(name.first_key(), n, text, at);
+            put_member(name.second_key(), m, text, at)
+        }
+        Numbers::Three(n, m, k) => {
+            let at = put_member(name.first_key(), n, text, at);
+            let at = put_member(name.second_key(), m, text, at);
+            put_member(name.third_key(), k, text, at)
+        }
+    }
+}
+
+/// Puts a handshake's three fields in hex.
+fn put_handshake(handshake: &Handshake, text: &mut [u8], at: usize) -> usize
+    requires { at + 170 ≤ length text.old }
+    ensures room { (at ≤ result) × (result ≤ at + 170) }
+    ensures size { length text.new ≡ length text.old }
+    ensures text { take result text.new ≡ take at text.old ++ words_members (words.Handshake handshake.now) }
+{
+    let at = put_word(b",\"item\":\"handshake\",\"reserved\":\"", text, at);
+    let at = put_hex(&handshake.reserved.0.to_be_bytes(), text, at);
+    let at = put_word(b"\",\"info_hash\":\"", text, at);
+    let at = put_hex(&handshake.info_hash, text, at);
+    let at = put_word(b"\",\"peer_id\":\"", text, at);
+    let at = put_hex(&handshake.peer_id, text, at);
+    put_word(b"\"", text, at)
+}
+
+/// Puts an item's kind and fields.
+pub(crate) fn put_item(words: &Words, text: &mut [u8], at: usize) -> usize
+    requires { at + 170 ≤ length text.old }
+    ensures room { (at ≤ result) × (result ≤ at + 170) }
+    ensures size { length text.new ≡ length text.old }
+    ensures text { take result text.new ≡ take at text.old ++ words_members words.now }
+{
+    match words {
+        Words::Handshake(handshake) => put_handshake(handshake, text, at),
+        Words::Announced {
+            dict,
+            rest,
+            size,
+            id,
+        } => {
+            let before = b",\"item\":\"ext-handshake\",\"dictionary\":";
+            let at = put_between(before, *dict, b",\"rest\":", text, at);
+            let at = put_number(*rest, text, at);
+            let at = put_option(b",\"metadata_size\":", *size, text, at);
+            put_option(b",\"ut_metadata\":", *id, text, at)
+        }
+        Words::Message(name, numbers) => {
+            let at = put_word(b",\"item\":\"", text, at);
+            let at = put(name.text(), text, at);
+            let at = put_word(b"\"", text, at);
+            put_numbers(*name, *numbers, text, at)
+        }
+    }
+}
+
+/// Puts an item and its offset as an object.
+pub(crate) fn put_said_object(said: &Said, text: &mut [u8], at: usize) -> usize
+    requires { at + 201 ≤ length text.old }
+    ensures room { (at ≤ result) × (result ≤ at + 201) }
+    ensures size { length text.new ≡ length text.old }
+    ensures text { take result text.new ≡ take at text.old ++ said_object said.now }
+{
+    let at = put_between(b"{\"offset\":", said.offset, b"", text, at);
+    let at = put_item(&said.words, text, at);
+    put_word(b"}", text, at)
+}
+
+/// Puts where and why a stream is refused.
+pub(crate) fn put_refusal_members(refusal: &Refusal, text: &mut [u8], at: usize) -> usize
+    requires { at + 120 ≤ length text.old }
+    ensures room { (at ≤ result) × (result ≤ at + 120) }
+    ensures size { length text.new ≡ length text.old }
+    ensures text { take result text.new ≡ take at text.old ++ verdict_members (ended_by.Refused refusal.now) }
+{
+    let before = b"\"verdict\":\"refused\",\"message\":";
+    let at = put_between(before, refusal.message, b",\"offset\":", text, at);
+    let at = put_number(refusal.at, text, at);
+    let at = put_word(b",\"reason\":\"", text, at);
+    let at = put(refusal.reason.name().as_bytes(), text, at);
+    put_word(b"\"", text, at)
+}
+
+/// Puts a verdict.
+pub(crate) fn put_verdict_members(ended: &Ended, text: &mut [u8], at: usize) -> usize
+    requires { at + 120 ≤ length text.old }
+    ensures room { (at ≤ result) × (result ≤ at + 120) }
+    ensures size { length text.new ≡ length text.old }
+    ensures text { take result text.new ≡ take at text.old ++ verdict_members ended.now }
+{
+    match ended {
+        Ended::Accepted { messages, bytes } => {
+            let before = b"\"verdict\":\"ok\",\"messages\":";
+            let at = put_between(before, *messages, b",\"bytes\":", text, at);
+            put_number(*bytes, text, at)
+        }
+        Ended::Refused(refusal) => put_refusal_members(refusal, text, at),
+    }
+}
