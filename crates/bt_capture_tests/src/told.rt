@@ -685,18 +685,23 @@ fn rows(rt: HostRuntime) -> Result<(), Fail> {
     Ok(())
 }
 
-/// Packets of uTP between two ends.
+/// Packets of uTP between two ends: three, and at least three.
 #[test]
 fn utp(rt: HostRuntime) -> Result<(), Fail> {
     let mut out = Vec::new(rt.alloc());
-    let packets = UtpPackets {
-        source: address(1, 51413),
-        target: address(2, 6881),
-        count: 3,
-    };
-    put_utp(&packets, &mut out)?;
-    let wanted =
-        b"uTP  10.0.0.1:51413 > 10.0.0.2:6881  3 packets, not read: this is BitTorrent over UDP (BEP 29)\n";
+    for is_least in [false, true] {
+        let packets = UtpPackets {
+            source: address(1, 51413),
+            target: address(2, 6881),
+            count: 3,
+            is_least,
+        };
+        put_utp(&packets, &mut out)?;
+    }
+    let wanted = b"\
+uTP  10.0.0.1:51413 > 10.0.0.2:6881  3 packets, not read: this is BitTorrent over UDP (BEP 29)
+uTP  10.0.0.1:51413 > 10.0.0.2:6881  at least 3 packets, not read: this is BitTorrent over UDP (BEP 29)
+";
     assert_eq!(rt; out.as_slice(), wanted.as_slice());
     Ok(())
 }

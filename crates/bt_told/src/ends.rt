@@ -28,11 +28,11 @@ pub(crate) fn push_between<const N: usize, const M: usize>(
     after: &[u8; M],
     out: &mut Vec<u8>,
 ) -> Result<(), AllocError>
-    requires { 20 + length before.now + length after.now ≤ 80 }
+    requires { 20 + length before.now + length after.now ≤ 100 }
     ensures ok { OnOk result (out.new.items ≡ out.old.items ++ (before.now ++ (decimal n ++ after.now))) }
     ensures err { OnErr result (out.new.items ≡ out.old.items) }
 {
-    let mut text = [0; 80];
+    let mut text = [0; 100];
     let end = put_between(before, n, after, &mut text, 0);
     out.extend_from_slice(&text[..end])
 }

@@ -1,6 +1,6 @@
 //! The line on packets of uTP.
 ghost use Rattle.std.specs.Prelude.{◌≡◌, ◌++◌, OnErr, OnOk, codes, decimal, take, vec_len};
-ghost use Rattle.bt_told.specs.Utp.{utp_text};
+ghost use Rattle.bt_told.specs.Utp.{count_text, utp_text};
 
 use crate::ends::{push_between, push_ends};
 use bt_packet::Address;
@@ -14,6 +14,21 @@ pub struct UtpPackets {
     /// The target of the first one.
     pub target: Address,
     pub count: u64,
+    /// Whether there may be more, which weren't counted.
+    pub is_least: bool,
+}
+
+/// Appends how many packets there are.
+fn push_count(packets: &UtpPackets, out: &mut Vec<u8>) -> Result<(), AllocError>
+    ensures ok { OnOk result (out.new.items ≡ out.old.items ++ count_text packets.now) }
+    ensures err { OnErr result (out.new.items ≡ out.old.items) }
+{
+    let after = b" packets, not read: this is BitTorrent over UDP (BEP 29)\n";
+    if packets.is_least {
+        push_between(b"  at least ", packets.count, after, out)
+    } else {
+        push_between(b"  ", packets.count, after, out)
+    }
 }
 
 /// Appends the line; after an error the text is as before, and maybe more.
@@ -23,8 +38,7 @@ fn push_utp(packets: &UtpPackets, out: &mut Vec<u8>) -> Result<(), AllocError>
 {
     out.extend_from_slice(b"uTP  ")?;
     push_ends(&packets.source, b" > ", &packets.target, out)?;
-    let after = b" packets, not read: this is BitTorrent over UDP (BEP 29)\n";
-    push_between(b"  ", packets.count, after, out)
+    push_count(packets, out)
 }
 
 /// Appends the line on packets of uTP.
