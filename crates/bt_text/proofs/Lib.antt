@@ -1,5 +1,4 @@
-pub mod FirstLine
-mod FirstFeed
+mod FirstLine
 pub mod ScriptWords
 pub mod ScriptBytes
 pub mod ScriptFields

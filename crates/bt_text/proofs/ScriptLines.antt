@@ -6,7 +6,7 @@ use Rattle.std.specs.Int.{w64, from_be_bytes}
 use Rattle.std.specs.List.{list_all, AllPass}
 use Rattle.std.specs.Result.{result_ok}
 use Rattle.std.specs.Str.{bytes_eq}
-use Rattle.std.proofs.lemmas.Bool.{cases_Bool, and_parts, and_from, ltb-true, lt-ltb, not_from_false}
+use Rattle.std.proofs.lemmas.Bool.{cases_Bool, and_parts, and_from, ltb-true, lt-ltb, not-true, not_from_false}
 use Rattle.std.proofs.lemmas.List.{append-nil}
 use Rattle.std.proofs.lemmas.List.Elements.{All-head, All-tail}
 use Rattle.std.proofs.lemmas.Nat.{be_bytes_8}
@@ -24,7 +24,7 @@ use Rattle.bt_text.specs.Script.{HasHandshakeWords, IsHandshakeLine, IsLine, IsA
 use Rattle.bt_text.specs.ScriptReading.{word_of, after_word, number_following, with_bytes, fields_in, payload_in, unknown_in, row_in_text, message_in}
 use Rattle.bt_text.specs.ScriptReading.{array_after, peer_in, info_in, handshake_in, bytes_of_parts, closed, line_in, Adds}
 use Rattle.bt_text.proofs.ScriptWords.{Stops, has_no_space, word-parts, word_of-append, after_word-append}
-use Rattle.bt_text.proofs.ScriptFields.{option_map-Some, option_and_then-Some, closed-Some, is_space, number_following-Some, pair, number_following-spaced}
+use Rattle.bt_text.proofs.ScriptFields.{ok_of, option_map-Some, option_and_then-Some, closed-Some, is_space, number_following-Some, pair, number_following-spaced}
 use Rattle.bt_text.proofs.ScriptFields.{with_bytes-Some, with_bytes-says, Stops-says, fields_in-Some, fields_in-says, Stops-fields}
 
 same_text : (a b : List ℕ) → bytes_eq a b ≡ true → a ≡ b
@@ -38,10 +38,6 @@ record HasPayload (n : ℕ) (text bytes : List ℕ) : Type 0 where
   payload : List ℕ
   says : SaysSpaced text payload
   same : framed_by n payload ≡ bytes
-
-not_true : (b : Bool) → not b ≡ true → b ≡ false
-not_true true h = absurd cc
-not_true false h = refl
 
 payload_if : (n : ℕ) (text bytes : List ℕ) (small meant : Bool) → nat_lt n 256 ≡ small → has_meaning n ≡ meant
     → (cond (small && not meant) (option_map (framed_by n) (with_bytes [] text)) None) ≡ Some bytes → HasPayload n text bytes
@@ -110,7 +106,7 @@ row_name_is : (name : List ℕ) (i : Id) → row_named name ids ≡ Some i → I
 row_name_is name i h =
     let p = and_parts (has_no_space name) (not (bytes_eq name (codes "unknown")) && not (bytes_eq name (codes "keep-alive"))) (row_name ids name i refl h) in
     let q = and_parts (not (bytes_eq name (codes "unknown"))) (not (bytes_eq name (codes "keep-alive"))) p.1 in
-    record { free = p.0; no_unknown = not_true _ q.0; no_alive = not_true _ q.1 }
+    record { free = p.0; no_unknown = not-true _ q.0; no_alive = not-true _ q.1 }
 
 -- where the first word isn't `keep-alive`, the text isn't
 not_alive : (text name : List ℕ) (b : Bool) → word_of text ≡ name → bytes_eq name (codes "keep-alive") ≡ false → bytes_eq text (codes "keep-alive") ≡ b → b
@@ -151,10 +147,6 @@ record HasArray (n : ℕ) (text bytes rest : List ℕ) : Type 0 where
   decoded : decode_of word ≡ Ok bytes
   size : length bytes ≡ n
   fits : IsBytes bytes
-
-ok_of : {E : Type 0} (r : Result (List ℕ) E) (bytes : List ℕ) → result_ok r ≡ Some bytes → r ≡ Ok bytes
-ok_of (Ok x) bytes h = let e : x ≡ bytes = cc h in ap Ok e
-ok_of (Err e) bytes h = absurd cc
 
 array_at : (n c : ℕ) (cs : List ℕ) (p : List ℕ × List ℕ) → (c == 32) ≡ true → option_map (λ bytes. pair bytes (after_word cs))
     (result_ok (decode_sized (word_of cs) n)) ≡ Some p → HasArray n (c ∷ cs) p.0 p.1

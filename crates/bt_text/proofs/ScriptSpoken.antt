@@ -96,12 +96,12 @@ message_line own c (m.Unknown n bytes) same shaped range fits = unknown_line n b
 
 -- ---- handshakes
 
-front_fits : (a b : List ℕ) → AreBytes (a ++ b) → AreBytes a
+pub front_fits : (a b : List ℕ) → AreBytes (a ++ b) → AreBytes a
 front_fits [] b fits k = omega arith
 front_fits (x ∷ xs) b fits zero = fits 0
 front_fits (x ∷ xs) b fits (suc k) = front_fits xs b (λ j. fits (suc j)) k
 
-back_fits : (a b : List ℕ) → AreBytes (a ++ b) → AreBytes b
+pub back_fits : (a b : List ℕ) → AreBytes (a ++ b) → AreBytes b
 back_fits [] b fits = fits
 back_fits (x ∷ xs) b fits = back_fits xs b (λ k. fits (suc k))
 

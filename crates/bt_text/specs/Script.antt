@@ -1,8 +1,7 @@
 -- The lines of a script: one for each item of a stream, with all of the item's bytes. What is written for an item stands
 -- first, and then, apart from it, which texts are lines and what bytes each names.
-use Rattle.std.specs.Prelude.{◌==◌, ◌||◌, ◌≡◌, ℕ, ◌+◌, ◌<◌, Bool, true, false, List, [], ◌∷◌, ◌++◌, length, codes, Option, Some, None, Ok, if◌then◌else◌}
+use Rattle.std.specs.Prelude.{◌==◌, ◌||◌, ◌≡◌, ℕ, ◌+◌, ◌<◌, Bool, true, false, List, [], ◌∷◌, ◌++◌, length, codes, Option, Some, None, Ok}
 use Rattle.std.specs.List.{flat_map}
-use Rattle.std.specs.Str.{bytes_eq}
 use Rattle.hex.specs.Hex.{encode_lower, decode_of}
 use Rattle.bt_ext.specs.Payloads.{payload_of}
 use Rattle.bt_wire.specs.declared.context.Own.{Own}

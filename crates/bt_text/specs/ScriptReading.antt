@@ -1,6 +1,6 @@
 -- For proofs and private contracts alone: a line of a script, read from left to right.
 use Rattle.std.specs.Prelude.{◌≡◌, ◌==◌, ℕ, ◌^◌, nat_lt, Bool, true, false, not, ◌&&◌, List, [], ◌∷◌, ◌++◌, length, codes, Option, Some, None, option_map}
-use Rattle.std.specs.Prelude.{◌<◌, ◌≤◌, slice_index, take}
+use Rattle.std.specs.Prelude.{◌<◌, ◌≤◌, slice_index, take, IfSome}
 use Rattle.std.specs.Prelude.{option_and_then, if◌then◌else◌}
 use Rattle.std.specs.Borrow.{Bor}
 use Rattle.std.specs.Char.{is_ascii_digit}
@@ -53,13 +53,22 @@ abbrev pub number_following : List ℕ → Option (ℕ × List ℕ)
 number_following [] = None
 number_following (c ∷ cs) = if c == 32 then first_number cs else None
 
--- `count` digits of value n lead the text; all that lead it, or 11
+-- the first `count` bytes are all digits that lead the text, and n is their value
 pub record IsLed (text : List ℕ) (n count : ℕ) : Type 0 where
-  pub most : count ≤ 11
   pub within : count ≤ length text
   pub value : n ≡ digits_value 10 (take count text)
   pub digits : (k : ℕ) → k < count → IsInRange 48 57 (slice_index text k)
-  pub ended : count < 11 → count < length text → is_ascii_digit (slice_index text count) ≡ false
+  pub ended : count < length text → is_ascii_digit (slice_index text count) ≡ false
+
+-- whether a digit is the first of it
+abbrev pub goes_on : List ℕ → Bool
+goes_on [] = false
+goes_on (c ∷ cs) = is_ascii_digit c
+
+-- the number below 2 ^ 32 in front of the text and what follows its last digit, if there is one
+pub record IsLeading (text : List ℕ) (r : Option (ℕ × List ℕ)) : Type 0 where
+  pub found : IfSome r (λ p. (p.0 < 2 ^ 32) × (text ≡ decimal p.0 ++ p.1))
+  pub all : (n : ℕ) (rest : List ℕ) → n < 2 ^ 32 → goes_on rest ≡ false → text ≡ decimal n ++ rest → r ≡ Some (n, rest)
 
 abbrev pub after_one : List ℕ → ℕ × List ℕ → List ℕ × List ℕ
 after_one front p = (front ++ be32 p.0, p.1)

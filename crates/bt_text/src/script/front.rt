@@ -1,11 +1,11 @@
 //! The line in front of a text, if it is one of `have`, `request`, `cancel` or `reject`, read and encoded in one pass.
 //!
 //! It may give up on any line: [`append_front`](crate::script::reading::append_front) goes on.
-ghost use Rattle.std.specs.Prelude.{◌≡◌, ◌<◌, ◌^◌, ◌++◌, ◌∷◌, false, length, get_or, None, IfOk, IfSome};
-ghost use Rattle.std.specs.Char.{is_ascii_digit};
+ghost use Rattle.std.specs.Prelude.{◌≡◌, ◌<◌, ◌^◌, ◌++◌, ◌∷◌, None, IfOk, IfSome};
 ghost use Rattle.std.specs.Fmt.{decimal};
 ghost use Rattle.bt_text.specs.Fronts.{IsShortLine, AddsIndex, HasPart, AddsPart};
 
+use crate::script::numbers::leading_number;
 use crate::script::reading::push_begin;
 use std::alloc::AllocError;
 
@@ -18,38 +18,17 @@ fn after<'a, const N: usize>(text: &'a [u8], front: &[u8; N]) -> Option<&'a [u8]
     if head == front { Some(rest) } else { None }
 }
 
-/// Returns whether a zero comes before another digit.
-#[inline(always)]
-fn has_leading_zero(text: &[u8]) -> bool
-    requires { 1 < length text.now }
-    ensures { result ≡ false → get_or text.now 0 0 ≡ 48 → is_ascii_digit (get_or text.now 1 0) ≡ false }
-{
-    text[0] == b'0' && text[1].is_ascii_digit()
-}
-
-/// Returns a number of at most ten digits, and what follows the byte `stop` after it.
-///
-/// `None` if the text doesn't begin so, or if it has fewer than eleven bytes.
+/// Returns the number in front, and what follows the byte `stop` after it.
 #[inline(always)]
 fn number_until(text: &[u8], stop: u8) -> Option<(u32, &[u8])>
     ensures range { IfSome result (λ x. x.0 < 2 ^ 32) }
     ensures split { IfSome result (λ x. text.now ≡ decimal x.0 ++ stop ∷ x.1.now) }
 {
-    if text.len() < 11 || !text[0].is_ascii_digit() || has_leading_zero(text) {
-        return None;
+    let (n, rest) = leading_number(text)?;
+    match rest.split_first() {
+        Some((byte, rest)) if *byte == stop => Some((n, rest)),
+        _ => None,
     }
-    let mut n = u64::from(text[0] - b'0');
-    for at in 1..11 {
-        let byte = text[at];
-        if !byte.is_ascii_digit() {
-            return match u32::try_from(n) {
-                Ok(n) if byte == stop => Some((n, &text[at + 1..])),
-                _ => None,
-            };
-        }
-        n = n * 10 + u64::from(byte - b'0');
-    }
-    None
 }
 
 /// Appends the message of an id and of the number in front, if a line feed ends it.

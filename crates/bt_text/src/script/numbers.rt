@@ -1,13 +1,13 @@
 //! The words of a script's line, and the numbers among them.
-ghost use Rattle.std.specs.Prelude.{◌≡◌, ◌<◌, ◌≤◌, length, IsTrue, ◌↔◌, slice_index, IfSome, position, ◌==◌};
+ghost use Rattle.std.specs.Prelude.{◌≡◌, ◌<◌, ◌≤◌, length, IsTrue, ◌↔◌, slice_index, take, IfSome, position, ◌==◌};
 ghost use Rattle.std.specs.Str.{bytes_eq};
 ghost use Rattle.bt_text.specs.ScriptReading.{
   word_of,
   after_word,
   ends,
   number_in_word,
-  first_number,
   IsLed,
+  IsLeading,
   number_following as number_read,
   two_after,
   three_after,
@@ -46,21 +46,60 @@ fn has_leading_zero(word: &[u8]) -> bool
     word.len() > 1 && word[0] == b'0'
 }
 
-/// Returns the value of the digits in front, and how many they are.
-///
-/// No more than 11 of them are read.
+/// Returns the value of the digits in front, and how many they are, in at most 11 bytes.
 #[inline(always)]
-fn leading_digits(text: &[u8]) -> (u64, usize)
+fn digits_in(text: &[u8]) -> (u64, usize)
+    requires { length text.now ≤ 11 }
     ensures { IsLed text.now result.0 result.1 }
 {
     let mut n: u64 = 0;
     for (count, digit) in text.iter().enumerate() {
-        if count == 11 || !digit.is_ascii_digit() {
+        if !digit.is_ascii_digit() {
             return (n, count);
         }
         n = n * 10 + u64::from(digit - b'0');
     }
     (n, text.len())
+}
+
+/// Does what [`digits_in`] does for the first 11 bytes, whose count the compiler then knows.
+#[inline(always)]
+fn leading_digits(text: &[u8]) -> (u64, usize)
+    ensures { IsLed (take 11 text.now) result.0 result.1 }
+{
+    match text.first_chunk::<11>() {
+        Some(front) => digits_in(front),
+        None => digits_in(text),
+    }
+}
+
+/// Parses the number below 2^32 without leading zeros in front, and returns it and what follows its digits.
+#[inline(always)]
+pub(super) fn leading_number(text: &[u8]) -> Option<(u32, &[u8])>
+    ensures value { IsLeading text.now (seen result) }
+    ensures short { IfSome result (λ p. length p.1.now ≤ length text.now) }
+{
+    let (n, count) = leading_digits(text);
+    if count == 0 || count > 10 {
+        return None;
+    }
+    let (word, rest) = text.split_at(count);
+    if has_leading_zero(word) {
+        return None;
+    }
+    match u32::try_from(n) {
+        Ok(n) => Some((n, rest)),
+        Err(_) => None,
+    }
+}
+
+/// Parses a decimal number below 2^32 without leading zeros.
+#[tactic(auto, using(crate::proofs::ScriptWords::whole_number, crate::proofs::ScriptWords::whole_more, crate::proofs::ScriptWords::whole_none))]
+pub fn plain_number(word: &[u8]) -> Option<u32>
+    ensures { result ≡ number_in_word word.now }
+{
+    let (n, rest) = leading_number(word)?;
+    if rest.is_empty() { Some(n) } else { None }
 }
 
 /// Returns whether the text is empty or begins with a space.
@@ -73,42 +112,8 @@ fn is_end(text: &[u8]) -> bool
     }
 }
 
-/// Parses a number below 2^32 without leading zeros, up to a space or the end.
-///
-/// It returns the number and what follows it.
-#[inline(always)]
-fn leading_number(text: &[u8]) -> Option<(u32, &[u8])>
-    ensures value { seen result ≡ first_number text.now }
-    ensures short { IfSome result (λ p. length p.1.now ≤ length text.now) }
-{
-    let (n, count) = leading_digits(text);
-    if count == 0 || count > 10 {
-        return None;
-    }
-    let (word, rest) = text.split_at(count);
-    if has_leading_zero(word) {
-        return None;
-    }
-    if !is_end(rest) {
-        return None;
-    }
-    match u32::try_from(n) {
-        Ok(n) => Some((n, rest)),
-        Err(_) => None,
-    }
-}
-
-/// Parses a decimal number below 2^32 without leading zeros.
-pub fn plain_number(word: &[u8]) -> Option<u32>
-    ensures { result ≡ number_in_word word.now }
-{
-    match leading_number(word) {
-        Some((n, rest)) if rest.is_empty() => Some(n),
-        _ => None,
-    }
-}
-
 /// Reads a space and a number, and returns the number and what follows it.
+#[tactic(auto, using(crate::proofs::ScriptWords::first_led, crate::proofs::ScriptWords::first_more, crate::proofs::ScriptWords::first_none))]
 #[inline(always)]
 pub(crate) fn number_following(text: &[u8]) -> Option<(u32, &[u8])>
     ensures value { seen result ≡ number_read text.now }
@@ -118,7 +123,8 @@ pub(crate) fn number_following(text: &[u8]) -> Option<(u32, &[u8])>
     if *space != b' ' {
         return None;
     }
-    leading_number(number)
+    let (n, rest) = leading_number(number)?;
+    if is_end(rest) { Some((n, rest)) } else { None }
 }
 
 /// Reads two numbers, each after a space, and returns their bytes and what follows them.

@@ -1,6 +1,6 @@
 use Rattle.std.proofs.Common.{◌∙◌, get_or, sym, arith, below_more}
 use Rattle.bt_text.proofs.ScriptWords.{value_short, is_digit, number_step}
-use Rattle.bt_text.proofs.script.numbers.leading_digits.Goals as goal
+use Rattle.bt_text.proofs.script.numbers.digits_in.Goals as goal
 
 pub overflow_mul-n : goal.overflow_mul-n
 overflow_mul-n c =
@@ -22,7 +22,6 @@ loop-count-preserved c =
     let i = c.loop-count.count in
     let digit = is_digit (get_or t i 0) (sym c.is_ascii_digit.ensures.value ∙ c.if-not-is_ascii_digit.false) in
     record {
-      most = omega arith;
       value = rw c.from.ensures (number_step t i c.loop-count.n c.loop-count-test.true digit c.loop-count.invariant.value);
       digits = below_more _ _ c.loop-count.invariant.digits digit;
     }
