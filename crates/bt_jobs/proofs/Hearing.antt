@@ -273,9 +273,8 @@ waits left left' f l one t =
       t.consumed,
       λ v is.
           let same : s.read.now ≡ v = one reader_of_other t.bytes s.read.now v (omega arith) s.read.is is in
-          let as_now : v ≡ s.now = one reader_of_other t.bytes v s.now (omega arith) is s.is in
-          let P : List (ℕ × Item) → Type 0 = λ xs. IsUnknown (first_of reserved_of xs) (first_id metadata_name xs) (first_id donthave_name xs) in (
-            subst P (sym s.read.items ∙ ap (λ (w : Outcome). w.items) same) (unknown_items t.items l s.heard s.unknown),
+          let as_now : v ≡ s.now = one reader_of_other t.bytes v s.now (omega arith) is s.is in (
+            (rw (sym s.read.items ∙ ap (λ (w : Outcome). w.items) same) at (unknown_items t.items l s.heard s.unknown)),
             ap (λ (w : Outcome). w.refusal) as_now ∙ s.unrefused,
           ),
     )

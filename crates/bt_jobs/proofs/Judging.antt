@@ -1,5 +1,5 @@
 -- What whole items are judged to be.
-use Rattle.std.proofs.Common.{◌≡◌, ℕ, ◌+◌, ◌<◌, ◌≤◌, Bool, true, false, List, ◌++◌, length, take, drop, Some, None, Result, Ok, Err, refl, sym, ap, subst, ◌∙◌}
+use Rattle.std.proofs.Common.{◌≡◌, ℕ, ◌+◌, ◌<◌, ◌≤◌, Bool, true, false, List, ◌++◌, length, take, drop, Some, None, Result, Ok, Err, refl, sym, ap, ◌∙◌}
 use Rattle.std.proofs.Common.{arith, inl, inr}
 use Rattle.std.proofs.lemmas.List.{append-nil, length-take-le, take-append-drop, take_at, drop_all}
 use Rattle.bt_wire.specs.declared.context.Context.{Context}
@@ -25,10 +25,7 @@ use Rattle.bt_jobs.specs.PackSteps.{IsJudged}
 pub judged_as : (j k : FeedState) (t u : Stage) (b : List ℕ) (r q : Result Bool Reason) → j ≡ waiting t → k ≡ waiting u → r ≡ q
     → IsJudged (waiting t) b (waiting u) q → IsJudged j b k r
 judged_as j k t u b r q from to same h =
-    let P : FeedState → Type 0 = λ x. IsJudged x b k r in
-    let Q : FeedState → Type 0 = λ x. IsJudged (waiting t) b x r in
-    let R : Result Bool Reason → Type 0 = λ x. IsJudged (waiting t) b (waiting u) x in
-    subst P (sym from) (subst Q (sym to) (subst R (sym same) h))
+    (rw (sym from) at (rw (sym to) at (rw (sym same) at h)))
 
 -- ---- the handshake
 

@@ -1,9 +1,8 @@
 -- A text has its lines alone, the script of an accepted stream packs to that stream, and packing has one answer.
-use Rattle.std.proofs.Common.{◌≡◌, ℕ, zero, suc, ◌+◌, ◌-◌, ◌<◌, ◌≤◌, ◌^◌, ◌==◌, ◌⊎◌, not, Bool, true, false, cond, List, [], ◌∷◌, ◌++◌, length, Option}
-use Rattle.std.proofs.Common.{Some, None, refl, sym, ap, subst, ◌∙◌, arith, inl, inr}
+use Rattle.std.proofs.Common.{◌≡◌, ℕ, ◌+◌, ◌-◌, ◌<◌, ◌≤◌, ◌^◌, ◌==◌, ◌⊎◌, not, Bool, true, false, cond, List, [], ◌∷◌, ◌++◌, length, Option}
+use Rattle.std.proofs.Common.{Some, None, refl, sym, ap, ◌∙◌, arith, inl, inr}
 use Rattle.std.proofs.lemmas.Bool.{cases_lt, and_parts}
 use Rattle.std.proofs.lemmas.List.{append-nil, append_assoc, length-append, nil_from_length}
-use Rattle.std.specs.Prelude.{IsSome}
 use Rattle.bt_wire.specs.declared.context.Context.{Context}
 use Rattle.bt_wire.specs.declared.context.Order.{Order}
 use Rattle.bt_wire.specs.declared.context.Order.TheVariants.{Fresh}
@@ -29,7 +28,7 @@ use Rattle.bt_jobs.specs.Packs.{empty, stopped, accepted}
 use Rattle.bt_text.specs.Script.{script, script_words, Said, keep_alive, known, unknown, said_bytes, IsLine}
 use Rattle.bt_text.proofs.ScriptBounds.{handshake_fits, message_fits}
 use Rattle.bt_text.proofs.ScriptLines.{one_reading}
-use Rattle.bt_text.proofs.ScriptSpoken.{handshake_line, message_line}
+use Rattle.bt_text.proofs.ScriptSpoken.{back_fits, front_fits, handshake_line, message_line}
 
 -- ---- the lines of a text
 
@@ -89,15 +88,6 @@ pub script_lines : (own : Own) (ps : List (ℕ × Item)) → script own ps ≡ e
 script_lines own [] = refl
 script_lines own (p ∷ ps) = rw (script_lines own ps) refl
 
-front_fits : (a b : List ℕ) → AreBytes (a ++ b) → AreBytes a
-front_fits [] b fits k = omega arith
-front_fits (x ∷ xs) b fits zero = fits 0
-front_fits (x ∷ xs) b fits (suc k) = front_fits xs b (λ j. fits (suc j)) k
-
-back_fits : (a b : List ℕ) → AreBytes (a ++ b) → AreBytes b
-back_fits [] b fits = fits
-back_fits (x ∷ xs) b fits = back_fits xs b (λ k. fits (suc k))
-
 -- the lines of items are whole, and name b
 pub record AreItems (limit : ℕ) (first : Bool) (ls : List (List ℕ)) (b : List ℕ) : Type 0 where
   pub whole : AreWhole ls
@@ -110,7 +100,7 @@ messages_named own c o s (m ∷ ms) b reg limit fits h =
     let said = h.0 in
     let rest = h.1.0 in
     let parts = h.1.1 in
-    let all : AreBytes (spell c m ++ rest) = let P : List ℕ → Type 0 = λ z. AreBytes z in subst P parts fits in
+    let all : AreBytes (spell c m ++ rest) = rw parts at fits in
     let fit = message_fits own c m reg said.in_range in
     let line = message_line own c m reg said.legal.shaped said.in_range (front_fits (spell c m) rest all) in
     let more = messages_named own c (order_after o m) (s + length (spell c m)) ms rest reg limit (back_fits (spell c m) rest all) h.1.2 in
@@ -165,8 +155,7 @@ opened_says own b v p none =
     let begins = p.messages.longest.begins in
     let tail : p.after.tail ≡ [] = sym (ap (λ (u : Outcome). u.tail) p.whole) ∙ none in
     let all : p.rest ≡ begins.0 = begins.1 ∙ ap (λ (t : List ℕ). begins.0 ++ t) tail ∙ append-nil begins.0 in
-    let P : List ℕ → Type 0 = λ z. Says c Fresh 68 ms z in
-    subst P (sym all) begins.2
+    (rw (sym all) at begins.2)
 
 pub accepted_items : (own : Own) (b : List ℕ) (v : Outcome) → AreBytes b → IsAccepted own b v → AreItems own.limit true (lines_in own v.items) b
 accepted_items own b v fits h =
@@ -176,11 +165,10 @@ accepted_items own b v fits h =
     let ms = p.messages.messages in
     let parts : v.items ≡ (0, items.Handshake g) ∷ placed c 68 ms = ap (λ (u : Outcome). u.items) p.whole
     ∙ ap (λ (xs : List (ℕ × Item)). (0, items.Handshake g) ∷ xs) p.messages.items in
-    let all : AreBytes (hand g ++ p.rest) = let P : List ℕ → Type 0 = λ z. AreBytes z in subst P p.parts fits in
+    let all : AreBytes (hand g ++ p.rest) = rw p.parts at fits in
     let fit = handshake_fits g p.fits in
     let more = messages_named own c Fresh 68 ms p.rest refl refl (back_fits (hand g) p.rest all) (opened_says own b v p h.nothing_left) in
-    let Q : List (ℕ × Item) → Type 0 = λ xs. AreItems own.limit true (lines_in own xs) b in
-    subst Q (sym parts) (record {
+    (rw parts (record {
       whole = (fit.whole, more.whole);
       named = (
         hand g,
@@ -189,7 +177,7 @@ accepted_items own b v fits h =
         p.parts,
         more.named,
       );
-    })
+    }))
 
 pub script_packs : (own : Own) (b : List ℕ) (v : Outcome) → AreBytes b → IsVerdict own b v → refusal_at_end v ≡ None
     → (all : List (List ℕ)) → AreLines (script own v.items) all → IsPacked own all b (Accepted (v.number - 1) (length b))
@@ -197,11 +185,9 @@ script_packs own b v fits is none all lines =
     let h = accepted_stream own b v is none in
     let ls = lines_in own v.items in
     let items = accepted_items own b v fits h in
-    let P : List ℕ → Type 0 = λ t. AreLines t ls in
-    let Q : List (List ℕ) → Type 0 = λ xs. IsPacked own xs b (Accepted (v.number - 1) (length b)) in
-    let same : all ≡ ls = lines_are_one (script own v.items) all ls lines (subst P (sym (script_lines own v.items)) (lines_of_ended ls items.whole)) in
+    let same : all ≡ ls = lines_are_one (script own v.items) all ls lines (rw (sym (script_lines own v.items)) at (lines_of_ended ls items.whole)) in
     let some : is_none ls ≡ false = ap (λ (u : Outcome). is_none (lines_in own u.items)) h.opened.whole in
-    subst Q (sym same) (accepted v some (record { named = items.named; verdict = is; nothing_left = h.nothing_left }) refl)
+    (rw (sym same) at (accepted v some (record { named = items.named; verdict = is; nothing_left = h.nothing_left }) refl))
 
 -- ---- packing has one answer
 
@@ -242,13 +228,12 @@ named_after limit first [] line more b c p q = record { bytes = q.0; rest = q.1;
 named_after limit first (l ∷ ls) line more b c p q =
     let x = one_reading first l q.0 p.0 q.2.line p.2.line in
     let k = named_after limit false ls line more p.1 q.1 p.4 q.4 in
-    let P : Bool → Type 0 = λ z. IsNamed limit z line k.bytes in
     let joined : p.0 ++ ((p.1 ++ k.bytes) ++ k.rest) ≡ ((p.0 ++ p.1) ++ k.bytes) ++ k.rest =
     sym (append_assoc p.0 (p.1 ++ k.bytes) k.rest) ∙ ap (λ (z : List ℕ). z ++ k.rest) (sym (append_assoc p.0 p.1 k.bytes)) in
     record {
       bytes = k.bytes;
       rest = k.rest;
-      named = subst P (never_first ls) k.named;
+      named = rw (never_first ls) at k.named;
       parts = q.3 ∙ ap (λ (z : List ℕ). z ++ q.1) x ∙ ap (λ (z : List ℕ). p.0 ++ z) k.parts ∙ joined ∙ ap (λ (z : List ℕ). (z ++ k.bytes) ++ k.rest) (sym p.3);
     }
 
@@ -272,8 +257,7 @@ placed_is_one c s (m ∷ ms) (n ∷ ns) e =
     let its : items.Message m ≡ items.Message n = ap (λ (p : ℕ × Item). p.1) heads in
     let same : m ≡ n = cc its in
     let others : placed c (s + length (spell c m)) ms ≡ placed c (s + length (spell c n)) ns = cc e in
-    let P : Message → Type 0 = λ k. placed c (s + length (spell c m)) ms ≡ placed c (s + length (spell c k)) ns in
-    let rest = placed_is_one c (s + length (spell c m)) ms ns (subst P (sym same) others) in
+    let rest = placed_is_one c (s + length (spell c m)) ms ns (rw (sym same) at others) in
     ap (λ (k : Message). k ∷ ms) same ∙ ap (λ (ks : List Message). n ∷ ks) rest
 
 pub said_is_one : (c : Context) (o : Order) (s : ℕ) (ms : List Message) (x y : List ℕ) → Says c o s ms x → Says c o s ms y → x ≡ y
@@ -288,11 +272,8 @@ same_bytes : (own : Own) (g h : Handshake) (ms ns : List Message) (x y : List �
     → Says (negotiated own g.reserved) Fresh 68 ms x → Says (negotiated own h.reserved) Fresh 68 ns y → hand g ++ x ≡ hand h ++ y
 same_bytes own g h ms ns x y e places p q =
     let c = negotiated own g.reserved in
-    let P : Handshake → Type 0 = λ k. placed c 68 ms ≡ placed (negotiated own k.reserved) 68 ns in
-    let Q : Handshake → Type 0 = λ k. Says (negotiated own k.reserved) Fresh 68 ns y in
-    let R : List Message → Type 0 = λ ks. Says c Fresh 68 ks y in
-    let list : ms ≡ ns = placed_is_one c 68 ms ns (subst P (sym e) places) in
-    let rest = said_is_one c Fresh 68 ms x y p (subst R (sym list) (subst Q (sym e) q)) in
+    let list : ms ≡ ns = placed_is_one c 68 ms ns (rw (sym e) at places) in
+    let rest = said_is_one c Fresh 68 ms x y p (rw (sym list) at (rw (sym e) at q)) in
     ap (λ (k : Handshake). hand k ++ x) e ∙ ap (λ (z : List ℕ). hand h ++ z) rest
 
 opened_items : (own : Own) (b : List ℕ) (v : Outcome) (p : IsOpened own b v) → v.items ≡ pair 0 (items.Handshake p.handshake) ∷ placed
@@ -368,9 +349,8 @@ record IsRefusedAfter (own : Own) (b x : List ℕ) (v : Outcome) : Type 0 where
 refused_is_last : {own : Own} {b x : List ℕ} {v : Outcome} (y : List ℕ) (last : Outcome) → own.limit < 2 ^ 32 → IsAllOf own b v → IsRefusedAfter own b x v
     → IsAllOf own ((b ++ x) ++ y) last → ⊥
 refused_is_last {own} {b} {x} {v} y last lt p r q =
-    let P : Option Refusal → Type 0 = λ o. IsSome o in
     let w = r.now in
-    let stays = verdict_stays own (b ++ x) y w lt r.verdict (subst P (sym r.refused) refl) in
+    let stays = verdict_stays own (b ++ x) y w lt r.verdict (rw r.refused refl) in
     let one = verdict_only own ((b ++ x) ++ y) (record w { tail = w.tail ++ y }) last lt stays q.verdict in
     let tail : w.tail ≡ [] = no_front w.tail y (ap (λ (u : Outcome). u.tail) one ∙ q.nothing_left) in
     let bytes : b ≡ b ++ x = items_are_one own b (b ++ x) v w p.verdict r.verdict p.nothing_left tail (sym r.items) in
@@ -382,15 +362,12 @@ pub stop_is_last : {own : Own} {before : List (List ℕ)} {b c : List ℕ} {v w 
     → AreTaken own before b v → IsNotTaken own (is_none before) line b v reason → AreTaken own (before ++ line ∷ more) c w → ⊥
 stop_is_last {own} {before} {b} {c} line more Syntax lt p n q =
     let k = named_after own.limit true before line more b c p.named q.named in
-    let P : Bool → Type 0 = λ z. IsNamed own.limit z line k.bytes in
-    n k.bytes (subst P (is_first_none before) k.named)
+    n k.bytes (rw (is_first_none before) at k.named)
 stop_is_last {own} {before} {b} {c} {v} {w} line more (Reason reason) lt p n q =
     let k = named_after own.limit true before line more b c p.named q.named in
-    let P : Bool → Type 0 = λ z. IsNamed own.limit z line k.bytes in
-    let named = subst P (is_first_none before) k.named in
+    let named = rw (is_first_none before) at k.named in
     let same = one_reading (is_none before) line k.bytes n.0 named.line n.1.line in
-    let Q : List ℕ → Type 0 = λ z. IsVerdict own z w in
-    let all = subst Q (k.parts ∙ ap (λ (z : List ℕ). (b ++ z) ++ k.rest) same) q.verdict in
+    let all = rw (k.parts ∙ ap (λ (z : List ℕ). (b ++ z) ++ k.rest) same) at q.verdict in
     let taken : IsAllOf own b v = record { verdict = p.verdict; nothing_left = p.nothing_left } in
     let refused : IsRefusedAfter own b n.0 v = record {
       some = line_some (is_none before) line n.0 n.1.line;
@@ -410,8 +387,7 @@ reason_is_one own first line b v Syntax (Reason s) lt p q = absurd (p q.0 q.1)
 reason_is_one own first line b v (Reason r) Syntax lt p q = absurd (q p.0 p.1)
 reason_is_one own first line b v (Reason r) (Reason s) lt p q =
     let bytes = one_reading first line p.0 q.0 p.1.line q.1.line in
-    let P : List ℕ → Type 0 = λ z. IsVerdict own (b ++ z) q.2 in
-    let one : p.2 ≡ q.2 = verdict_only own (b ++ p.0) p.2 q.2 lt p.3 (subst P (sym bytes) q.3) in
+    let one : p.2 ≡ q.2 = verdict_only own (b ++ p.0) p.2 q.2 lt p.3 (rw (sym bytes) at q.3) in
     let both : Some p.5 ≡ Some q.5 = sym p.6 ∙ ap (λ (u : Outcome). u.refusal) one ∙ q.6 in
     let same : p.5 ≡ q.5 = cc both in
     ap Reason (p.7 ∙ ap (λ (k : Refusal). k.reason) same ∙ sym q.7)
@@ -442,16 +418,10 @@ pub record IsSameStop (b c : List ℕ) (m n : ℕ) (r s : ScriptReason) : Type 0
 same_stop : {own : Own} {all : List (List ℕ)} {b c : List ℕ} {m n : ℕ} {r s : ScriptReason} (p : IsStop own all b m r) (q : IsStop own all c n s)
     → own.limit < 2 ^ 32 → p.before ≡ q.before → p.line ≡ q.line → IsSameStop b c m n r s
 same_stop {own} {b} {c} {r} {s} p q lt before line =
-    let P : List (List ℕ) → Type 0 = λ ls. AreTaken own ls c q.verdict in
-    let taken = subst P (sym before) q.taken in
+    let taken = rw (sym before) at q.taken in
     let bytes : b ≡ c = named_is_one own.limit true p.before b c p.taken.named taken.named in
-    let Q : List ℕ → Type 0 = λ z. IsVerdict own z q.verdict in
-    let one : p.verdict ≡ q.verdict = verdict_only own b p.verdict q.verdict lt p.taken.verdict (subst Q (sym bytes) q.taken.verdict) in
-    let A : List (List ℕ) → Type 0 = λ ls. IsNotTaken own (is_none ls) q.line c q.verdict s in
-    let B : List ℕ → Type 0 = λ l. IsNotTaken own (is_none p.before) l c q.verdict s in
-    let C : List ℕ → Type 0 = λ z. IsNotTaken own (is_none p.before) p.line z q.verdict s in
-    let D : Outcome → Type 0 = λ u. IsNotTaken own (is_none p.before) p.line b u s in
-    let other = subst D (sym one) (subst C (sym bytes) (subst B (sym line) (subst A (sym before) q.not_taken))) in
+    let one : p.verdict ≡ q.verdict = verdict_only own b p.verdict q.verdict lt p.taken.verdict (rw (sym bytes) at q.taken.verdict) in
+    let other = rw (sym one) at (rw (sym bytes) at (rw (sym line) at (rw (sym before) at q.not_taken))) in
     record {
       bytes = bytes;
       number = omega (arith, p.count, q.count, ap length before);
@@ -465,8 +435,7 @@ stop_by {own} {c} {r} p q lt le =
     elim (fronts p.before q.before p.line q.line p.following q.following (sym p.parts ∙ q.parts) le) [
       | inl same ↦ same_stop p q lt same.0 same.1
       | inr longer ↦
-          let P : List (List ℕ) → Type 0 = λ ls. AreTaken own ls c q.verdict in
-          absurd (stop_is_last p.line longer.more r lt p.taken p.not_taken (subst P longer.list q.taken))
+          absurd (stop_is_last p.line longer.more r lt p.taken p.not_taken (rw longer.list at q.taken))
     ]
 
 pub stop_is_one : {own : Own} {all : List (List ℕ)} {b c : List ℕ} {m n : ℕ} {r s : ScriptReason} → own.limit < 2 ^ 32 → IsStop own all b m r
@@ -488,15 +457,13 @@ some_has_lines all some none = let k : true ≡ false = sym (ap is_none none) �
 stop_takes_none : (own : Own) (all : List (List ℕ)) (b c : List ℕ) (w : Outcome) (m : ℕ) (r : ScriptReason) → own.limit < 2 ^ 32 → IsStop own all b m r
     → AreTaken own all c w → ⊥
 stop_takes_none own all b c w m r lt p q =
-    let P : List (List ℕ) → Type 0 = λ ls. AreTaken own ls c w in
-    stop_is_last p.line p.following r lt p.taken p.not_taken (subst P p.parts q)
+    stop_is_last p.line p.following r lt p.taken p.not_taken (rw p.parts at q)
 
 pub taken_is_one : (own : Own) (all : List (List ℕ)) (b c : List ℕ) (v w : Outcome) → own.limit < 2 ^ 32 → AreTaken own all b v → AreTaken own all c w
     → (b ≡ c) × (v ≡ w)
 taken_is_one own all b c v w lt p q =
     let bytes : b ≡ c = named_is_one own.limit true all b c p.named q.named in
-    let P : List ℕ → Type 0 = λ z. IsVerdict own z w in
-    (bytes, verdict_only own b v w lt p.verdict (subst P (sym bytes) q.verdict))
+    (bytes, verdict_only own b v w lt p.verdict (rw (sym bytes) at q.verdict))
 
 pub pack_is_one : (own : Own) (all : List (List ℕ)) (b c : List ℕ) (e f : PackEnd) → own.limit < 2 ^ 32 → IsPacked own all b e → IsPacked own all c f
     → (b ≡ c) × (e ≡ f)

@@ -1,5 +1,5 @@
 -- A script that is read piece by piece.
-use Rattle.std.proofs.Common.{◌≡◌, ℕ, ◌+◌, ◌-◌, ◌*◌, ◌<◌, false, List, [], ◌∷◌, ◌++◌, length, Some, Option, None, refl, sym, ap, subst, ◌∙◌, arith, inl, inr}
+use Rattle.std.proofs.Common.{◌≡◌, ℕ, ◌+◌, ◌-◌, ◌*◌, ◌<◌, false, List, [], ◌∷◌, ◌++◌, length, Some, Option, None, refl, sym, ap, ◌∙◌, arith, inl, inr}
 use Rattle.std.proofs.Common.{length-append, Result, Ok, Err}
 use Rattle.std.specs.Prelude.{IfOk}
 use Rattle.std.proofs.lemmas.List.{append-nil, append_assoc, nil_from_length}
@@ -133,28 +133,24 @@ stops_in {own} {text} {b} {held} {line} {lines} {f} rest reason h none e some co
 pub nothing_done : (own : Own) (text : List ℕ) (lines : List (List ℕ)) (b piece held : List ℕ) (f : FeedState) (out : List ℕ)
     → IsReadSo own text lines b held f → IsDone own text (packing lines b out) piece piece (packer held f out)
 nothing_done own text lines b piece held f out h =
-    let P : List ℕ → Type 0 = λ t. IsReadSo own t (lines ++ []) (b ++ []) held f in
-    let Q : List (List ℕ) → Type 0 = λ l. IsReadSo own text l (b ++ []) held f in
-    let R : List ℕ → Type 0 = λ l. IsReadSo own text lines l held f in
     record {
       done = [];
       parts = refl;
       more = [];
       named = [];
       grown = sym (append-nil out);
-      read = subst P (sym (append-nil text)) (subst Q (sym (append-nil lines)) (subst R (sym (append-nil b)) h));
+      read = rw (sym (append-nil text)) at (rw (sym (append-nil lines)) at (rw (sym (append-nil b)) at h));
     }
 
 -- all of the piece
 pub all_done : (own : Own) (text : List ℕ) (p : Packing) (piece rest new : List ℕ) (q : Packer) → IsDone own text p piece rest q → has_feed rest ≡ false
     → new ≡ q.line ++ rest → IsPieceRead own (text ++ piece) p (packer new q.judge q.out) None
 all_done own text p piece rest new q d none e =
-    let all : (text ++ d.done) ++ rest ≡ text ++ piece = append_assoc text d.done rest ∙ ap (λ (l : List ℕ). text ++ l) (sym d.parts) in
-    let P : List ℕ → Type 0 = λ t. IsReadSo own t (p.lines ++ d.more) (p.bytes ++ d.named) new q.judge in (
+    let all : (text ++ d.done) ++ rest ≡ text ++ piece = append_assoc text d.done rest ∙ ap (λ (l : List ℕ). text ++ l) (sym d.parts) in (
       d.more,
       d.named,
       d.grown,
-      subst P all (read_rest own (text ++ d.done) rest (p.lines ++ d.more) (p.bytes ++ d.named) q.line new q.judge d.read none e),
+      (rw all at (read_rest own (text ++ d.done) rest (p.lines ++ d.more) (p.bytes ++ d.named) q.line new q.judge d.read none e)),
     )
 
 -- The packer stood at `old` where a line of the piece ended; `rest` is its last part `front`, the line feed, and `following`. The answer to the line is
@@ -174,18 +170,13 @@ line_done own text p piece following new nothing l =
     let d = l.before in
     let line = l.old.line ++ l.front in
     let up_to = l.front ++ 10 ∷ [] in
-    let P : List ℕ → Type 0 = λ t. IsReadSo own t ((p.lines ++ d.more) ++ line ∷ []) ((p.bytes ++ d.named) ++ l.end.0) [] new.judge in
-    let Q : List (List ℕ) → Type 0 = λ z. IsReadSo own (text ++ (d.done ++ up_to)) z ((p.bytes ++ d.named) ++ l.end.0) [] new.judge in
-    let R : List ℕ → Type 0 = λ z. IsReadSo own (text ++ (d.done ++ up_to)) (p.lines ++ (d.more ++ line ∷ [])) z [] new.judge in
-    let S : List ℕ → Type 0 = λ z. IsReadSo own (text ++ (d.done ++ up_to)) (p.lines ++ (d.more ++ line ∷ [])) (p.bytes ++ (d.named ++ l.end.0)) z new.judge in
     record {
       done = d.done ++ up_to;
       parts = d.parts ∙ ap (λ (z : List ℕ). d.done ++ z) (l.cut ∙ sym (append_assoc l.front (10 ∷ []) following)) ∙ sym (append_assoc d.done up_to following);
       more = d.more ++ line ∷ [];
       named = d.named ++ l.end.0;
       grown = l.end.1 ∙ ap (λ (z : List ℕ). z ++ l.end.0) d.grown ∙ append_assoc p.out d.named l.end.0;
-      read = subst S (sym nothing) (subst R (append_assoc p.bytes d.named l.end.0) (subst Q (append_assoc p.lines d.more (line ∷ [])) (subst P
-          (append_assoc text d.done up_to) (read_line l.front l.end.0 d.read l.none refl l.end.2))));
+      read = rw nothing (rw (append_assoc p.bytes d.named l.end.0) at (rw (append_assoc p.lines d.more (line ∷ [])) at (rw (append_assoc text d.done up_to) at (read_line l.front l.end.0 d.read l.none refl l.end.2))));
     }
 
 pub line_stops : (own : Own) (text : List ℕ) (p : Packing) (piece following : List ℕ) (new : Packer) (reason : ScriptReason)
@@ -196,9 +187,7 @@ line_stops own text p piece following new reason l =
     let stop = stops_at l.front following reason d.read l.none refl l.end.1 l.end.2 in
     let all : (text ++ d.done) ++ (l.front ++ 10 ∷ following) ≡ text ++ piece = append_assoc text d.done (l.front ++ 10 ∷ following)
     ∙ ap (λ (z : List ℕ). text ++ z) (ap (λ (z : List ℕ). d.done ++ z) (sym l.cut) ∙ sym d.parts) in
-    let P : List ℕ → Type 0 = λ t. AreLines t stop.0 in
-    let Q : List ℕ → Type 0 = λ t. IsEndedLine own.limit t (number + 1) in
-    (d.named, l.end.0 ∙ d.grown, (stop.0, subst P all stop.1, stop.2), subst Q all stop.3)
+    (d.named, l.end.0 ∙ d.grown, (stop.0, rw all at stop.1, stop.2), rw all at stop.3)
 
 -- the line isn't ended yet, and is too long
 pub rest_stops : (own : Own) (text : List ℕ) (p : Packing) (piece rest new : List ℕ) (q : Packer) → IsDone own text p piece rest q → has_feed rest ≡ false
@@ -211,9 +200,7 @@ rest_stops own text p piece rest new q d none long =
     let stop = stops_in rest Syntax d.read none refl some d.read.packed.count refused in
     let split = (read_rest own (text ++ d.done) rest (p.lines ++ d.more) (p.bytes ++ d.named) q.line line q.judge d.read none refl).split in
     let all : (text ++ d.done) ++ rest ≡ text ++ piece = append_assoc text d.done rest ∙ ap (λ (l : List ℕ). text ++ l) (sym d.parts) in
-    let P : List ℕ → Type 0 = λ t. AreLines t stop.0 in
-    let Q : List ℕ → Type 0 = λ t. IsEndedLine own.limit t (number + 1) in
-    (d.named, d.grown, (stop.0, subst P all stop.1, stop.2), subst Q all (p.lines ++ d.more, line, split, inr (omega (arith, d.read.packed.count), long)))
+    (d.named, d.grown, (stop.0, rw all at stop.1, stop.2), (rw (← all) (p.lines ++ d.more, line, split, inr (omega (arith, d.read.packed.count), long))))
 
 -- ---- the end of a script
 
@@ -233,8 +220,7 @@ pub stopped_packed : {own : Own} {text line b : List ℕ} {lines : List (List �
     → IsRefused own lines b line reason → (all : List (List ℕ)) × AreLines text all × IsPacked own all b (Refused number reason)
 stopped_packed {text} {line} g reason h some is count r =
     let stop = stops_in [] reason h refl (sym (append-nil line)) some count r in
-    let P : List ℕ → Type 0 = λ t. AreLines t stop.0 in
-    (stop.0, subst P (append-nil text) stop.1, stopped (number_of g.stage + 1) reason stop.2 (ap (λ (n : ℕ). Refused n reason) is))
+    (stop.0, rw (append-nil text) at stop.1, stopped (number_of g.stage + 1) reason stop.2 (ap (λ (n : ℕ). Refused n reason) is))
 
 -- ---- what a script ends with
 
@@ -246,28 +232,24 @@ some_by (l ∷ lines) h = refl
 none_named : (own : Own) (text b out out' : List ℕ) (e : PackEnd) → out' ≡ out → (all : List (List ℕ)) × AreLines text all × IsPacked own all b e
     → IsScriptEnd own text b out out' e
 none_named own text b out out' e same h =
-    let P : List ℕ → Type 0 = λ l. IsPacked own h.0 l e in
-    ([], same ∙ sym (append-nil out), (h.0, h.1, subst P (sym (append-nil b)) h.2))
+    ([], same ∙ sym (append-nil out), (h.0, h.1, rw (sym (append-nil b)) at h.2))
 
 pub end_empty : {own : Own} {text b line : List ℕ} {lines : List (List ℕ)} {f : FeedState} {e : PackEnd} (out : List ℕ) → IsReadSo own text lines b line f
     → length line ≡ 0 → (number_of f.stage ≡ 0 → ⊥)
     → e ≡ Accepted (number_of f.stage - 1) (start_of f.stage) → IsScriptEnd own text b out out e
 end_empty {own} {text} {b} {line} {lines} {f} {e} out h none some is =
-    let P : List ℕ → Type 0 = λ l. IsReadSo own text lines b l f in
-    let here = subst P (nil_from_length line none) h in
-    let Q : PackEnd → Type 0 = λ x. (all : List (List ℕ)) × AreLines text all × IsPacked own all b x in
+    let here = rw (nil_from_length line none) at h in
     let filled = some_by lines (λ z. some (h.packed.count ∙ z)) in
-    none_named own text b out out e refl (subst Q (sym is) (all_packed text (lines, [], here.split, refl) h.packed filled refl refl))
+    none_named own text b out out e refl (rw (sym is) at (all_packed text (lines, [], here.split, refl) h.packed filled refl refl))
 
 pub end_line : {own : Own} {text b line : List ℕ} {lines : List (List ℕ)} {f : FeedState} {e : PackEnd} (out out' : List ℕ) (g : FeedState)
     → IsReadSo own text lines b line f → 0 < length line → IsLineEnd own (packing lines b out) line g out' None
     → e ≡ Accepted (number_of g.stage - 1) (start_of g.stage) → IsScriptEnd own text b out out' e
-end_line {own} {text} {b} {line} {lines} {f} {e} out out' g h some end is =
-    let Q : PackEnd → Type 0 = λ x. (all : List (List ℕ)) × AreLines text all × IsPacked own all (b ++ end.0) x in (
-      end.0,
-      end.1,
-      subst Q (sym is) (all_packed text (lines, line, h.split, long_last lines line some) end.2 (some_lines lines line) refl refl),
-    )
+end_line {own} {text} {b} {line} {lines} {f} {e} out out' g h some end is = (
+  end.0,
+  end.1,
+  (rw (sym is) at (all_packed text (lines, line, h.split, long_last lines line some) end.2 (some_lines lines line) refl refl)),
+)
 
 pub end_stop : {own : Own} {text b line : List ℕ} {lines : List (List ℕ)} {f : FeedState} {number : ℕ} (out out' : List ℕ) (g : FeedState)
     (reason : ScriptReason) → IsReadSo own text lines b line f → 0 < length line → IsLineEnd own (packing lines b out) line g out' (Some reason)

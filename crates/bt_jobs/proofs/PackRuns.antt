@@ -35,15 +35,13 @@ pub record IsRun (own : Own) (before after : Devices) (line : List ℕ) (f : Fee
 pub run_starts : (own : Own) (before : Devices) (line : List ℕ) (f : FeedState) → own.limit ≤ 1048576 → line ≡ [] → f
     ≡ record { stage = stage.Handshake own; held = []; refused = None } → IsRun own before before line f
 run_starts own before line f le none e =
-    let P : FeedState → Type 0 = λ s. IsReadSo own [] [] [] [] s in
-    let Q : List ℕ → Type 0 = λ l. IsReadSo own [] [] [] l f in
     record {
       text = [];
       lines = [];
       bytes = [];
       consumed = Consumes-nil before.source.left;
       written = Appends-nil before.target.held;
-      read = subst Q (sym none) (subst P (sym e) (record {
+      read = rw none (rw e (record {
         split = record { parts = refl; whole = tt; last = refl };
         packed = record { named = refl; items = []; comes = λ later v k. k; empty = refl; first = refl; count = refl; limit = refl; bound = le };
       }));
@@ -145,9 +143,7 @@ pub more_fails : (own : Own) (before mid after : Devices) (out : List ℕ) (next
 more_fails own before mid after out next e m front =
     let r = m.run in
     let p = m.read in
-    let P : List ℕ → Type 0 = λ t. Consumes before.source.left after.source.left t in
-    fails before after [] e p.3 (subst P (sym (append-nil (r.text ++ m.piece)))
-    (Consumes-trans before.source.left mid.source.left after.source.left r.text m.piece r.consumed m.consumed))
+    fails before after [] e p.3 (rw (sym (append-nil (r.text ++ m.piece))) at (Consumes-trans before.source.left mid.source.left after.source.left r.text m.piece r.consumed m.consumed))
     (front_after before.target.held mid.target.held after.target.held r.bytes p.1 r.written
     (subst (AppendsPrefix mid.target.held after.target.held) (out_is out next.out p.1 m.empty p.2) front))
 
@@ -157,23 +153,21 @@ more_fails own before mid after out next e m front =
 taken_of : (E : Type 0) (own : Own) (text : List ℕ) (all : List (List ℕ)) (b : List ℕ) (e : PackEnd) → own.limit ≤ 1048576 → AreLines text all
     → IsTimely own.limit text E e → IsPacked own all b e → (lines : List (List ℕ)) × (v : Outcome) × AreFrontLines text E lines × AreTaken own lines b v
 taken_of E own text all b e le lines timely (empty none bytes is) =
-    let v = left_at (stage.Handshake own) [] None in
-    let P : List ℕ → Type 0 = λ l. AreTaken own [] l v in (
+    let v = left_at (stage.Handshake own) [] None in (
       [],
       v,
       inl (text, refl, tt),
-      subst P (sym bytes) (record {
+      (rw bytes (record {
         named = refl;
         verdict = open_comes (stage.Handshake own) [] (omega (arith, le))
             (hand_open own);
         nothing_left = refl;
-      }),
+      })),
     )
 taken_of E own text all b e le lines timely (stopped number reason stop is) =
     (stop.before, stop.verdict, inl (ended_before text all stop.before stop.following stop.line lines stop.parts), stop.taken)
 taken_of E own text all b e le lines timely (accepted v some taken is) =
-    let T : PackEnd → Type 0 = λ z. IsTimely own.limit text E z in
-    (all, v, inr (subst T is timely, lines), taken)
+    (all, v, inr ((rw is at timely), lines), taken)
 
 -- The text was read, and packing `all`, its lines, ends as `e`. The bytes that they name are `first`, which is written to `held`, and `last`; writing
 -- `last` answers `r`.
@@ -193,20 +187,18 @@ pub record IsRunEnd (own : Own) (before after : Devices) (e : PackEnd) (r : Resu
 
 pub packed_run : (own : Own) (before after : Devices) (e : PackEnd) (r : Result PackEnd ToolFault) → IsRunEnd own before after e r
     → IsPackRun own before after r
-packed_run own before after e (Ok d) h =
-    let P : PackEnd → Type 0 = λ z. IsPacked own h.all (h.first ++ h.last) z in
-    let T : PackEnd → Type 0 = λ z. IsTimely own.limit h.text (EndRead before.source after.source) z in (
-      h.text,
-      h.all,
-      h.consumed,
-      h.lines,
-      (
-        h.first ++ h.last,
-        subst P (sym h.written.0) h.packed,
-        Appends-trans before.target.held h.held after.target.held h.first h.last h.before_last h.written.1,
-        subst T (sym h.written.0) h.timely,
-      ),
-    )
+packed_run own before after e (Ok d) h = (
+  h.text,
+  h.all,
+  h.consumed,
+  h.lines,
+  (
+    h.first ++ h.last,
+    (rw (sym h.written.0) at h.packed),
+    Appends-trans before.target.held h.held after.target.held h.first h.last h.before_last h.written.1,
+    (rw (sym h.written.0) at h.timely),
+  ),
+)
 packed_run own before after e (Err fault) h =
     let t = taken_of (EndRead before.source after.source) own h.text h.all (h.first ++ h.last) e h.limit h.lines h.timely h.packed in (
       h.text,
@@ -230,8 +222,7 @@ timely_at_end limit text E (Refused number reason) h = inr h
 pub timely_line : (limit : ℕ) (text : List ℕ) (E : Type 0) (e : PackEnd) (number : ℕ) (reason : ScriptReason) → e ≡ Refused number reason
     → IsEndedLine limit text number → IsTimely limit text E e
 timely_line limit text E e number reason is h =
-    let P : PackEnd → Type 0 = λ x. IsTimely limit text E x in
-    subst P (sym is) (inl h)
+    rw is (inl h)
 
 pub nothing_run : (own : Own) (d : Devices) (e : ToolFault) → own.limit ≤ 1048576 → IsPackRun own d d (Err e)
 nothing_run own d e le =

@@ -1,6 +1,6 @@
 -- How lines are packed.
 use Rattle.std.proofs.Common.{◌≡◌, ◌⊎◌, ℕ, ◌+◌, ◌*◌, ◌^◌, ◌<◌, ◌≤◌, leb, eqb, Bool, true, false, List, [], ◌∷◌, ◌++◌, length, take, drop, Option, Some, None}
-use Rattle.std.proofs.Common.{Result, Ok, Err, refl, sym, ap, subst, ◌∙◌, arith, inl, inr}
+use Rattle.std.proofs.Common.{Result, Ok, Err, refl, sym, ap, ◌∙◌, arith, inl, inr}
 use Rattle.std.specs.Prelude.{codes}
 use Rattle.std.proofs.lemmas.Bool.{ne_eqb}
 use Rattle.std.proofs.lemmas.List.{append-nil, append_assoc, length-append, length-take-le, take_all, take-append-drop}
@@ -13,7 +13,7 @@ use Rattle.bt_wire.specs.declared.item.Item.TheVariants as items
 use Rattle.bt_wire.specs.Faults.{window_length}
 use Rattle.bt_wire.specs.Messages.{Fields, none, index, part, block, port, field, extended, payload, spell_fields, spell}
 use Rattle.bt_wire.specs.Numbers.{be32}
-use Rattle.bt_wire.specs.Streams.{Outcome, IsVerdict, with_item}
+use Rattle.bt_wire.specs.Streams.{Outcome, with_item}
 use Rattle.bt_wire.proofs.HandLaws.{hand-length}
 use Rattle.bt_wire.proofs.HeaderLaws.{whole_there}
 use Rattle.bt_wire.proofs.NumberLaws.{number32-be32}
@@ -97,11 +97,10 @@ pub record IsTakenSoFar (own : Own) (lines : List (List ℕ)) (b : List ℕ) (f 
 pub taken_so_far : (own : Own) (lines : List (List ℕ)) (b : List ℕ) (f : FeedState) → (h : IsPackedTo own lines b f) → (v : Outcome)
     × IsTakenSoFar own lines b f h.items v
 taken_so_far own lines b f h =
-    let last = by_early f.stage (early f.stage []) (omega (arith, h.limit, h.bound)) refl in
-    let P : List ℕ → Type 0 = λ l. IsVerdict own l (with_items h.items last.0) in (
+    let last = by_early f.stage (early f.stage []) (omega (arith, h.limit, h.bound)) refl in (
       with_items h.items last.0,
       record {
-        taken = record { named = h.named; verdict = subst P (append-nil b) (h.comes [] last.0 last.1.comes); nothing_left = last.1.tail };
+        taken = record { named = h.named; verdict = rw (append-nil b) at (h.comes [] last.0 last.1.comes); nothing_left = last.1.tail };
         items = ap (λ (l : List (ℕ × Item)). h.items ++ l) last.1.items ∙ append-nil h.items;
         number = last.1.number;
         start = last.1.start;
@@ -209,24 +208,20 @@ line_taken own p text out f g j grown =
     let x = j.bytes in
     let is = j.judged in
     let item = is.0 in
-    let steps = after_number f.stage x (length x) item is.1 in
-    let R : FeedState → Type 0 = λ s. IsPackedTo own (p.lines ++ text ∷ []) (p.bytes ++ x) s in (
+    let steps = after_number f.stage x (length x) item is.1 in (
       x,
       grown,
-      subst R (sym is.2) (record {
+      (rw is.2 (record {
         named = named_more own.limit p.lines p.bytes text x h.named j.named;
         items = h.items ++ (start_of f.stage, item) ∷ [];
         comes = λ later v k.
-            let S : List ℕ → Type 0 = λ l. IsVerdict own l (with_items (h.items ++ (start_of f.stage, item) ∷ []) v) in
-            let T : List (ℕ × Item) → Type 0 = λ l. IsVerdict own (p.bytes ++ (x ++ later)) (record v { items = l }) in
-            subst S (sym (append_assoc p.bytes x later)) (subst T (sym (append_assoc h.items ((start_of f.stage, item) ∷ []) v.items))
-            (h.comes (x ++ later) (with_item (start_of f.stage) item v) (item_comes f.stage x later item v (omega (arith, h.limit, h.bound)) is.1 k)));
+            (rw (sym (append_assoc p.bytes x later)) at (rw (sym (append_assoc h.items ((start_of f.stage, item) ∷ []) v.items)) at (h.comes (x ++ later) (with_item (start_of f.stage) item v) (item_comes f.stage x later item v (omega (arith, h.limit, h.bound)) is.1 k))));
         empty = refl;
         first = steps.1 ∙ sym (some_lines p.lines text);
         count = steps.0 ∙ omega (arith, h.count, length-append p.lines (text ∷ []));
         limit = steps.2 ∙ h.limit;
         bound = h.bound;
-      }),
+      })),
     )
 
 pub line_refused : (own : Own) (p : Packing) (text : List ℕ) (f g : FeedState) (reason : WireReason) → IsLineJudged own p text f g (Err reason)
@@ -267,21 +262,16 @@ first_flag own lines b f n h e = ap (λ (k : ℕ). eqb k 0) (e ∙ h.count) ∙ 
 pub read_as : (limit : ℕ) (first flag : Bool) (text old new : List ℕ) (ok : Bool) → ok ≡ true → first ≡ flag → length text ≤ 2 * limit + 256
     → IsAdded first text old new ok → IsNamedAfter limit flag text old new
 read_as limit first flag text old new ok e same short h =
-    let P : Bool → Type 0 = λ o. IsAdded first text old new o in
-    let line = subst P e h in
-    let Q : Bool → Type 0 = λ f. IsLine f text line.0 in
-    record { bytes = line.0; named = record { short = short; line = subst Q same line.1 }; joined = line.2 }
+    let line = rw e at h in
+    record { bytes = line.0; named = record { short = short; line = (rw same at line.1) }; joined = line.2 }
 
 pub not_read : (limit : ℕ) (first flag : Bool) (text old new : List ℕ) (ok : Bool) → ok ≡ false → first ≡ flag → IsAdded first text old new ok
     → ((x : List ℕ) → IsNamed limit flag text x → ⊥) × (new ≡ old)
 not_read limit first flag text old new ok e same h =
-    let P : Bool → Type 0 = λ o. IsAdded first text old new o in
-    let Q : Bool → Type 0 = λ f. (x : List ℕ) → IsNamed limit f text x → ⊥ in
-    let no = subst P e h in
-    (subst Q same (λ x n. no.0 x n.line), no.1)
+    let no = rw e at h in
+    ((rw (← same) (λ x n. no.0 x n.line)), no.1)
 
 pub no_line : (own_limit limit : ℕ) (first flag : Bool) (text : List ℕ) → limit ≡ own_limit → first ≡ flag
     → ((bytes : List ℕ) → length text ≤ 2 * limit + 256 → IsLine first text bytes → ⊥) → (x : List ℕ) → IsNamed own_limit flag text x → ⊥
 no_line own_limit limit first flag text e same not_one =
-    let Q : Bool → Type 0 = λ f. (x : List ℕ) → IsNamed own_limit f text x → ⊥ in
-    subst Q same (λ x n. not_one x (omega (arith, n.short, e)) n.line)
+    (rw (← same) (λ x n. not_one x (omega (arith, n.short, e)) n.line))

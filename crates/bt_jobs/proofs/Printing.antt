@@ -115,9 +115,7 @@ read_more {own} {b} {bytes} {lost} {xs} {ys} {f} {g} {v} none free r p = record 
   comes = λ later w k.
       let more : b ++ (bytes ++ later) ≡ (b ++ (bytes ++ lost)) ++ later =
       sym (append_assoc b bytes later) ∙ ap (λ (l : List ℕ). (b ++ l) ++ later) (sym (append-nil bytes) ∙ ap (λ (l : List ℕ). bytes ++ l) (sym none)) in
-      let P : List ℕ → Type 0 = λ l. IsVerdict own l (with_items (xs ++ ys) w) in
-      let Q : List (ℕ × Item) → Type 0 = λ l. IsVerdict own (b ++ (bytes ++ later)) (record w { items = l }) in
-      subst P more (subst Q (sym (append_assoc xs ys w.items)) (r.comes (bytes ++ later) (with_items ys w) (p.fed.comes later w k)));
+      (rw more at (rw (sym (append_assoc xs ys w.items)) at (r.comes (bytes ++ later) (with_items ys w) (p.fed.comes later w k))));
   now = with_items xs v;
   is = total own b xs f g bytes lost ys v r p;
   items = ap (λ (l : List (ℕ × Item)). xs ++ l) p.items;
@@ -225,14 +223,13 @@ texts_both form own xs ys = flat_map-append (text_of form own) xs ys
 -- a new feed
 pub starts : (own : Own) (f : FeedState) → own.limit ≤ 1048576 → f ≡ record { stage = stage.Handshake own; held = []; refused = None } → IsReadTo own [] [] f
 starts own f le e =
-    let P : FeedState → Type 0 = λ s. IsReadTo own [] [] s in
-    subst P (sym e) (record {
+    (rw e (record {
       comes = λ later v k. k;
       now = stopped (stage.Handshake own) [] None;
       is = open_comes (stage.Handshake own) [] (omega (arith, le)) (hand_open own);
       items = refl;
       unrefused = refl;
-    })
+    }))
 
 -- what was written before, and a turn more
 pub record IsToldTo (form : Form) (own : Own) (left left' held held' : Option (List ℕ)) (f : FeedState) (p : Printer) : Type 0 where
@@ -267,8 +264,7 @@ pumped_unrefused seen own f old new le is h =
     elim h [
       | inl e ↦ (old, nothing_unrefused own (seen old).left le, omega (arith, e))
       | inr o ↦
-          let P : FeedState → Type 0 = λ g. IsOpenTo g (seen old) (seen o.0) in
-          (o.0, subst P is o.1, o.2)
+          (o.0, rw is at o.1, o.2)
     ]
 
 joined : (form : Form) (own : Own) (a b c : Option (List ℕ)) (xs ys : List (ℕ × Item)) → Appends a b (texts form own xs) → Appends b c (texts form own ys)
@@ -280,8 +276,7 @@ pub told_more : {form : Form} {own : Own} {left held : Option (List ℕ)} {f : F
     → IsTurn (form_of p) own (so_far t.bytes t.items) before (turn_end after g q) (Ok None)
     → IsToldTo form own left after.source.left held after.target.held g q
 told_more {form} {own} {left} {held} {f} {p} before after g q t n =
-    let P : Form → Type 0 = λ x. IsTurn x own (so_far t.bytes t.items) before (turn_end after g q) (Ok None) in
-    let m = subst P t.form_is n in
+    let m = rw t.form_is at n in
     record {
       bytes = t.bytes ++ m.0;
       items = t.items ++ m.1;
@@ -297,14 +292,12 @@ pub told_end : {form : Form} {own : Own} {left held : Option (List ℕ)} {f : Fe
     → IsTurn (form_of p) own (so_far t.bytes t.items) before (turn_end after g q) (Ok (Some e))
     → ((b : List ℕ) × Consumes left after.source.left b × IsAllWritten (items_in form own) own b held after.target.held e) × (text_in q ≡ [])
 told_end {form} {own} {left} {held} {f} {p} before after g q e t n =
-    let P : Form → Type 0 = λ x. IsTurn x own (so_far t.bytes t.items) before (turn_end after g q) (Ok (Some e)) in
-    let m = subst P t.form_is n in
-    let v = m.4.0 in
-    let Q : List (ℕ × Item) → Type 0 = λ xs. Appends held after.target.held (texts form own xs) in (
+    let m = rw t.form_is at n in
+    let v = m.4.0 in (
       (
         t.bytes ++ m.0,
         Consumes-trans left before.source.left after.source.left t.bytes m.0 t.consumed m.2,
-        (v, m.4.1, subst Q (sym m.4.2) (joined form own held before.target.held after.target.held t.items m.1 t.written m.3), m.4.3),
+        (v, m.4.1, rw (sym m.4.2) at (joined form own held before.target.held after.target.held t.items m.1 t.written m.3), m.4.3),
       ),
       m.6,
     )
@@ -325,8 +318,7 @@ pub told_fault : {form : Form} {own : Own} {f : FeedState} {p : Printer} (start 
     → IsTurn (form_of p) own (so_far t.bytes t.items) before (turn_end after g q) (Err e)
     → (b : List ℕ) × Consumes start.source.left after.source.left b × IsFrontWritten (items_in form own) (items_in form own) own b start after
 told_fault {form} {own} {f} {p} start before after g q e t n =
-    let P : Form → Type 0 = λ x. IsTurn x own (so_far t.bytes t.items) before (turn_end after g q) (Err e) in
-    let m = subst P t.form_is n in (
+    let m = rw t.form_is at n in (
       t.bytes ++ m.0,
       Consumes-trans start.source.left before.source.left after.source.left t.bytes m.0 t.consumed m.1,
       λ w is.
@@ -434,28 +426,22 @@ pub record IsVerdictSaid (p : List ℕ) (own : Own) (before after : Devices) (e 
 said_verdict : (p : List ℕ) (own : Own) (before after : Devices) (e : Ended) (r : Result Ended ToolFault) → (h : IsVerdictSaid p own before after e r)
     → IsVerdict own h.bytes h.now × (e ≡ ended_as h.now (length h.bytes))
 said_verdict p own before after e r h =
-    let F : FeedState → Type 0 = λ g. Comes g.stage (g.held ++ h.bytes) h.now in
-    let is : IsVerdict own h.bytes h.now = subst F h.new h.comes in
+    let is : IsVerdict own h.bytes h.now = rw h.new at h.comes in
     (is, h.ended ∙ ap (λ (n : ℕ). ended_as h.now n) (verdict_length own h.bytes h.now is))
 
 pub checked_all : (p : List ℕ) (own : Own) (before after : Devices) (e : Ended) (r : Result Ended ToolFault) → IsVerdictSaid p own before after e r
     → IsWritten nothing (prefixed p) own before after r
 checked_all p own before after e (Ok a) h =
     let s = said_verdict p own before after e (Ok a) h in
-    let P : Ended → Type 0 = λ x. Appends before.target.held after.target.held (p ++ verdict_line x) in
-    (h.bytes, h.consumed, (h.now, s.0, subst P s.1 h.written.1, h.written.0 ∙ s.1))
+    (h.bytes, h.consumed, (h.now, s.0, rw s.1 at h.written.1, h.written.0 ∙ s.1))
 checked_all p own before after e (Err x) h =
     let b = h.bytes in
     let s = said_verdict p own before after e (Err x) h in (
       b,
       h.consumed,
       λ w isw.
-          let P : Ended → Type 0 = λ x. MayBeTold (EndRead before.source after.source) x
-          × AppendsPrefix before.target.held after.target.held (p ++ verdict_line x) in
-          let Q : Outcome → Type 0 = λ u. MayBeTold (EndRead before.source after.source) (ended_as u (length b))
-          × AppendsPrefix before.target.held after.target.held (p ++ verdict_line (ended_as u (length b))) in
           let limit = h.limit in
-          inr (subst Q (h.one own b h.now w (omega (arith, limit)) s.0 isw) (subst P s.1 (h.told, h.written))),
+          inr (rw (← h.one own b h.now w (omega (arith, limit)) s.0 isw) (rw (← s.1) (h.told, h.written))),
     )
 
 -- the answer is this verdict, which may be told, or a write failed

@@ -58,7 +58,9 @@ pub fn pack_hint(alloc: Global, end: PackEnd, text: &[u8], is_all: bool) -> Opti
             reason: ScriptReason::Syntax,
         } => {
             let line = line_at(text, number, is_all)?;
-            let misfit = find_misfit(alloc, line, number == 1)?;
+            let Ok(Some(misfit)) = find_misfit(alloc, line, number == 1) else {
+                return None;
+            };
             push_misfit_line(number, misfit, &mut hint).ok()?;
             Some(hint)
         }

@@ -254,7 +254,7 @@ stops_by : (t : List ℕ) → ends t ≡ true → Stops t
 stops_by [] h = tt
 stops_by (c ∷ cs) h = eqb-true c 32 h
 
-ends_after : (t : List ℕ) → ends (after_word t) ≡ true
+pub ends_after : (t : List ℕ) → ends (after_word t) ≡ true
 ends_after [] = refl
 ends_after (c ∷ cs) =
     elim (cases_Bool (c == 32)) [

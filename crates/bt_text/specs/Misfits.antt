@@ -1,7 +1,10 @@
 -- The first word of a script's line that can't stand in its place.
-use Rattle.std.specs.Prelude.{◌≡◌, ◌==◌, ◌⊎◌, if◌then◌else◌, ℕ, ◌+◌, Bool, true, false, List, [], ◌∷◌, ◌++◌, length, codes, decimal, None}
+use Rattle.std.specs.Prelude.{◌≡◌, ◌==◌, ◌⊎◌, if◌then◌else◌, ℕ, ◌+◌, Bool, true, false, List, [], ◌∷◌, ◌++◌, length, codes, decimal, Option, None, Some}
 use Rattle.std.specs.Char.{is_ascii_digit}
 use Rattle.std.specs.List.{AllPass}
+use Rattle.bt_wire.specs.declared.ids.Shape.{Shape}
+use Rattle.bt_wire.specs.declared.ids.Shape.TheVariants.{Nothing, Index, Part, Block, Field, Extended}
+use Rattle.bt_wire.specs.declared.ids.Shape.TheVariants as shapes
 use Rattle.bt_wire.specs.Ids.{ids, row_named}
 use Rattle.bt_text.specs.Script.{IsLine}
 use Rattle.bt_text.specs.ScriptReading.{word_of}
@@ -29,6 +32,16 @@ sample End = []
 abbrev pub samples : List Expected → List ℕ
 samples [] = []
 samples (e ∷ es) = codes " " ++ (sample e ++ samples es)
+
+-- what is expected after the name of a message, by the shape of its fields
+abbrev pub expected_of : Shape → List Expected
+expected_of Nothing = []
+expected_of Index = Number ∷ []
+expected_of Part = Number ∷ Number ∷ Number ∷ []
+expected_of Block = Number ∷ Number ∷ Bytes ∷ []
+expected_of shapes.Port = Port ∷ []
+expected_of Field = Bytes ∷ []
+expected_of Extended = Byte ∷ Bytes ∷ []
 
 abbrev pub expected_words : Expected → List ℕ
 expected_words Handshake = codes "the word handshake"
@@ -70,6 +83,11 @@ pub data IsMisfit (first : Bool) (text : List ℕ) (m : Misfit) : Type 0 where
   missing : (after : List Expected) → IsCompleted first text (m.expected ∷ after) → m.column ≡ length text + 1 → IsMisfit first text m
   too_many : (front : List ℕ) → (rest : List ℕ) → text ≡ front ++ (codes " " ++ rest) → IsCompleted first front [] → m.expected ≡ End
       → m.column ≡ length front + 2 → IsMisfit first text m
+
+-- there is such a word, or the text is a line
+abbrev pub IsMisfitOr : Bool → List ℕ → Option Misfit → Type 0
+IsMisfitOr first text None = (bytes : List ℕ) × IsLine first text bytes
+IsMisfitOr first text (Some m) = IsMisfit first text m
 
 -- ---- its line
 

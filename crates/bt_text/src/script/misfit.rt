@@ -1,6 +1,7 @@
 //! The first word of a script's line that can't stand in its place, and what is expected there.
-ghost use Rattle.std.specs.Prelude.{◌≡◌, ◌++◌, codes, decimal, length, false, true, None, IfSome, OnOk};
-ghost use Rattle.bt_text.specs.Misfits.{sample as sample_of, samples, expected_words as words_of, IsCompleted, IsCompletedOr, IsNoName, IsMisfit, misfit_line as line_of, IsShortNumber, IsDecimalBlock, block_size as size_of_block, block_line as block_line_of};
+ghost use Rattle.std.specs.Prelude.{◌≡◌, ◌++◌, codes, decimal, length, false, true, None, IfOk, IfSome, MatchOption, OnOk};
+ghost use Rattle.bt_text.specs.Misfits.{sample as sample_of, samples, expected_words as words_of, IsCompleted, IsCompletedOr, expected_of as words_of_fields, IsNoName, IsMisfitOr, misfit_line as line_of, IsShortNumber, IsDecimalBlock, block_size as size_of_block, block_line as block_line_of};
+ghost use Rattle.bt_text.specs.ScriptReading.{ends};
 
 use crate::script::numbers::{is, split_word};
 use crate::script::reading::{read_line, row_of};
@@ -75,22 +76,27 @@ fn push_samples(expected: &[Expected], line: &mut Vec<u8>) -> Result<(), AllocEr
 }
 
 /// Returns whether these words, with samples of the expected ones, are a line.
-///
-/// `None` when out of memory.
-fn is_completed(alloc: Global, front: &[u8], expected: &[Expected], first: bool) -> Option<bool>
-    ensures { IfSome result (IsCompletedOr first front.now expected.now) }
+fn is_completed(
+    alloc: Global,
+    front: &[u8],
+    expected: &[Expected],
+    first: bool,
+) -> Result<bool, AllocError>
+    ensures { IfOk result (IsCompletedOr first front.now expected.now) }
 {
-    let mut line = Vec::from_slice(alloc, front).ok()?;
-    push_samples(expected, &mut line).ok()?;
+    let mut line = Vec::from_slice(alloc, front)?;
+    push_samples(expected, &mut line)?;
     if line.len() as u64 >= 1 << 32 {
-        return None;
+        return Err(AllocError);
     }
     let mut bytes = Vec::new(alloc);
-    read_line(line.as_slice(), first, &mut bytes).ok()
+    read_line(line.as_slice(), first, &mut bytes)
 }
 
 /// Returns what is expected after the name of a message, by the shape of its fields.
-fn words_of_shape(shape: Shape) -> &'static [Expected] {
+fn words_of_shape(shape: Shape) -> &'static [Expected]
+    ensures { result.now ≡ words_of_fields shape }
+{
     match shape {
         Shape::Nothing => &[],
         Shape::Index => &[Expected::Number],
@@ -104,7 +110,7 @@ fn words_of_shape(shape: Shape) -> &'static [Expected] {
 
 /// Returns what is expected after a message's name; `None` if no message has it.
 fn words_of_message(name: &[u8]) -> Option<&'static [Expected]>
-    ensures { result ≡ None → IsNoName false name.now }
+    ensures { MatchOption result (IsNoName false name.now) (λ es. IsCompleted false name.now es.now) }
 {
     if is(name, b"keep-alive") {
         return Some(&[]);
@@ -118,7 +124,7 @@ fn words_of_message(name: &[u8]) -> Option<&'static [Expected]>
 
 /// Returns what is expected after a line's name; `None` if no such line has it.
 fn words_after(name: &[u8], first: bool) -> Option<&'static [Expected]>
-    ensures { result ≡ None → IsNoName first name.now }
+    ensures { MatchOption result (IsNoName first name.now) (λ es. IsCompleted first name.now es.now) }
 {
     if !first {
         return words_of_message(name);
@@ -137,65 +143,61 @@ fn follow(
     text: &[u8],
     expected: &[Expected],
     first: bool,
-) -> Option<Misfit>
-    requires { IsCompleted first front.old.items expected.now }
-    ensures { IfSome result (IsMisfit first (front.old.items ++ text.now)) }
+) -> Result<Option<Misfit>, AllocError>
+    requires completed { IsCompleted first front.old.items expected.now }
+    requires ends { ends text.now ≡ true }
+    ensures { IfOk result (IsMisfitOr first (front.old.items ++ text.now)) }
 {
     let mut rest = text;
     for k in 0..expected.len() {
         let column = front.len() as u64 + 1;
-        let Some((space, tail)) = rest.split_first() else {
-            return Some(Misfit {
+        let Some((_, tail)) = rest.split_first() else {
+            return Ok(Some(Misfit {
                 column,
                 expected: expected[k],
-            });
+            }));
         };
-        if *space != b' ' {
-            return None;
-        }
         let (word, next) = split_word(tail);
-        front.push(b' ').ok()?;
-        front.extend_from_slice(word).ok()?;
+        front.push(b' ')?;
+        front.extend_from_slice(word)?;
         if !is_completed(alloc, front.as_slice(), &expected[k + 1..], first)? {
-            return Some(Misfit {
+            return Ok(Some(Misfit {
                 column: column + 1,
                 expected: expected[k],
-            });
+            }));
         }
         rest = next;
     }
-    let (space, _) = rest.split_first()?;
-    if *space != b' ' {
-        return None;
+    if rest.is_empty() {
+        return Ok(None);
     }
-    Some(Misfit {
+    Ok(Some(Misfit {
         column: front.len() as u64 + 2,
         expected: Expected::End,
-    })
+    }))
 }
 
-/// Returns the first word of a line that can't stand there.
+/// Returns the first word of a text that can't stand there; `None` if the text is a line.
 ///
-/// It is named by its column and by what is expected in its place. `first` says that the line is the first of its script. `None`
-/// if the text is a line, or when out of memory.
-pub fn find_misfit(alloc: Global, text: &[u8], first: bool) -> Option<Misfit>
-    ensures { IfSome result (IsMisfit first text.now) }
+/// It is named by its column and by what is expected in its place. `first` says that the line is the first of its script.
+///
+/// # Errors
+/// `AllocError` when out of memory, or if the text has 2^32 - 256 bytes or more.
+pub fn find_misfit(alloc: Global, text: &[u8], first: bool) -> Result<Option<Misfit>, AllocError>
+    ensures { IfOk result (IsMisfitOr first text.now) }
 {
     let (name, rest) = split_word(text);
     let Some(expected) = words_after(name, first) else {
-        return Some(Misfit {
+        return Ok(Some(Misfit {
             column: 1,
             expected: if first {
                 Expected::Handshake
             } else {
                 Expected::Name
             },
-        });
+        }));
     };
-    let mut front = Vec::from_slice(alloc, name).ok()?;
-    if !is_completed(alloc, front.as_slice(), expected, first)? {
-        return None;
-    }
+    let mut front = Vec::from_slice(alloc, name)?;
     follow(alloc, &mut front, rest, expected, first)
 }
 

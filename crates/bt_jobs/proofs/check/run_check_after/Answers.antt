@@ -1,8 +1,6 @@
-use Rattle.std.proofs.Common.{◌-◌, ◌++◌, [], Err, refl, subst, arith}
+use Rattle.std.proofs.Common.{◌-◌, ◌++◌, [], refl, arith}
 use Rattle.std.proofs.KnownBytes.{Consumes-nil}
-use Rattle.bt_feed.specs.declared.pumping.PumpError.{PumpError}
-use Rattle.bt_io.specs.Seen.{devices, EndRead}
-use Rattle.bt_feed.specs.Pumps.{IsPumpEnd, IsEnd}
+use Rattle.bt_io.specs.Seen.{devices}
 use Rattle.bt_text.specs.declared.ended.Ended.TheVariants.{Accepted, Refused}
 use Rattle.bt_text.specs.declared.ended.ToolFault.TheVariants as fault
 use Rattle.bt_jobs.specs.Printed.{prefixed}
@@ -32,9 +30,7 @@ returns-in-Ok-pump_with-clause-checked g c =
 pub returns-in-Err-Refused-clause-checked : goal.returns-in-Err-Refused-clause-checked
 returns-in-Err-Refused-clause-checked g c =
     let m = c.in-Err-Refused.ensures.moved in
-    let P : PumpError → Type 0 = λ e. IsPumpEnd c.in-Ok.feed m.0 m.1 m.2 c.pump_with.new.feed (Err e) in
-    let R : PumpError → Type 0 = λ e. IsEnd (Err e) → EndRead (g.R.Source.seen c.args.reader.now) (g.R.Source.seen c.pump_with.new.reader) in
-    let end = subst P c.in-Err-Refused.field-0-is m.5 in
+    let end = rw c.in-Err-Refused.field-0-is at m.5 in
     checked_all c.args.prefix.now c.args.own.now (devices (g.R.Source.seen c.args.reader.now) (g.W.Target.seen c.args.writer.now))
     (devices (g.R.Source.seen c.pump_with.new.reader) (g.W.Target.seen c.say_after-in-Err-Refused.new.writer))
     (Refused c.in-Err-Refused.refusal) c.say_after-in-Err-Refused.result (record {
@@ -47,7 +43,7 @@ returns-in-Err-Refused-clause-checked g c =
       new = c.in-Ok.ensures.ok;
       comes = end.1.comes;
       ended = is_refused end.0 c.in-Err-Refused.refusal end.3;
-      told = subst R c.in-Err-Refused.field-0-is c.in-Err-Refused.ensures.end;
+      told = rw c.in-Err-Refused.field-0-is at c.in-Err-Refused.ensures.end;
       written = c.say_after-in-Err-Refused.ensures.written;
     })
 
@@ -95,9 +91,8 @@ returns-in_default-clause-checked g c = nothing_checked (prefixed c.args.prefix.
 
 pub returns-in-Err-Refused-clause-faults : goal.returns-in-Err-Refused-clause-faults
 returns-in-Err-Refused-clause-faults g c =
-    let R : PumpError → Type 0 = λ e. IsEnd (Err e) → EndRead (g.R.Source.seen c.args.reader.now) (g.R.Source.seen c.pump_with.new.reader) in
     end_of_said (Refused c.in-Err-Refused.refusal) _ _ _ _ (g.R.Source.seen c.args.reader.now) (g.R.Source.seen c.pump_with.new.reader)
-    c.say_after-in-Err-Refused.result (subst R c.in-Err-Refused.field-0-is c.in-Err-Refused.ensures.end) c.say_after-in-Err-Refused.ensures.written
+    c.say_after-in-Err-Refused.result (rw c.in-Err-Refused.field-0-is at c.in-Err-Refused.ensures.end) c.say_after-in-Err-Refused.ensures.written
     c.say_after-in-Err-Refused.ensures.fault
 
 pub returns-in-Ok-pump_with-clause-faults : goal.returns-in-Ok-pump_with-clause-faults

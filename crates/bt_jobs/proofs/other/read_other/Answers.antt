@@ -1,10 +1,8 @@
-use Rattle.std.proofs.Common.{Bool, Ok, [], refl, subst, ap, ◌∙◌, arith}
+use Rattle.std.proofs.Common.{Bool, Ok, [], refl, ap, ◌∙◌, arith}
 use Rattle.std.proofs.KnownBytes.{Consumes-nil}
 use Rattle.std.proofs.Common.{None}
 use Rattle.bt_feed.specs.declared.stage.Stage.TheVariants as stage
 use Rattle.bt_text.specs.declared.ended.ToolFault.TheVariants as fault
-use Rattle.bt_jobs.specs.Printed.{so_far}
-use Rattle.bt_jobs.specs.Others.{IsTurnHeard}
 use Rattle.bt_jobs.proofs.Hearing.{AreLaws, listening_first, listening_more, learnt, not_learnt, fault_of_turn, no_fault, read_failed, grew_since, waits}
 use Rattle.bt_jobs.proofs.Hearing.{nothing_read}
 use Rattle.bt_jobs.proofs.other.read_other.Goals as goal
@@ -22,9 +20,7 @@ loop-turn-init g c = record {
 pub loop-turn-preserved : goal.loop-turn-preserved
 loop-turn-preserved g c =
     let t = c.loop-turn.invariant.heard in
-    let P : Bool → Type 0 = λ k. IsTurnHeard (so_far t.bytes t.items) (g.R.Source.seen c.loop-turn.reader) (g.R.Source.seen c.turn.new.reader)
-    c.turn.new.feed c.turn.new.listener (Ok k) in
-    let more = subst P c.in-Ok-false.field-0-test (c.in-Ok-false.ensures.heard t.bytes t.items t.listening) in
+    let more = rw c.in-Ok-false.field-0-test at (c.in-Ok-false.ensures.heard t.bytes t.items t.listening) in
     let end = c.in-Ok-false.ensures.turns (ap (λ (k : Bool). Ok k) c.in-Ok-false.field-0-test) in
     record {
       reads = omega (arith, end.0, c.loop-turn.invariant.reads);
@@ -38,9 +34,7 @@ loop-turn-preserved g c =
 pub returns-in-Ok-true-clause-learnt : goal.returns-in-Ok-true-clause-learnt
 returns-in-Ok-true-clause-learnt g c =
     let t = c.loop-turn.invariant.heard in
-    let P : Bool → Type 0 = λ k. IsTurnHeard (so_far t.bytes t.items) (g.R.Source.seen c.loop-turn.reader) (g.R.Source.seen c.turn.new.reader)
-    c.turn.new.feed c.turn.new.listener (Ok k) in
-    let end = subst P c.in-Ok-true.field-0-test (c.in-Ok-true.ensures.heard t.bytes t.items t.listening) in
+    let end = rw c.in-Ok-true.field-0-test at (c.in-Ok-true.ensures.heard t.bytes t.items t.listening) in
     let laws : AreLaws = record { one = c.one_verdict.ensures.one; refused = c.one_verdict.ensures.refused; items = c.one_verdict.ensures.items } in
     learnt (g.R.Source.seen c.args.reader.now) (g.R.Source.seen c.loop-turn.reader) (g.R.Source.seen c.turn.new.reader) c.turn.new.feed
     c.turn.new.listener laws t end (grew_since _ _ _ c.loop-turn.invariant.ends) c.answer.ensures

@@ -1,9 +1,5 @@
-use Rattle.std.proofs.Common.{ℕ, Err, inr, subst}
-use Rattle.bt_io.specs.Seen.{EndRead}
-use Rattle.bt_feed.specs.declared.pumping.PumpError.{PumpError}
-use Rattle.bt_feed.specs.Pumps.{IsPumpEnd, IsGiven, IsEnd}
+use Rattle.std.proofs.Common.{inr}
 use Rattle.bt_jobs.specs.Printed.{so_far}
-use Rattle.bt_jobs.specs.Others.{Hears}
 use Rattle.bt_jobs.proofs.Hearing.{ended, turned, refused_or_ended}
 use Rattle.bt_jobs.proofs.other.turn.Goals as goal
 
@@ -26,10 +22,7 @@ returns-in-Ok-clause-heard g c = λ b xs r.
 pub returns-in-Err-Refused-clause-heard : goal.returns-in-Err-Refused-clause-heard
 returns-in-Err-Refused-clause-heard g c = λ b xs r.
     let m = c.in-Err-Refused.ensures.moved in
-    let P : PumpError → Type 0 = λ e. IsPumpEnd c.args.feed.now m.0 m.1 m.2 c.pump_with.new.feed (Err e) in
-    let Q : PumpError → Type 0 = λ e. IsGiven {A = ℕ} Hears (λ _ _ _ _. ⊥) c.args.listener.now m.2 c.pump_with.new.sink (Err e) in
-    let R : PumpError → Type 0 = λ e. IsEnd (Err e) → EndRead (g.R.Source.seen c.args.reader.now) (g.R.Source.seen c.pump_with.new.reader) in
-    let end = subst P c.in-Err-Refused.field-0-is m.5 in
+    let end = rw c.in-Err-Refused.field-0-is at m.5 in
     ended (so_far b xs) c.args.feed.now c.pump_with.new.feed (g.R.Source.seen c.args.reader.now) (g.R.Source.seen c.pump_with.new.reader) c.args.listener.now
     c.pump_with.new.sink (record {
       listening = r;
@@ -38,16 +31,14 @@ returns-in-Err-Refused-clause-heard g c = λ b xs r.
       given = m.2;
       now = end.0;
       consumed = m.3;
-      took = subst Q c.in-Err-Refused.field-0-is m.4;
+      took = rw c.in-Err-Refused.field-0-is at m.4;
       pumped = end.1;
-    }) (refused_or_ended _ end.0 _ end.3 (subst R c.in-Err-Refused.field-0-is c.in-Err-Refused.ensures.end))
+    }) (refused_or_ended _ end.0 _ end.3 (rw c.in-Err-Refused.field-0-is at c.in-Err-Refused.ensures.end))
 
 pub returns-in-Err-Turns-clause-heard : goal.returns-in-Err-Turns-clause-heard
 returns-in-Err-Turns-clause-heard g c = λ b xs r.
     let m = c.in-Err-Turns.ensures.moved in
-    let P : PumpError → Type 0 = λ e. IsPumpEnd c.args.feed.now m.0 m.1 m.2 c.pump_with.new.feed (Err e) in
-    let Q : PumpError → Type 0 = λ e. IsGiven {A = ℕ} Hears (λ _ _ _ _. ⊥) c.args.listener.now m.2 c.pump_with.new.sink (Err e) in
-    let end = subst P c.in-Err-Turns.field-0-is m.5 in
+    let end = rw c.in-Err-Turns.field-0-is at m.5 in
     turned (so_far b xs) c.args.feed.now c.pump_with.new.feed (g.R.Source.seen c.args.reader.now) (g.R.Source.seen c.pump_with.new.reader) c.args.listener.now
     c.pump_with.new.sink c.knows_all.result (record {
       listening = r;
@@ -56,6 +47,6 @@ returns-in-Err-Turns-clause-heard g c = λ b xs r.
       given = m.2;
       now = end.0;
       consumed = m.3;
-      took = subst Q c.in-Err-Turns.field-0-is m.4;
+      took = rw c.in-Err-Turns.field-0-is at m.4;
       pumped = end.1;
     }) (c.knows_all.ensures.yes, c.knows_all.ensures.no) (end.2, end.3)

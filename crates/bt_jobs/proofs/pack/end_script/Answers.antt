@@ -1,6 +1,4 @@
-use Rattle.std.proofs.Common.{◌∙◌, Option, subst, arith}
-use Rattle.bt_jobs.specs.PackSteps.{packing, IsLineEnd}
-use Rattle.bt_text.specs.declared.ended.ScriptReason.{ScriptReason}
+use Rattle.std.proofs.Common.{◌∙◌, arith}
 use Rattle.bt_jobs.proofs.PackPieces.{end_empty, end_line, end_stop}
 use Rattle.bt_jobs.proofs.pack.end_script.Goals as goal
 
@@ -11,15 +9,11 @@ returns-then-line-eq0 c = λ own text lines b e h.
 
 pub returns-in-Ok-None : goal.returns-in-Ok-None
 returns-in-Ok-None c = λ own text lines b e h.
-    let P : Option ScriptReason → Type 0 = λ o. IsLineEnd own (packing lines b c.args.out.now.items) c.args.line.now c.take_line.new.judge
-    c.take_line.new.out.items o in
-    let end = subst P c.in-Ok-None.field-0-is (c.in-Ok-None.ensures own lines b e h.packed) in
+    let end = rw c.in-Ok-None.field-0-is at (c.in-Ok-None.ensures own lines b e h.packed) in
     end_line c.args.out.now.items c.take_line.new.out.items c.take_line.new.judge h (omega (arith, c.if-line-eq0.false)) end c.counts-in-Ok-None.ensures
 
 pub returns-in-Ok-Some : goal.returns-in-Ok-Some
 returns-in-Ok-Some c = λ own text lines b e h.
-    let P : Option ScriptReason → Type 0 = λ o. IsLineEnd own (packing lines b c.args.out.now.items) c.args.line.now c.take_line.new.judge
-    c.take_line.new.out.items o in
-    let end = subst P c.in-Ok-Some.field-0-is (c.in-Ok-Some.ensures own lines b e h.packed) in
+    let end = rw c.in-Ok-Some.field-0-is at (c.in-Ok-Some.ensures own lines b e h.packed) in
     end_stop c.args.out.now.items c.take_line.new.out.items c.take_line.new.judge c.in-Ok-Some.reason h (omega (arith, c.if-line-eq0.false)) end
     c.number-in-Ok-Some.ensures.value

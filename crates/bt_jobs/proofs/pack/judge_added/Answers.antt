@@ -1,11 +1,10 @@
-use Rattle.std.proofs.Common.{◌≡◌, ◌∙◌, ◌++◌, ◌-◌, Bool, true, false, List, ℕ, Result, Ok, Err, Some, length, drop, take, sym, ap, subst, arith}
+use Rattle.std.proofs.Common.{◌≡◌, ◌∙◌, ◌++◌, ◌-◌, Bool, true, false, List, ℕ, Result, Ok, Err, length, drop, take, ap, arith}
 use Rattle.std.proofs.lemmas.List.{length-drop, take_all}
 use Rattle.std.proofs.Math.Seq.{drop-append_seam, take-append_seam}
 use Rattle.bt_wire.specs.declared.fault.Reason.{Reason as WireReason}
 use Rattle.bt_wire.specs.declared.context.Own.{Own}
-use Rattle.bt_text.specs.declared.ended.ScriptReason.TheVariants.{Reason}
 use Rattle.bt_jobs.specs.Packs.{is_none}
-use Rattle.bt_jobs.specs.PackSteps.{packing, IsPackedTo, IsJudged, IsNamedAfter, IsLineEnd}
+use Rattle.bt_jobs.specs.PackSteps.{packing, IsPackedTo, IsNamedAfter}
 use Rattle.bt_jobs.proofs.Packing.{IsLineJudged, closes, line_taken, line_refused}
 use Rattle.bt_jobs.proofs.pack.judge_added.Goals.{After-take_item}
 use Rattle.bt_jobs.proofs.pack.judge_added.Goals as goal
@@ -21,14 +20,12 @@ line_judged c own lines b text old h at w r is =
     take_all (length whole - start) (drop start whole) (omega (arith, length-drop start whole)) in
     let joined : drop start whole ≡ w.bytes =
     ap (λ (l : List ℕ). drop start l) (c.as_slice-whole.ensures.value ∙ w.joined)
-    ∙ ap (λ (n : ℕ). drop n (old ++ w.bytes)) at ∙ drop-append_seam old w.bytes in
-    let P : List ℕ → Type 0 = λ l. IsJudged c.args.judge.now l c.take_item.new.self c.take_item.result in
-    let Q : Result Bool WireReason → Type 0 = λ z. IsJudged c.args.judge.now w.bytes c.take_item.new.self z in (
+    ∙ ap (λ (n : ℕ). drop n (old ++ w.bytes)) at ∙ drop-append_seam old w.bytes in (
       record {
         bytes = w.bytes;
         named = w.named;
         packed = h;
-        judged = subst Q is (subst P (tail ∙ joined) c.take_item.ensures);
+        judged = rw is at (rw (tail ∙ joined) at c.take_item.ensures);
       },
       w.joined,
     )
@@ -50,5 +47,4 @@ returns-in-Err c = λ own lines b text old h at w.
     let cut : c.truncate.new.self.items ≡ old =
     c.truncate.ensures.items ∙ ap (λ (l : List ℕ). take c.args.start l) j.1 ∙ ap (λ (n : ℕ). take n (old ++ j.0.bytes)) at
     ∙ take-append_seam old j.0.bytes in
-    let P : List ℕ → Type 0 = λ l. IsLineEnd own (packing lines b old) text c.take_item.new.self l (Some (Reason c.in-Err.reason)) in
-    subst P (sym cut) (line_refused own (packing lines b old) text c.args.judge.now c.take_item.new.self c.in-Err.reason j.0)
+    rw cut (line_refused own (packing lines b old) text c.args.judge.now c.take_item.new.self c.in-Err.reason j.0)

@@ -1,16 +1,13 @@
-use Rattle.std.proofs.Common.{rules, ◌≡◌, ◌∙◌, ◌++◌, ◌+◌, ℕ, List, [], Option, take, refl, sym, ap, subst, arith}
+use Rattle.std.proofs.Common.{rules, ◌≡◌, ◌∙◌, ◌++◌, ◌+◌, ℕ, [], take, refl, sym, ap, arith}
 use Rattle.std.proofs.KnownBytes.{Consumes-nil, Consumes-kept, Consumes-trans}
 use Rattle.std.proofs.lemmas.Bool.{ne_eqb}
-use Rattle.std.specs.Io.KnownBytes.{Consumes, Appends}
-use Rattle.bt_io.specs.Seen.{devices, EndRead, AppendsPrefix}
-use Rattle.bt_jobs.specs.Printed.{IsWrittenOut}
+use Rattle.bt_io.specs.Seen.{devices, EndRead}
 use Rattle.bt_feed.specs.Stages.{number_of}
 use Rattle.bt_text.specs.declared.ended.PackEnd.{PackEnd}
 use Rattle.bt_text.specs.declared.ended.PackEnd.TheVariants.{Refused}
-use Rattle.bt_text.specs.declared.ended.ScriptReason.{ScriptReason}
 use Rattle.bt_text.specs.declared.ended.ToolFault.TheVariants as fault
 use Rattle.bt_jobs.specs.Packs.{stopped}
-use Rattle.bt_jobs.specs.PackSteps.{packing, packer, IsReadSo, IsPieceRead}
+use Rattle.bt_jobs.specs.PackSteps.{packer}
 use Rattle.bt_jobs.proofs.PackRuns.{timely_at_end, timely_line, out_is, IsPieceMore, run_starts, run_more, run_fails, more_fails}
 use Rattle.bt_jobs.proofs.PackRuns.{packed_run, nothing_run, no_bytes, run_taken}
 use Rattle.bt_jobs.proofs.PackRuns.{nothing_taken}
@@ -42,11 +39,7 @@ pub returns-in-Ok-end_script-clause-packed : goal.returns-in-Ok-end_script-claus
 returns-in-Ok-end_script-clause-packed g c =
     let r = c.loop-turn.invariant.run in
     let none : c.in-Ok-eq0.field-0 ≡ 0 = omega (arith, c.in-Ok-eq0.field-0-test) in
-    let P : ℕ → Type 0 = λ k. Consumes (g.R.Source.seen c.loop-turn.reader).left (g.R.Source.seen c.read.new.self).left (take k c.read.new.into) in
-    let Q : List ℕ → Type 0 = λ l. IsReadSo c.args.own.now r.text r.lines r.bytes l c.loop-turn.judge in
-    let S : List ℕ → Type 0 = λ l. IsWrittenOut c.in-Ok-end_script.end l (g.W.Target.seen c.loop-turn.writer).held (g.W.Target.seen c.write_out.new.writer).held
-    c.write_out.result in
-    let end = c.in-Ok-end_script.ensures c.args.own.now r.text r.lines r.bytes refl (subst Q (sym c.as_slice.ensures.value) r.read) in
+    let end = c.in-Ok-end_script.ensures c.args.own.now r.text r.lines r.bytes refl (rw (sym c.as_slice.ensures.value) at r.read) in
     let AtEnd : Type 0 = EndRead (g.R.Source.seen c.args.reader.now) (g.R.Source.seen c.read.new.self) in
     let grew : AtEnd = search rules in
     packed_run c.args.own.now (devices (g.R.Source.seen c.args.reader.now) (g.W.Target.seen c.args.writer.now))
@@ -57,22 +50,21 @@ returns-in-Ok-end_script-clause-packed g c =
       first = r.bytes;
       last = end.0;
       held = (g.W.Target.seen c.loop-turn.writer).held;
-      consumed = no_bytes _ _ _ r.text r.consumed (subst P none c.in-Ok-eq0.ensures.bytes.0);
+      consumed = no_bytes _ _ _ r.text r.consumed (rw none at c.in-Ok-eq0.ensures.bytes.0);
       lines = end.2.1;
       packed = end.2.2;
       timely = timely_at_end c.args.own.now.limit r.text AtEnd c.in-Ok-end_script.end grew;
       before_last = r.written;
-      written = subst S (c.as_slice-in-Ok-end_script.ensures.value ∙ out_is _ _ end.0 c.loop-turn.invariant.empty end.1) c.write_out.ensures.written;
+      written = rw (c.as_slice-in-Ok-end_script.ensures.value ∙ out_is _ _ end.0 c.loop-turn.invariant.empty end.1) at c.write_out.ensures.written;
     })
 
 pub returns-in-Err-end_script-clause-packed : goal.returns-in-Err-end_script-clause-packed
 returns-in-Err-end_script-clause-packed g c =
     let none : c.in-Ok-eq0.field-0 ≡ 0 = omega (arith, c.in-Ok-eq0.field-0-test) in
-    let P : ℕ → Type 0 = λ k. Consumes (g.R.Source.seen c.loop-turn.reader).left (g.R.Source.seen c.read.new.self).left (take k c.read.new.into) in
     run_fails c.args.own.now (devices (g.R.Source.seen c.args.reader.now) (g.W.Target.seen c.args.writer.now))
     (devices (g.R.Source.seen c.loop-turn.reader) (g.W.Target.seen c.loop-turn.writer)) (g.R.Source.seen c.read.new.self)
     c.loop-turn.line.items [] c.loop-turn.judge fault.Memory c.loop-turn.invariant.run
-    (subst P none c.in-Ok-eq0.ensures.bytes.0)
+    (rw none at c.in-Ok-eq0.ensures.bytes.0)
 
 piece_more : (g : Over) (c : After-write_out-in-Ok-None g) → IsPieceMore c.args.own.now
     (devices (g.R.Source.seen c.args.reader.now) (g.W.Target.seen c.args.writer.now))
@@ -92,22 +84,17 @@ piece_more g c =
 
 pub returns-in-Err-write_out-clause-packed : goal.returns-in-Err-write_out-clause-packed
 returns-in-Err-write_out-clause-packed g c =
-    let S : List ℕ → Type 0 = λ l. AppendsPrefix (g.W.Target.seen c.loop-turn.writer).held (g.W.Target.seen c.write_out-in-Ok-None.new.writer).held l in
     more_fails c.args.own.now _ _ (devices (g.R.Source.seen c.read.new.self) (g.W.Target.seen c.write_out-in-Ok-None.new.writer)) _ _ c.in-Err-write_out.fault
     (piece_more g (goal.at.returns-in-Err-write_out-clause-packed g c).After-write_out-in-Ok-None)
-    (subst S c.as_slice-in-Ok-None.ensures.value c.in-Err-write_out.ensures.written)
+    (rw c.as_slice-in-Ok-None.ensures.value at c.in-Err-write_out.ensures.written)
 
 pub returns-in-Ok-Some-clause-packed : goal.returns-in-Ok-Some-clause-packed
 returns-in-Ok-Some-clause-packed g c =
     let r = c.loop-turn.invariant.run in
     let piece = take c.in-Ok-read.count c.read.new.into in
-    let P : Option ScriptReason → Type 0 = λ o. IsPieceRead c.args.own.now (r.text ++ piece)
-    (packing r.lines r.bytes c.loop-turn.out.items) (packer c.take_piece.new.line.items c.take_piece.new.judge c.take_piece.new.out.items) o in
-    let p = subst P c.in-Ok-Some.field-0-is (c.in-Ok-Some.ensures c.args.own.now r.text r.lines r.bytes refl r.read) in
+    let p = rw c.in-Ok-Some.field-0-is at (c.in-Ok-Some.ensures c.args.own.now r.text r.lines r.bytes refl r.read) in
     let number = number_of c.take_piece.new.judge.stage + 1 in
     let e : PackEnd = Refused (c.number-line.result + 1) c.in-Ok-Some.reason in
-    let S : List ℕ → Type 0 = λ l. IsWrittenOut e l (g.W.Target.seen c.loop-turn.writer).held (g.W.Target.seen c.write_out-in-Ok-Some.new.writer).held
-    c.write_out-in-Ok-Some.result in
     let same : e ≡ Refused number c.in-Ok-Some.reason = ap (λ (n : ℕ). Refused (n + 1) c.in-Ok-Some.reason) c.number-line.ensures.value in
     let AtEnd : Type 0 = EndRead (g.R.Source.seen c.args.reader.now) (g.R.Source.seen c.read.new.self) in
     packed_run c.args.own.now (devices (g.R.Source.seen c.args.reader.now) (g.W.Target.seen c.args.writer.now))
@@ -123,7 +110,7 @@ returns-in-Ok-Some-clause-packed g c =
       packed = stopped number c.in-Ok-Some.reason p.2.2 same;
       timely = timely_line c.args.own.now.limit (r.text ++ piece) AtEnd e number c.in-Ok-Some.reason same p.3;
       before_last = r.written;
-      written = subst S (c.as_slice-in-Ok-Some.ensures.value ∙ out_is _ _ p.0 c.loop-turn.invariant.empty p.1) c.write_out-in-Ok-Some.ensures.written;
+      written = rw (c.as_slice-in-Ok-Some.ensures.value ∙ out_is _ _ p.0 c.loop-turn.invariant.empty p.1) at c.write_out-in-Ok-Some.ensures.written;
     })
 
 pub returns-in-Err-take_piece-clause-packed : goal.returns-in-Err-take_piece-clause-packed
@@ -148,7 +135,6 @@ returns-clause-packed g c = run_fails c.args.own.now (devices (g.R.Source.seen c
 
 pub loop-turn-preserved : goal.loop-turn-preserved
 loop-turn-preserved g c =
-    let S : List ℕ → Type 0 = λ l. Appends (g.W.Target.seen c.loop-turn.writer).held (g.W.Target.seen c.write_out-in-Ok-None.new.writer).held l in
     record {
       reads = omega (arith, c.in-Ok-read.ensures.reads, c.loop-turn.invariant.reads);
       most = omega (arith, c.in-Ok-read.ensures.reads, c.loop-turn.invariant.most);
@@ -158,7 +144,7 @@ loop-turn-preserved g c =
       empty = c.clear.ensures.items;
       run = run_more c.args.own.now _ _ (devices (g.R.Source.seen c.read.new.self) (g.W.Target.seen c.write_out-in-Ok-None.new.writer)) _ _
           (piece_more g (goal.at.loop-turn-preserved g c).After-write_out-in-Ok-None)
-          (subst S c.as_slice-in-Ok-None.ensures.value c.in-Ok-write_out.ensures.written.1);
+          (rw c.as_slice-in-Ok-None.ensures.value at c.in-Ok-write_out.ensures.written.1);
     }
 
 pub returns-clause-turns : goal.returns-clause-turns

@@ -1,10 +1,10 @@
-use Rattle.std.proofs.Common.{◌≡◌, ◌∙◌, ◌++◌, Bool, Option, None, List, ℕ, [], length, true, refl, sym, ap, subst, arith, rules}
+use Rattle.std.proofs.Common.{◌≡◌, ◌∙◌, ◌++◌, Option, None, List, ℕ, [], length, true, refl, sym, ap, arith, rules}
 use Rattle.std.proofs.lemmas.List.{length-append}
 use Rattle.bt_wire.specs.declared.context.Own.{Own}
 use Rattle.bt_text.specs.declared.ended.ScriptReason.{ScriptReason}
 use Rattle.bt_text.specs.declared.ended.ScriptReason.TheVariants.{Syntax}
 use Rattle.bt_jobs.specs.Packs.{is_none}
-use Rattle.bt_jobs.specs.PackSteps.{Packing, packing, packer, IsLineEnd, IsDone, IsHeld}
+use Rattle.bt_jobs.specs.PackSteps.{Packing, packer, IsDone}
 use Rattle.bt_jobs.proofs.Packing.{first_flag, read_as, no_line, taken_so_far}
 use Rattle.bt_jobs.proofs.PackPieces.{IsLineRead, all_done, line_done, line_stops, rest_stops}
 use Rattle.bt_jobs.proofs.pack.take_lines.Goals.{After-judge_added, In-Unended}
@@ -20,8 +20,6 @@ line_read c own before p piece e start answer is =
     let s = rw c.in-Line.is at c.in_ok-append_front.ensures in
     let flag = first_flag own lines (p.bytes ++ d.named) c.lines.judge c.number.result d.read.packed c.number.ensures.value in
     let named = read_as own.limit _ (is_none lines) s.line c.lines.out.items c.append_front.new.out.items true refl flag (omega (arith, s.short, e)) s.added in
-    let P : Option ScriptReason → Type 0 = λ o. IsLineEnd own (packing lines (p.bytes ++ d.named) c.lines.out.items) s.line c.judge_added.new.judge
-    c.judge_added.new.out.items o in
     record {
       old = packer [] c.lines.judge c.lines.out.items;
       rest = c.lines.rest.now;
@@ -29,7 +27,7 @@ line_read c own before p piece e start answer is =
       before = d;
       cut = s.cut.0;
       none = s.cut.1;
-      end = subst P is (c.judge_added.ensures own lines (p.bytes ++ d.named) s.line c.lines.out.items d.read.packed (search rules) named);
+      end = rw is at (c.judge_added.ensures own lines (p.bytes ++ d.named) s.line c.lines.out.items d.read.packed (search rules) named);
     }
 
 pub returns-in-Some : goal.returns-in-Some
@@ -68,14 +66,12 @@ rest_done : (c : In-Unended) (own : Own) (before : List ℕ) (p : Packing) (piec
     → IsDone own before p piece c.lines.rest.now (packer [] c.lines.judge c.append_front.new.out.items)
 rest_done c own before p piece e start =
     let s = rw c.in-Unended.is at c.in_ok-append_front.ensures in
-    let Q : List ℕ → Type 0 = λ o. IsDone own before p piece c.lines.rest.now (packer [] c.lines.judge o) in
-    subst Q (sym s.1) (c.lines.invariant.taken own before p piece e start)
+    (rw (sym s.1) at (c.lines.invariant.taken own before p piece e start))
 
 pub returns-in-Unended : goal.returns-in-Unended
 returns-in-Unended c = λ own before p piece e start.
     let s = rw c.in-Unended.is at c.in_ok-append_front.ensures in
-    let P : Bool → Type 0 = λ o. IsHeld c.args.limit c.lines.line.items c.lines.rest.now c.hold.new.line.items o in
-    let held = subst P c.if-not-branch.false c.in_ok-hold-in-Unended.ensures in
+    let held = rw c.if-not-branch.false at c.in_ok-hold-in-Unended.ensures in
     all_done own before p piece c.lines.rest.now c.hold.new.line.items (packer [] c.lines.judge c.append_front.new.out.items)
     (rest_done (goal.at.returns-in-Unended c).In-Unended own before p piece e start) s.0
     (held.0 ∙ ap (λ (l : List ℕ). l ++ c.lines.rest.now) c.lines.invariant.empty)
@@ -83,8 +79,7 @@ returns-in-Unended c = λ own before p piece e start.
 pub returns-then-not-branch : goal.returns-then-not-branch
 returns-then-not-branch c = λ own before p piece e start.
     let s = rw c.in-Unended.is at c.in_ok-append_front.ensures in
-    let P : Bool → Type 0 = λ o. IsHeld c.args.limit c.lines.line.items c.lines.rest.now c.hold.new.line.items o in
-    let held = subst P c.if-not-branch.true c.in_ok-hold-in-Unended.ensures in
+    let held = rw c.if-not-branch.true at c.in_ok-hold-in-Unended.ensures in
     rest_stops own before p piece c.lines.rest.now c.hold.new.line.items (packer [] c.lines.judge c.append_front.new.out.items)
     (rest_done (goal.at.returns-then-not-branch c).In-Unended own before p piece e start) s.0
     (omega (arith, held.1, e, ap length c.lines.invariant.empty, length-append c.lines.line.items c.lines.rest.now))

@@ -1,8 +1,8 @@
-use Rattle.std.proofs.Common.{◌≡◌, ◌++◌, Bool, List, ℕ, [], Option, None, subst, arith}
+use Rattle.std.proofs.Common.{◌≡◌, ◌++◌, List, ℕ, [], Option, None, arith}
 use Rattle.std.proofs.lemmas.List.{nil_from_length}
 use Rattle.bt_wire.specs.declared.context.Own.{Own}
 use Rattle.bt_text.specs.declared.ended.ScriptReason.{ScriptReason}
-use Rattle.bt_jobs.specs.PackSteps.{packing, packer, IsReadSo, IsLineEnd, IsDone, IsHeld}
+use Rattle.bt_jobs.specs.PackSteps.{packing, packer, IsReadSo, IsLineEnd}
 use Rattle.bt_jobs.proofs.PackPieces.{IsLineRead, nothing_done, all_done, line_done, line_stops, rest_stops, ok_more}
 use Rattle.bt_jobs.proofs.pack.take_piece.Goals.{After-take_ended}
 use Rattle.bt_jobs.proofs.pack.take_piece.Goals as goal
@@ -10,15 +10,13 @@ use Rattle.bt_jobs.proofs.pack.take_piece.Goals as goal
 pub returns-then-len-eq0 : goal.returns-then-len-eq0
 returns-then-len-eq0 c =
     ok_more _ _ c.take_lines.result (λ answer k own text lines b e h.
-    let P : List ℕ → Type 0 = λ l. IsReadSo own text lines b l c.args.judge.now in
     let empty : c.args.line.now.items ≡ [] = nil_from_length c.args.line.now.items (omega (arith, c.if-len-eq0.true, c.len.ensures)) in
     k own text (packing lines b c.args.out.now.items) c.args.piece.now e
-    (nothing_done own text lines b c.args.piece.now [] c.args.judge.now c.args.out.now.items (subst P empty h))) c.take_lines.ensures
+    (nothing_done own text lines b c.args.piece.now [] c.args.judge.now c.args.out.now.items (rw empty at h))) c.take_lines.ensures
 
 pub returns-in_default : goal.returns-in_default
 returns-in_default c = λ own text lines b e h.
-    let P : Bool → Type 0 = λ o. IsHeld c.args.limit c.args.line.now.items c.args.piece.now c.hold.new.line.items o in
-    let held = subst P c.if-not-branch.false c.in_ok-hold.ensures in
+    let held = rw c.if-not-branch.false at c.in_ok-hold.ensures in
     all_done own text (packing lines b c.args.out.now.items) c.args.piece.now c.args.piece.now c.hold.new.line.items
     (packer c.args.line.now.items c.args.judge.now c.args.out.now.items)
     (nothing_done own text lines b c.args.piece.now c.args.line.now.items c.args.judge.now c.args.out.now.items h)
@@ -26,8 +24,7 @@ returns-in_default c = λ own text lines b e h.
 
 pub returns-then-not-branch : goal.returns-then-not-branch
 returns-then-not-branch c = λ own text lines b e h.
-    let P : Bool → Type 0 = λ o. IsHeld c.args.limit c.args.line.now.items c.args.piece.now c.hold.new.line.items o in
-    let held = subst P c.if-not-branch.true c.in_ok-hold.ensures in
+    let held = rw c.if-not-branch.true at c.in_ok-hold.ensures in
     rest_stops own text (packing lines b c.args.out.now.items) c.args.piece.now c.args.piece.now c.hold.new.line.items
     (packer c.args.line.now.items c.args.judge.now c.args.out.now.items)
     (nothing_done own text lines b c.args.piece.now c.args.line.now.items c.args.judge.now c.args.out.now.items h)
@@ -67,7 +64,5 @@ returns c =
     let empty = c.in_ok-reason.ensures.empty none in
     let line = line_read (goal.at.returns c).After-take_ended own text lines b h None
     (rw none at c.in_ok-reason.ensures.taken own (lines ++ d.more) (b ++ d.named) e d.read.packed) in
-    let P : List ℕ → Type 0 = λ l. IsDone own text p c.args.piece.now c.in-Some.following.now
-    (packer l c.take_ended.new.judge c.take_ended.new.out.items) in
-    k own text p c.args.piece.now e (subst P empty (line_done own text p c.args.piece.now c.in-Some.following.now
+    k own text p c.args.piece.now e (rw empty at (line_done own text p c.args.piece.now c.in-Some.following.now
     (packer c.take_ended.new.line.items c.take_ended.new.judge c.take_ended.new.out.items) empty line))) c.take_lines-2.ensures

@@ -1,18 +1,13 @@
-use Rattle.std.proofs.Common.{◌≡◌, ◌++◌, ℕ, List, ap, subst, ◌∙◌, arith}
-use Rattle.std.specs.Io.KnownBytes.{Consumes}
-use Rattle.bt_jobs.specs.declared.printer.Form.{Form}
+use Rattle.std.proofs.Common.{◌≡◌, ◌++◌, ℕ, List, ap, ◌∙◌, arith}
 use Rattle.bt_jobs.specs.Printed.{verdict_of}
 use Rattle.bt_io.specs.Seen.{devices}
-use Rattle.bt_jobs.specs.Printed.{IsAllWritten, IsFrontWritten, items_in, text_in}
+use Rattle.bt_jobs.specs.Printed.{text_in}
 use Rattle.bt_jobs.proofs.Printing.{front_shown, front_shown_all, all_shown}
 use Rattle.bt_jobs.proofs.show.run_form.Goals as goal
 
 pub returns-in-Ok-push_verdict-clause-shown : goal.returns-in-Ok-push_verdict-clause-shown
 returns-in-Ok-push_verdict-clause-shown g c =
-    let P : Form → Type 0 = λ f. (b : List ℕ) × Consumes (g.R.Source.seen c.args.reader.now).left (g.R.Source.seen c.tell.new.reader).left b
-    × IsAllWritten (items_in f c.args.own.now) c.args.own.now b (g.W.Target.seen c.args.writer.now).held (g.W.Target.seen c.tell.new.writer).held
-    c.in-Ok.ended in
-    let t = subst P c.new-printer.ensures.form c.in-Ok.ensures.told in
+    let t = rw c.new-printer.ensures.form at c.in-Ok.ensures.told in
     let text : text_in c.push_verdict.new.printer ≡ verdict_of c.args.form.now c.in-Ok.ended = c.in-Ok-push_verdict.ensures
     ∙ ap (λ (l : List ℕ). l ++ verdict_of c.args.form.now c.in-Ok.ended) c.in-Ok.ensures.empty in (
       t.0,
@@ -33,10 +28,7 @@ returns-in-Ok-push_verdict-clause-shown g c =
 
 pub returns-in-Ok-clause-shown : goal.returns-in-Ok-clause-shown
 returns-in-Ok-clause-shown g c =
-    let P : Form → Type 0 = λ f. (b : List ℕ) × Consumes (g.R.Source.seen c.args.reader.now).left (g.R.Source.seen c.tell.new.reader).left b
-    × IsAllWritten (items_in f c.args.own.now) c.args.own.now b (g.W.Target.seen c.args.writer.now).held (g.W.Target.seen c.tell.new.writer).held
-    c.in-Ok.ended in
-    let t = subst P c.new-printer.ensures.form c.in-Ok.ensures.told in (
+    let t = rw c.new-printer.ensures.form at c.in-Ok.ensures.told in (
       t.0,
       t.1,
       front_shown_all c.args.form.now c.args.own.now t.0 (devices (g.R.Source.seen c.args.reader.now) (g.W.Target.seen c.args.writer.now))
@@ -46,11 +38,7 @@ returns-in-Ok-clause-shown g c =
 
 pub returns-clause-shown : goal.returns-clause-shown
 returns-clause-shown g c =
-    let P : Form → Type 0 = λ f. (b : List ℕ) × Consumes (g.R.Source.seen c.args.reader.now).left (g.R.Source.seen c.tell.new.reader).left b
-    × IsFrontWritten (items_in f c.args.own.now) (items_in f c.args.own.now) c.args.own.now b
-    (devices (g.R.Source.seen c.args.reader.now) (g.W.Target.seen c.args.writer.now))
-    (devices (g.R.Source.seen c.tell.new.reader) (g.W.Target.seen c.tell.new.writer)) in
-    let t = subst P c.new-printer.ensures.form c.in-Err.ensures.told in (
+    let t = rw c.new-printer.ensures.form at c.in-Err.ensures.told in (
       t.0,
       t.1,
       front_shown c.args.form.now c.args.own.now t.0 (devices (g.R.Source.seen c.args.reader.now) (g.W.Target.seen c.args.writer.now))

@@ -1,7 +1,5 @@
-use Rattle.std.proofs.Common.{Option, Ok, refl, subst, ◌∙◌, arith}
-use Rattle.bt_text.specs.declared.ended.Ended.{Ended}
+use Rattle.std.proofs.Common.{refl, ◌∙◌, arith}
 use Rattle.bt_io.specs.Seen.{devices}
-use Rattle.bt_jobs.specs.Printed.{so_far, turn_end, IsTurn, IsEndOfTurn, form_of}
 use Rattle.bt_jobs.proofs.Printing.{told_first, told_more, told_end, told_fault, told_so_far, told_unrefused, nothing_unrefused}
 use Rattle.bt_jobs.proofs.show.tell.Goals as goal
 
@@ -18,12 +16,8 @@ loop-turn-init g c = record {
 pub loop-turn-preserved : goal.loop-turn-preserved
 loop-turn-preserved g c =
     let t = c.loop-turn.invariant.told in
-    let P : Option Ended → Type 0 = λ o. IsTurn (form_of c.loop-turn.printer) c.args.own.now (so_far t.bytes t.items)
-    (devices (g.R.Source.seen c.loop-turn.reader) (g.W.Target.seen c.loop-turn.writer))
-    (turn_end (devices (g.R.Source.seen c.turn.new.reader) (g.W.Target.seen c.turn.new.writer)) c.turn.new.feed c.turn.new.printer) (Ok o) in
-    let Q : Option Ended → Type 0 = λ o. IsEndOfTurn (Ok o) (g.R.Source.seen c.loop-turn.reader) (g.R.Source.seen c.turn.new.reader) in
-    let more = subst P c.in-Ok-None.field-0-is (c.in-Ok-None.ensures.told c.args.own.now t.bytes t.items c.requires.limit.1 t.read t.empty) in
-    let end = subst Q c.in-Ok-None.field-0-is c.in-Ok-None.ensures.faults in
+    let more = rw c.in-Ok-None.field-0-is at (c.in-Ok-None.ensures.told c.args.own.now t.bytes t.items c.requires.limit.1 t.read t.empty) in
+    let end = rw c.in-Ok-None.field-0-is at c.in-Ok-None.ensures.faults in
     record {
       reads = omega (arith, end.0, c.loop-turn.invariant.reads);
       most = omega (arith, c.in-Ok-None.ensures.reads, c.loop-turn.invariant.most);
@@ -37,20 +31,14 @@ loop-turn-preserved g c =
 pub returns-in-Ok-Some-clause-told : goal.returns-in-Ok-Some-clause-told
 returns-in-Ok-Some-clause-told g c =
     let t = c.loop-turn.invariant.told in
-    let P : Option Ended → Type 0 = λ o. IsTurn (form_of c.loop-turn.printer) c.args.own.now (so_far t.bytes t.items)
-    (devices (g.R.Source.seen c.loop-turn.reader) (g.W.Target.seen c.loop-turn.writer))
-    (turn_end (devices (g.R.Source.seen c.turn.new.reader) (g.W.Target.seen c.turn.new.writer)) c.turn.new.feed c.turn.new.printer) (Ok o) in
-    let end = subst P c.in-Ok-Some.field-0-is (c.in-Ok-Some.ensures.told c.args.own.now t.bytes t.items c.requires.limit.1 t.read t.empty) in
+    let end = rw c.in-Ok-Some.field-0-is at (c.in-Ok-Some.ensures.told c.args.own.now t.bytes t.items c.requires.limit.1 t.read t.empty) in
     (told_end (devices (g.R.Source.seen c.loop-turn.reader) (g.W.Target.seen c.loop-turn.writer))
     (devices (g.R.Source.seen c.turn.new.reader) (g.W.Target.seen c.turn.new.writer)) c.turn.new.feed c.turn.new.printer c.in-Ok-Some.ended t end).0
 
 pub returns-in-Ok-Some-clause-empty : goal.returns-in-Ok-Some-clause-empty
 returns-in-Ok-Some-clause-empty g c =
     let t = c.loop-turn.invariant.told in
-    let P : Option Ended → Type 0 = λ o. IsTurn (form_of c.loop-turn.printer) c.args.own.now (so_far t.bytes t.items)
-    (devices (g.R.Source.seen c.loop-turn.reader) (g.W.Target.seen c.loop-turn.writer))
-    (turn_end (devices (g.R.Source.seen c.turn.new.reader) (g.W.Target.seen c.turn.new.writer)) c.turn.new.feed c.turn.new.printer) (Ok o) in
-    let end = subst P c.in-Ok-Some.field-0-is (c.in-Ok-Some.ensures.told c.args.own.now t.bytes t.items c.requires.limit.1 t.read t.empty) in
+    let end = rw c.in-Ok-Some.field-0-is at (c.in-Ok-Some.ensures.told c.args.own.now t.bytes t.items c.requires.limit.1 t.read t.empty) in
     (told_end (devices (g.R.Source.seen c.loop-turn.reader) (g.W.Target.seen c.loop-turn.writer))
     (devices (g.R.Source.seen c.turn.new.reader) (g.W.Target.seen c.turn.new.writer)) c.turn.new.feed c.turn.new.printer c.in-Ok-Some.ended t end).1
 

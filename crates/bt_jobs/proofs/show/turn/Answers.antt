@@ -1,10 +1,7 @@
-use Rattle.std.proofs.Common.{◌≡◌, ◌-◌, ◌++◌, ℕ, Err, refl, subst, arith}
+use Rattle.std.proofs.Common.{◌-◌, ◌++◌, refl, arith}
 use Rattle.bt_text.specs.declared.ended.Ended.TheVariants.{Accepted, Refused}
-use Rattle.bt_feed.specs.declared.sink.SinkFault.TheVariants as faults
-use Rattle.bt_feed.specs.declared.pumping.PumpError.{PumpError}
-use Rattle.bt_feed.specs.Pumps.{IsPumpEnd, IsGiven, IsEnd}
-use Rattle.bt_io.specs.Seen.{devices, EndRead}
-use Rattle.bt_jobs.specs.Printed.{Prints, form_of, so_far, turn_end}
+use Rattle.bt_io.specs.Seen.{devices}
+use Rattle.bt_jobs.specs.Printed.{form_of, so_far, turn_end}
 use Rattle.bt_jobs.proofs.Printing.{end_of_turn, write_failed, goes_on, ends, is_accepted, is_refused, nothing_of_turn}
 use Rattle.bt_jobs.proofs.show.turn.Goals as goal
 
@@ -35,9 +32,7 @@ returns-in-Ok-clause-told g c = λ own b xs le r empty.
 pub returns-in-Err-Refused-clause-told : goal.returns-in-Err-Refused-clause-told
 returns-in-Err-Refused-clause-told g c = λ own b xs le r empty.
     let m = c.in-Err-Refused.ensures.moved in
-    let P : PumpError → Type 0 = λ e. IsPumpEnd c.args.feed.now m.0 m.1 m.2 c.pump_with.new.feed (Err e) in
-    let Q : PumpError → Type 0 = λ e. IsGiven {A = ℕ} Prints (λ _ _ fault _. fault ≡ faults.Memory) c.args.printer.now m.2 c.pump_with.new.sink (Err e) in
-    let end = subst P c.in-Err-Refused.field-0-is m.5 in
+    let end = rw c.in-Err-Refused.field-0-is at m.5 in
     ends own (so_far b xs) c.args.feed.now (devices (g.R.Source.seen c.args.reader.now) (g.W.Target.seen c.args.writer.now)) c.args.printer.now
     (turn_end (devices (g.R.Source.seen c.pump_with.new.reader) (g.W.Target.seen c.flush-in-Err-Refused.new.writer)) c.pump_with.new.feed
     c.flush-in-Err-Refused.new.self)
@@ -52,7 +47,7 @@ returns-in-Err-Refused-clause-told g c = λ own b xs le r empty.
       printer = c.pump_with.new.sink;
       now = end.0;
       consumed = m.3;
-      took = subst Q c.in-Err-Refused.field-0-is m.4;
+      took = rw c.in-Err-Refused.field-0-is at m.4;
       pumped = end.1;
       flushed = c.flush-in-Err-Refused.ensures.flushed;
       form_is = c.flush-in-Err-Refused.ensures.form;
@@ -62,9 +57,7 @@ returns-in-Err-Refused-clause-told g c = λ own b xs le r empty.
 pub returns-in-Err-Turns-clause-told : goal.returns-in-Err-Turns-clause-told
 returns-in-Err-Turns-clause-told g c = λ own b xs le r empty.
     let m = c.in-Err-Turns.ensures.moved in
-    let P : PumpError → Type 0 = λ e. IsPumpEnd c.args.feed.now m.0 m.1 m.2 c.pump_with.new.feed (Err e) in
-    let Q : PumpError → Type 0 = λ e. IsGiven {A = ℕ} Prints (λ _ _ fault _. fault ≡ faults.Memory) c.args.printer.now m.2 c.pump_with.new.sink (Err e) in
-    let end = subst P c.in-Err-Turns.field-0-is m.5 in
+    let end = rw c.in-Err-Turns.field-0-is at m.5 in
     goes_on own (so_far b xs) c.args.feed.now (devices (g.R.Source.seen c.args.reader.now) (g.W.Target.seen c.args.writer.now)) c.args.printer.now
     (turn_end (devices (g.R.Source.seen c.pump_with.new.reader) (g.W.Target.seen c.flush-in-Err-Turns.new.writer)) c.pump_with.new.feed
     c.flush-in-Err-Turns.new.self)
@@ -79,7 +72,7 @@ returns-in-Err-Turns-clause-told g c = λ own b xs le r empty.
       printer = c.pump_with.new.sink;
       now = end.0;
       consumed = m.3;
-      took = subst Q c.in-Err-Turns.field-0-is m.4;
+      took = rw c.in-Err-Turns.field-0-is at m.4;
       pumped = end.1;
       flushed = c.flush-in-Err-Turns.ensures.flushed;
       form_is = c.flush-in-Err-Turns.ensures.form;
@@ -105,10 +98,9 @@ returns-in-Ok-clause-faults g c =
 
 pub returns-in-Err-Refused-clause-faults : goal.returns-in-Err-Refused-clause-faults
 returns-in-Err-Refused-clause-faults g c =
-    let R : PumpError → Type 0 = λ e. IsEnd (Err e) → EndRead (g.R.Source.seen c.args.reader.now) (g.R.Source.seen c.pump_with.new.reader) in
     end_of_turn (Refused c.in-Err-Refused.refusal) _ _ _ _ (g.R.Source.seen c.args.reader.now) (g.R.Source.seen c.pump_with.new.reader)
     c.flush-in-Err-Refused.result c.flush-in-Err-Refused.ensures.flushed c.flush-in-Err-Refused.ensures.fault
-    (subst R c.in-Err-Refused.field-0-is c.in-Err-Refused.ensures.end)
+    (rw c.in-Err-Refused.field-0-is at c.in-Err-Refused.ensures.end)
 
 pub returns-in-Ok-clause-calm : goal.returns-in-Ok-clause-calm
 returns-in-Ok-clause-calm g c = c.flush.ensures.calm
