@@ -12,7 +12,7 @@ use Rattle.json.specs.Run.{is_plain}
 use Rattle.json.specs.Written.{PlainBetween}
 use Rattle.std.specs.Char.{digit_char}
 use Rattle.std.specs.Str.{is_utf8}
-use Rattle.json.specs.Print.{ends, escape, escape_byte, escape_letter, print_from, quoted, token_text}
+use Rattle.json.specs.Print.{ends, escape, escape_byte, escape_letter, print_from, token_text}
 use Rattle.json.specs.Token.{Token, end_object, null, string}
 use Rattle.bt_json.proofs.FieldLaws.{is_no_text, is_text}
 use Rattle.bt_json.specs.Members.{kind_and_name, named, rest_of_line}
@@ -50,18 +50,12 @@ three_fields old a b c x y z ex ey ez =
     joined old (named a) (token_text x) (named b) (token_text y) (named c) (token_text z) (codes "}") (codes "\n")
     ∙ ap (λ (l : List ℕ). old ++ (l ++ codes "\n")) (sym (fields_text a b c x y z ex ey ez))
 
-joined_front : (o a b c n d m p f : List ℕ)
-    → (o ++ ((a ++ (b ++ c)) ++ (n ++ (d ++ m)))) ++ (p ++ f) ≡ o ++ ((a ++ (b ++ (c ++ (n ++ (d ++ (m ++ p)))))) ++ f)
-joined_front o a b c n d m p f = simp append_assoc
-
 -- a kind and two numbers, before other fields
 pub two_before : (old kind name second : List ℕ) (n m : ℕ) (fields : List Token)
     → (old ++ (kind_and_name kind name ++ (decimal n ++ (named second ++ decimal m)))) ++ rest_of_line fields
     ≡ old ++ rest_of_line (kind_field kind ++ ((a_number name n ++ a_number second m) ++ fields))
 unfolding print_from a_field
-two_before old kind name second n m fields =
-    joined_front old (named (codes "item")) (quoted kind) (named name) (decimal n) (named second) (decimal m)
-    (print_from true (fields ++ end_object ∷ [])) (codes "\n")
+two_before old kind name second n m fields = simp append_assoc
 
 -- ---- what a text is printed as
 

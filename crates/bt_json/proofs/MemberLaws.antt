@@ -11,49 +11,31 @@ use Rattle.bt_text.specs.declared.ended.Ended.TheVariants.{Accepted, Refused}
 use Rattle.bt_wire.specs.declared.item.Refusal.{Refusal}
 use Rattle.bt_wire.specs.Reasons.{reason_name}
 
-joined_one : (o a b c d e f : List ℕ) → o ++ ((a ++ (b ++ c)) ++ (d ++ (e ++ f))) ≡ o ++ ((a ++ (b ++ (c ++ (d ++ e)))) ++ f)
-joined_one o a b c d e f = simp append_assoc
-
-joined_two : (o a b c d g h e f : List ℕ)
-    → o ++ ((a ++ (b ++ c)) ++ (d ++ (g ++ (h ++ (e ++ f))))) ≡ o ++ ((a ++ (b ++ (c ++ (d ++ (g ++ (h ++ e)))))) ++ f)
-joined_two o a b c d g h e f = simp append_assoc
-
-joined_three : (o a b c d g h k l e f : List ℕ)
-    → o ++ ((a ++ (b ++ c)) ++ (d ++ (g ++ (h ++ (k ++ (l ++ (e ++ f))))))) ≡ o ++ ((a ++ (b ++ (c ++ (d ++ (g ++ (h ++ (k ++ (l ++ e)))))))) ++ f)
-joined_three o a b c d g h k l e f = simp append_assoc
-
 -- a kind and a number, after a text
 pub one_number : (old kind name : List ℕ) (n : ℕ)
     → old ++ (kind_and_name kind name ++ (decimal n ++ codes "}\n")) ≡ old ++ rest_of_line (kind_field kind ++ a_number name n)
 unfolding print_from a_field
-one_number old kind name n = joined_one old (named (codes "item")) (quoted kind) (named name) (decimal n) (codes "}") (codes "\n")
+one_number old kind name n = simp append_assoc
 
 -- a kind and two numbers
 pub two_numbers : (old kind name second : List ℕ) (n m : ℕ)
     → old ++ (kind_and_name kind name ++ (decimal n ++ (named second ++ (decimal m ++ codes "}\n"))))
     ≡ old ++ rest_of_line (kind_field kind ++ (a_number name n ++ a_number second m))
 unfolding print_from a_field
-two_numbers old kind name second n m =
-    joined_two old (named (codes "item")) (quoted kind) (named name) (decimal n) (named second) (decimal m) (codes "}") (codes "\n")
+two_numbers old kind name second n m = simp append_assoc
 
 -- a kind and three numbers
 pub three_numbers : (old kind name second third : List ℕ) (n m k : ℕ)
     → old ++ (kind_and_name kind name ++ (decimal n ++ (named second ++ (decimal m ++ (named third ++ (decimal k ++ codes "}\n"))))))
     ≡ old ++ rest_of_line (kind_field kind ++ (a_number name n ++ (a_number second m ++ a_number third k)))
 unfolding print_from a_field
-three_numbers old kind name second third n m k =
-    joined_three old (named (codes "item")) (quoted kind) (named name) (decimal n) (named second) (decimal m) (named third) (decimal k) (codes "}")
-    (codes "\n")
-
-joined_line : (o a b c d : List ℕ) → (o ++ (a ++ b)) ++ (c ++ d) ≡ o ++ ((a ++ (b ++ c)) ++ d)
-joined_line o a b c d = simp append_assoc
+three_numbers old kind name second third n m k = simp append_assoc
 
 -- a line: its offset and what follows it, after a text
 pub offset_line : (old : List ℕ) (at : ℕ) (fields : List Token)
     → (old ++ (codes "{\"offset\":" ++ decimal at)) ++ rest_of_line fields ≡ old ++ object_line (a_number (codes "offset") at ++ fields)
 unfolding print_from a_field escape_byte
-offset_line old at fields =
-    joined_line old (codes "{\"offset\":") (decimal at) (print_from true (fields ++ end_object ∷ [])) (codes "\n")
+offset_line old at fields = simp append_assoc
 
 -- a handshake's fields, of its texts in hex
 abbrev hand_fields : List ℕ → List ℕ → List ℕ → Token → List Token
@@ -83,29 +65,20 @@ hand_line old x y z t et =
     (escape z) (codes ",\"peer_id_text\":") (token_text t) (codes "}") (codes "\n")
     ∙ ap (λ (l : List ℕ). old ++ (l ++ codes "\n")) (sym (hand_text x y z t et))
 
-joined_refused : (o a n b m c s e f : List ℕ) → (((((o ++ a) ++ n) ++ b) ++ m) ++ c) ++ (s ++ (e ++ f)) ≡ o ++ ((a ++ (n ++ (b ++ (m ++ (c ++ (s ++ e)))))) ++ f)
-joined_refused o a n b m c s e f = simp append_assoc
-
 -- the line of a refusal, after a text
 pub refused_line : (old : List ℕ) (r : Refusal)
     → (((((old ++ codes "{\"verdict\":\"refused\",\"message\":") ++ decimal r.message) ++ codes ",\"offset\":") ++ decimal r.at) ++ codes ",\"reason\":")
     ++ (quoted (reason_name r.reason) ++ codes "}\n")
     ≡ old ++ verdict_line (Refused r)
 unfolding print_from a_field escape_byte
-refused_line old r =
-    joined_refused old (codes "{\"verdict\":\"refused\",\"message\":") (decimal r.message) (codes ",\"offset\":") (decimal r.at) (codes ",\"reason\":")
-    (quoted (reason_name r.reason)) (codes "}") (codes "\n")
-
-joined_accepted : (o a n b m e f : List ℕ) → o ++ (a ++ (n ++ (b ++ (m ++ (e ++ f))))) ≡ o ++ ((a ++ (n ++ (b ++ (m ++ e)))) ++ f)
-joined_accepted o a n b m e f = simp append_assoc
+refused_line old r = simp append_assoc
 
 -- the line of a stream that is accepted, after a text
 pub accepted_line : (old : List ℕ) (n m : ℕ)
     → old ++ (codes "{\"verdict\":\"ok\",\"messages\":" ++ (decimal n ++ (codes ",\"bytes\":" ++ (decimal m ++ codes "}\n"))))
     ≡ old ++ verdict_line (Accepted n m)
 unfolding print_from a_field escape_byte
-accepted_line old n m =
-    joined_accepted old (codes "{\"verdict\":\"ok\",\"messages\":") (decimal n) (codes ",\"bytes\":") (decimal m) (codes "}") (codes "\n")
+accepted_line old n m = simp append_assoc
 
 -- what was put into a whole buffer is in it
 pub whole_buffer : (size : ℕ) (put items : List ℕ) → length put ≡ size → take size (put ++ drop (length put) items) ≡ put
