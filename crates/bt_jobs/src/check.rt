@@ -81,23 +81,15 @@ pub fn run_check_after<R: Source, W: Target>(
     }
 }
 
-/// Writes the verdict's line, and returns the verdict.
-fn say<W: Target>(writer: &mut W, ended: Ended) -> Result<Ended, ToolFault>
-    ensures written { IsWrittenOut ended (verdict_words ended) (W.seen writer.old).held (W.seen writer.new).held result }
-    ensures fault { IfErr result (λ fault. (fault ≡ ToolFault.Write) × WriteFailed (W.seen writer.old) (W.seen writer.new)) }
-{
-    let mut line = [0; 160];
-    let place = verdict_line(ended, &mut line);
-    write_out(writer, &line[place..], ended)
-}
-
 /// Writes `prefix` and the verdict's line, and returns the verdict.
 fn say_after<W: Target>(prefix: &[u8], writer: &mut W, ended: Ended) -> Result<Ended, ToolFault>
     ensures written { IsWrittenOut ended (prefix.now ++ verdict_words ended) (W.seen writer.old).held (W.seen writer.new).held result }
     ensures fault { IfErr result (λ fault. (fault ≡ ToolFault.Write) × WriteFailed (W.seen writer.old) (W.seen writer.new)) }
 {
+    let mut line = [0; 160];
+    let place = verdict_line(ended, &mut line);
     match write_out(writer, prefix, ()) {
-        Ok(()) => say(writer, ended),
+        Ok(()) => write_out(writer, &line[place..], ended),
         Err(fault) => Err(fault),
     }
 }

@@ -107,16 +107,6 @@ fn push_item(
     }
 }
 
-/// Adds the verdict's line to what is used of the text; returns how much is used then.
-fn push_verdict(ended: Ended, text: &mut Vec<u8>, used: usize) -> Result<usize, AllocError>
-    ensures { IfOk result (λ n. take n text.new.items ≡ take used text.old.items ++ verdict_words ended) }
-{
-    let place = make_room(text, used, LINE_ROOM)?;
-    let mut line = [0; LINE_ROOM];
-    let from = verdict_line(ended, &mut line);
-    Ok(put(&line[from..], text.as_mut_slice(), place))
-}
-
 /// Adds the object of an item to what is used of the text; returns how much is used then.
 #[inline(never)]
 fn add_object(
@@ -270,7 +260,10 @@ impl Printer {
     pub fn verdict(&mut self, ended: Ended) -> Result<(), AllocError>
         ensures { OnOk result (text_in self.new ≡ text_in self.old ++ verdict_words ended) }
     {
-        self.used = push_verdict(ended, &mut self.text, self.used)?;
+        let place = make_room(&mut self.text, self.used, LINE_ROOM)?;
+        let mut line = [0; LINE_ROOM];
+        let from = verdict_line(ended, &mut line);
+        self.used = put(&line[from..], self.text.as_mut_slice(), place);
         Ok(())
     }
 

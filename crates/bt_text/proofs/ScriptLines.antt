@@ -306,16 +306,12 @@ added_answer first text old new (Ok b) h = added first text old new b h
 added_answer first text old new (Err e) h = tt
 
 answer : (first : Bool) (text bytes : List ℕ) (b : Bool) → IsAdded first text [] bytes b → IsAnswer first text bytes b
-answer first text bytes true h =
-    let P : List ℕ → Type 0 = λ l. IsLine first text l in
-    subst P (sym h.2) h.1
+answer first text bytes true h = rw (sym h.2) at h.1
 answer first text bytes false h = h.0
 
-pub read_answer : {E : Type 0} (first : Bool) (text old bytes : List ℕ) (r : Result Bool E) → old ≡ [] → IfOk r (Adds (line_in first text) old bytes)
+pub read_answer : {E : Type 0} (first : Bool) (text old bytes : List ℕ) (r : Result Bool E) → old ≡ [] → IfOk r (IsAdded first text old bytes)
     → IfOk r (IsAnswer first text bytes)
-read_answer first text old bytes (Ok b) none h =
-    let P : List ℕ → Type 0 = λ l. IsAdded first text l bytes b in
-    answer first text bytes b (subst P none (added first text old bytes b h))
+read_answer first text old bytes (Ok b) none h = answer first text bytes b (rw none at h)
 read_answer first text old bytes (Err e) none h = tt
 
 pub one_reading : (first : Bool) (text a b : List ℕ) → IsLine first text a → IsLine first text b → a ≡ b

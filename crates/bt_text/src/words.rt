@@ -66,16 +66,6 @@ pub trait Dictionary {
         ensures size { result.1 ≡ size_of (tree self.now) };
 }
 
-/// Returns an id as a number of a text.
-fn number_of(id: Option<u8>) -> Option<u64>
-    ensures { result ≡ id }
-{
-    match id {
-        Some(id) => Some(u64::from(id)),
-        None => None,
-    }
-}
-
 impl Dictionary for DictRef<'_> {
     ghost tree = { λ d. dictionary d.tree.0 };
 
@@ -93,7 +83,7 @@ impl Dictionary for DictRef<'_> {
 
     fn announced(&self) -> (Option<u64>, Option<u64>) {
         let (id, size) = announced_ref(self);
-        (number_of(id), size)
+        (id.map(u64::from), size)
     }
 }
 
@@ -112,7 +102,7 @@ impl Dictionary for Value {
 
     fn announced(&self) -> (Option<u64>, Option<u64>) {
         let (id, size) = announced(self);
-        (number_of(id), size)
+        (id.map(u64::from), size)
     }
 }
 

@@ -360,7 +360,7 @@ pub fn read_line(text: &[u8], first: bool, bytes: &mut Vec<u8>) -> Result<bool, 
     ensures { IfOk result (IsAnswer first text.now bytes.new.items) }
 {
     bytes.clear();
-    put_line(text, first, bytes)
+    append_line(text, first, bytes)
 }
 
 /// Parses a line of a script, and appends the bytes that it names to `out`.
@@ -375,19 +375,10 @@ pub fn append_line(text: &[u8], first: bool, out: &mut Vec<u8>) -> Result<bool, 
     requires { length text.now < 2 ^ 32 }
     ensures { IfOk result (IsAdded first text.now out.old.items out.new.items) }
 {
-    put_line(text, first, out)
-}
-
-/// Does what [`append_line`] does; its contract says how the line is read from left to right.
-#[inline(always)]
-fn put_line(text: &[u8], first: bool, bytes: &mut Vec<u8>) -> Result<bool, AllocError>
-    requires { length text.now < 2 ^ 32 }
-    ensures { IfOk result (Adds (line_in first text.now) bytes.old.items bytes.new.items) }
-{
     if !first {
-        return put_message(text, bytes);
+        return put_message(text, out);
     }
-    put_handshake(text, bytes)
+    put_handshake(text, out)
 }
 
 /// Parses the line that a text begins with, and appends the bytes that it names to `out`.

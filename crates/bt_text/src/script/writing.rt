@@ -69,17 +69,6 @@ fn put_block(index: u32, begin: u32, block: &[u8], text: &mut [u8], at: usize) -
     put_bytes(b"", block, text, place)
 }
 
-/// Puts the words of a bitfield and the line's end.
-#[inline(always)]
-fn put_bitfield(bits: &[u8], text: &mut [u8], at: usize) -> usize
-    requires { at + (11 + 2 * length bits.now) ≤ length text.old }
-    ensures size { length text.new ≡ length text.old }
-    ensures text { take result text.new ≡ take at text.old ++ (codes "bitfield" ++ (spaced_hex bits.now ++ codes "\n")) }
-{
-    let place = put_word(b"bitfield", text, at);
-    put_bytes(b"", bits, text, place)
-}
-
 /// Returns the extended id of a payload; 0 if it has none.
 fn extended_id(reg: Registered, payload: &ExtView) -> u8
     ensures { result ≡ unwrap_or (ext_id reg (seen_ext payload.now)) 0 }
@@ -143,28 +132,20 @@ fn kept_bytes(view: &MessageView) -> usize
     }
 }
 
-/// Returns how many bytes a message keeps.
-///
-/// For most messages it does so without a jump by their kind.
-#[inline(always)]
-fn kept(view: &MessageView) -> usize
-    ensures { result ≡ kept_of (message_of view.now) }
-{
-    match view {
-        MessageView::Bitfield(_)
-        | MessageView::Piece { .. }
-        | MessageView::Extended(_)
-        | MessageView::Unknown { .. } => kept_bytes(view),
-        _ => 0,
-    }
-}
-
 /// Returns how many bytes of room a message's line needs, at most 2^64 - 1.
 #[inline(always)]
 pub fn room_for(view: &MessageView) -> usize
     ensures { result ≡ min (160 + 2 * kept_of (message_of view.now)) (2 ^ 64 - 1) }
 {
-    kept(view).saturating_mul(2).saturating_add(160)
+    // (most messages take no jump by their kind)
+    let kept = match view {
+        MessageView::Bitfield(_)
+        | MessageView::Piece { .. }
+        | MessageView::Extended(_)
+        | MessageView::Unknown { .. } => kept_bytes(view),
+        _ => 0,
+    };
+    kept.saturating_mul(2).saturating_add(160)
 }
 
 /// Writes the line of a message at the offset `at`; returns the offset after it.
@@ -178,7 +159,10 @@ pub fn put_message_line(own: &Own, view: &MessageView, text: &mut [u8], at: usiz
     ensures text { take result text.new ≡ take at text.old ++ script_line own.now (items.Message (message_of view.now)) }
 {
     match view {
-        MessageView::Bitfield(bits) => put_bitfield(bits, text, at),
+        MessageView::Bitfield(bits) => {
+            let place = put_word(b"bitfield", text, at);
+            put_bytes(b"", bits, text, place)
+        }
         MessageView::Piece {
             index,
             begin,
