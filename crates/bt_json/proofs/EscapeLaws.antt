@@ -86,6 +86,10 @@ escape_size (x ∷ xs) =
     let rest = escape_size xs in
     omega (arith, both, first, rest)
 
+pub escape_long : (s : List ℕ) → length s ≤ length (escape s)
+escape_long [] = omega arith
+escape_long (x ∷ xs) = omega (arith, length-append (escape_byte x) (escape xs), (byte_size x).0, escape_long xs)
+
 pub escape_parts : (n : ℕ) (s : List ℕ) → escape s ≡ escape (take n s) ++ escape (drop n s)
 escape_parts n s = ap escape (sym (take-append-drop n s)) ∙ flat_map-append escape_byte (take n s) (drop n s)
 

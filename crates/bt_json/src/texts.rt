@@ -172,6 +172,8 @@ fn push_last(bytes: Option<&[u8]>, lines: &mut Vec<u8>) -> Result<(), AllocError
     if from_utf8(bytes).is_err() {
         return lines.extend_from_slice(b"null}\n");
     }
+    // (a long text without escapes is then copied once)
+    lines.reserve(bytes.len() + 4)?;
     lines.extend_from_slice(b"\"")?;
     push_escaped(bytes, lines)?;
     lines.extend_from_slice(b"\"}\n")
