@@ -1,7 +1,7 @@
 //! Reports and rows as JSON objects. The facts are those of the lines in told.rt, and of `show --json`.
 use crate::told::{
-    NO_REMARKS, bad, known, own, refused_twice, report, row, sample_rows, with_a_guess, with_gaps,
-    with_remarks,
+    NO_REMARKS, bad, known, own, packets, refused_twice, report, row, sample_rows, with_a_guess,
+    with_gaps, with_remarks,
 };
 use bt_feed::View;
 use bt_json::message_line;
@@ -9,6 +9,7 @@ use bt_remarks::Side;
 use bt_text::ended::Ended;
 use bt_told::{
     Body, Deed, Direction, Report, Title, Told, Words, put_report_object, put_row_object,
+    put_utp_object,
 };
 use bt_wire::{MessageView, Reason};
 use std::test::Fail;
@@ -194,5 +195,19 @@ fn messages(rt: HostRuntime) -> Result<(), Fail> {
         let out = told(&rt, message)?;
         assert_eq!(rt; out.as_slice(), wanted.as_slice());
     }
+    Ok(())
+}
+
+#[test]
+fn utp(rt: HostRuntime) -> Result<(), Fail> {
+    let mut out = Vec::new(rt.alloc());
+    for is_least in [false, true] {
+        put_utp_object(&packets(is_least), &mut out)?;
+    }
+    let wanted = b"\
+{\"utp\":{\"source\":\"10.0.0.1:51413\",\"target\":\"10.0.0.2:6881\",\"packets\":3}}
+{\"utp\":{\"source\":\"10.0.0.1:51413\",\"target\":\"10.0.0.2:6881\",\"packets\":3,\"at_least\":true}}
+";
+    assert_eq!(rt; out.as_slice(), wanted.as_slice());
     Ok(())
 }

@@ -685,18 +685,21 @@ fn rows(rt: HostRuntime) -> Result<(), Fail> {
     Ok(())
 }
 
-/// Packets of uTP between two ends: three, and at least three.
+/// Three packets of uTP between two ends, or at least three.
+pub(crate) fn packets(is_least: bool) -> UtpPackets {
+    UtpPackets {
+        source: address(1, 51413),
+        target: address(2, 6881),
+        count: 3,
+        is_least,
+    }
+}
+
 #[test]
 fn utp(rt: HostRuntime) -> Result<(), Fail> {
     let mut out = Vec::new(rt.alloc());
     for is_least in [false, true] {
-        let packets = UtpPackets {
-            source: address(1, 51413),
-            target: address(2, 6881),
-            count: 3,
-            is_least,
-        };
-        put_utp(&packets, &mut out)?;
+        put_utp(&packets(is_least), &mut out)?;
     }
     let wanted = b"\
 uTP  10.0.0.1:51413 > 10.0.0.2:6881  3 packets, not read: this is BitTorrent over UDP (BEP 29)

@@ -121,6 +121,10 @@ field_sentence ext =
     if ext == 0 then codes "In an extended handshake m has ids from 0 to 255 and metadata_size is an integer of at least 0, and here one is not"
     else codes "A metadata message has no key that its type needs, or the value is no such number"
 
+-- the index before the piece count
+abbrev pub last_index : ℕ → List ℕ
+last_index pieces = if pieces == 0 then codes "-1" else decimal (pieces - 1)
+
 abbrev pub reason_sentence : Reason → Refusal → RefusedMessage → Own → List ℕ
 reason_sentence reasons.BadProtocol r m own =
     codes "A stream begins with the byte 19 and the text \"BitTorrent protocol\", and byte " ++ (decimal r.at ++ (codes " is " ++ byte_text m.byte))
@@ -140,7 +144,7 @@ reason_sentence reasons.Missing r m own =
     codes "Both peers have the Fast Extension, so a bitfield, have all or have none has to come first, and " ++ (id_text m.id ++ codes " came")
 reason_sentence reasons.BadIndex r m own =
     codes "The " ++ (id_text m.id ++ (codes " message names piece " ++ (decimal m.index ++ (codes ", and the torrent has "
-    ++ (decimal (unwrap_or own.pieces 0) ++ (codes " pieces, so the last index is " ++ decimal (unwrap_or own.pieces 0 - 1)))))))
+    ++ (decimal (unwrap_or own.pieces 0) ++ (codes " pieces, so the last index is " ++ last_index (unwrap_or own.pieces 0)))))))
 reason_sentence reasons.SpareBits r m own =
     codes "The torrent has " ++ (decimal (unwrap_or own.pieces 0) ++ (codes " pieces, and the last byte of the bitfield is "
     ++ (byte_text m.byte ++ codes ", which has a 1 after them")))

@@ -1,4 +1,4 @@
-//! The parts of a line that are appended: a number between words, and the two ends of a connection.
+//! Parts of a line that are appended: a number between words, and the two ends of a connection.
 ghost use Rattle.std.specs.Prelude.{◌≡◌, ◌+◌, ◌≤◌, ◌++◌, OnErr, OnOk, decimal, length, take, vec_len};
 ghost use Rattle.bt_packet.specs.Addresses.{address_text};
 
@@ -35,4 +35,23 @@ pub(crate) fn push_between<const N: usize, const M: usize>(
     let mut text = [0; 100];
     let end = put_between(before, n, after, &mut text, 0);
     out.extend_from_slice(&text[..end])
+}
+
+/// Cuts a text to this length if something wasn't appended.
+pub(crate) fn cut_after_error(
+    pushed: Result<(), AllocError>,
+    length: usize,
+    out: &mut Vec<u8>,
+) -> Result<(), AllocError>
+    ensures same { result ≡ pushed }
+    ensures ok { OnOk pushed (out.new.items ≡ out.old.items) }
+    ensures err { OnErr pushed (out.new.items ≡ take length out.old.items) }
+{
+    match pushed {
+        Ok(()) => Ok(()),
+        Err(error) => {
+            out.truncate(length);
+            Err(error)
+        }
+    }
 }

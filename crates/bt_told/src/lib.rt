@@ -30,5 +30,5 @@ pub use report::{
 };
 pub use rows::{Deed, Row, put_row, put_row_object};
 pub use said::{Name, Numbers, Said, Words};
-pub use utp::{UtpPackets, put_utp};
+pub use utp::{UtpPackets, put_utp, put_utp_object};
 pub use why::RefusedMessage;

@@ -3,7 +3,7 @@ ghost use Rattle.std.specs.Prelude.{◌≡◌, ◌+◌, ◌≤◌, ◌++◌, OnE
 ghost use Rattle.bt_told.specs.Objects.{before_member, body_members, closed_member, count_member, direction_object, gap_members, guess_member, judged_members, last_member, note_member, noted_member, receiver_object, remarked_members, report_object, sender_member, told_members, verdict_object, why_member};
 
 use crate::closing::means;
-use crate::ends::{push_between, push_ends};
+use crate::ends::{cut_after_error, push_between, push_ends};
 use crate::members::{put_escaped, put_refusal_members, put_said_object, put_verdict_members};
 use crate::names::put_title;
 use crate::numbers::{put_option, put_time};
@@ -400,11 +400,6 @@ pub fn put_report_object(report: &Report, out: &mut Vec<u8>) -> Result<(), Alloc
     ensures err { OnErr result (out.new.items ≡ out.old.items) }
 {
     let length = out.len();
-    match push_object(report, out) {
-        Ok(()) => Ok(()),
-        Err(error) => {
-            out.truncate(length);
-            Err(error)
-        }
-    }
+    let pushed = push_object(report, out);
+    cut_after_error(pushed, length, out)
 }

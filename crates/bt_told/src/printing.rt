@@ -3,7 +3,7 @@ ghost use Rattle.std.specs.Prelude.{◌≡◌, ◌+◌, ◌≤◌, ◌++◌, OnE
 ghost use Rattle.bt_told.specs.Reports.{body_text, closer, report_text, told_text};
 
 use crate::closing::put_closing;
-use crate::ends::{push_between, push_ends};
+use crate::ends::{cut_after_error, push_between, push_ends};
 use crate::remarked::put_remarked;
 use crate::report::{Body, Closed, Report, Told};
 use crate::sides::put_direction;
@@ -89,11 +89,6 @@ pub fn put_report(report: &Report, out: &mut Vec<u8>) -> Result<(), AllocError>
     ensures err { OnErr result (out.new.items ≡ out.old.items) }
 {
     let length = out.len();
-    match push_report(report, out) {
-        Ok(()) => Ok(()),
-        Err(error) => {
-            out.truncate(length);
-            Err(error)
-        }
-    }
+    let pushed = push_report(report, out);
+    cut_after_error(pushed, length, out)
 }

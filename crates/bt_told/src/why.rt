@@ -1,6 +1,6 @@
 //! Why a stream is refused, as a sentence.
 ghost use Rattle.std.specs.Prelude.{◌≡◌, ◌+◌, ◌-◌, ◌^◌, ◌<◌, ◌≤◌, ◌++◌, IfSome, codes, decimal, drop, length, option_map, take, unwrap_or};
-ghost use Rattle.bt_told.specs.Whys.{any_lengths, bencode_sentence, bitfield_length, byte_inside, byte_text, end_sentence, extension_text, field_sentence, first_or_zero, id_text, lengths_text, message_in, number_or_zero, row_in, rows, why_line, why_text};
+ghost use Rattle.bt_told.specs.Whys.{any_lengths, bencode_sentence, bitfield_length, byte_inside, byte_text, end_sentence, extension_text, field_sentence, first_or_zero, id_text, last_index, lengths_text, message_in, number_or_zero, row_in, rows, why_line, why_text};
 
 use crate::sides::put_between;
 use bt_text::ended::Ended;
@@ -103,7 +103,7 @@ fn byte_at(size: u32, place: usize, bytes: &[u8]) -> Option<u8>
 impl RefusedMessage {
     /// Returns what is there of the message at the offset `start` that is refused at the offset `at`.
     ///
-    /// `bytes` has the stream's bytes from `start` on, as far as they are there.
+    /// `bytes` has the stream's bytes from `start` on, at least up to the offset `at`, if the stream goes so far.
     pub fn of(start: u64, bytes: &[u8], at: u64) -> RefusedMessage
         ensures { result ≡ message_in start bytes.now at }
     {
@@ -311,6 +311,19 @@ fn put_wrong_length(
     put_lengths(message.id, pieces, text, at)
 }
 
+/// Puts the index before a piece count.
+fn put_last_index(pieces: u64, text: &mut [u8], at: usize) -> usize
+    requires { at + 20 ≤ length text.old }
+    ensures room { (at ≤ result) × (result ≤ at + 20) }
+    ensures size { length text.new ≡ length text.old }
+    ensures text { take result text.new ≡ take at text.old ++ last_index pieces }
+{
+    match pieces {
+        0 => put_word(b"-1", text, at),
+        _ => put_number(pieces - 1, text, at),
+    }
+}
+
 /// Puts that a piece index is too high.
 fn put_bad_index(message: &RefusedMessage, pieces: u32, text: &mut [u8], at: usize) -> usize
     requires { at + 200 ≤ length text.old }
@@ -318,14 +331,14 @@ fn put_bad_index(message: &RefusedMessage, pieces: u32, text: &mut [u8], at: usi
     ensures size { length text.new ≡ length text.old }
     ensures text { take result text.new ≡ take at text.old ++ (codes "The " ++ (id_text message.now.id ++ (codes " message names piece "
         ++ (decimal message.now.index ++ (codes ", and the torrent has " ++ (decimal pieces ++ (codes " pieces, so the last index is "
-        ++ decimal (pieces - 1)))))))) }
+        ++ last_index pieces))))))) }
 {
     let index = u64::from(message.index);
     let at = put_named(b"The ", message.id, b" message names piece ", text, at);
     let at = put_between(b"", index, b", and the torrent has ", text, at);
     let after = b" pieces, so the last index is ";
     let at = put_between(b"", u64::from(pieces), after, text, at);
-    put_number(u64::from(pieces.saturating_sub(1)), text, at)
+    put_last_index(u64::from(pieces), text, at)
 }
 
 /// Puts that a bitfield has a bit too many.
