@@ -62,7 +62,8 @@ note_member [] = []
 note_member (byte ∷ bytes) = codes ",\"note\":\"" ++ ((byte ∷ bytes) ++ codes "\"")
 
 abbrev pub verdict_object : List ℕ → Ended → List ℕ → Option RefusedMessage → Own → List ℕ
-verdict_object key ended limit m own = key ++ (verdict_members ended ++ (why_member ended limit m own ++ (note_member limit ++ codes "}")))
+verdict_object key ended limit m own =
+    key ++ (verdict_members ended ++ (why_member ended limit m own ++ (note_member limit ++ codes "}")))
 
 abbrev pub guess_member : Bool → List ℕ
 guess_member true = codes ",\"guessed\":true}"
@@ -70,14 +71,16 @@ guess_member false = codes "}"
 
 abbrev pub receiver_object : Own → Bool → List ℕ
 receiver_object own is_guessed =
-    codes ",\"receiver\":{\"reserved\":\"" ++ (encode_lower (be64 own.reserved.0) ++ (codes "\"" ++ (option_text (codes ",\"metadata_id\":") (metadata_id own.reg)
-    ++ (option_text (codes ",\"donthave_id\":") (donthave_id own.reg) ++ (option_text (codes ",\"pieces\":") own.pieces ++ guess_member is_guessed)))))
+    codes ",\"receiver\":{\"reserved\":\"" ++ (encode_lower (be64 own.reserved.0) ++ (codes "\""
+    ++ (option_text (codes ",\"metadata_id\":") (metadata_id own.reg) ++ (option_text (codes ",\"donthave_id\":") (donthave_id own.reg)
+    ++ (option_text (codes ",\"pieces\":") own.pieces ++ guess_member is_guessed)))))
 
 abbrev pub judged_members : Side → Bool → Option Side → Sender → List ℕ
 judged_members side has_gap closer (Unknown sent) = []
 judged_members side has_gap closer (Known j) =
     verdict_object (codes ",\"free\":{") j.free (note j.free has_gap closer side) j.free_message j.receiver
-    ++ (verdict_object (codes ",\"bep\":{") j.bep (note j.bep has_gap closer side) j.bep_message j.receiver ++ receiver_object j.receiver j.is_guessed)
+    ++ (verdict_object (codes ",\"bep\":{") j.bep (note j.bep has_gap closer side) j.bep_message j.receiver
+    ++ receiver_object j.receiver j.is_guessed)
 
 -- ---- remarks
 

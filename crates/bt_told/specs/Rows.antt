@@ -58,6 +58,7 @@ deed_members offset (Closed by) = codes ",\"offset\":" ++ (decimal offset ++ (co
 -- what `show --json` has of it, after the connection, the time in seconds, the packet and the side, and before the remarks
 abbrev pub row_object : ℕ → Row → List ℕ
 row_object packet r =
-    (codes "{\"connection\":" ++ (decimal r.connection ++ codes ",\"time\":")) ++ (time_text r.at ++ ((codes ",\"packet\":" ++ (decimal packet ++ codes ",\"side\":\""))
+    (codes "{\"connection\":" ++ (decimal r.connection ++ codes ",\"time\":")) ++ (time_text r.at
+    ++ ((codes ",\"packet\":" ++ (decimal packet ++ codes ",\"side\":\""))
     ++ (side_text r.side ++ (codes "\"" ++ (deed_members r.offset r.deed
     ++ (remarks_in (codes ",\"remarks\":[\"") (codes "\",\"") (codes "\"]") r.remarks ++ codes "}\n"))))))

@@ -113,7 +113,8 @@ end_sentence message inside length =
 abbrev pub bencode_sentence : ℕ → Option ℕ → List ℕ
 bencode_sentence at None = codes "The payload has to begin with a bencoded dictionary, and the message ends inside it"
 bencode_sentence at (Some byte) =
-    codes "The payload has to begin with a bencoded dictionary, and none goes on with the byte " ++ (byte_text (Some byte) ++ (codes " at " ++ decimal at))
+    codes "The payload has to begin with a bencoded dictionary, and none goes on with the byte "
+    ++ (byte_text (Some byte) ++ (codes " at " ++ decimal at))
 
 -- of an extended handshake, whose extended id is 0, or of a metadata message
 abbrev pub field_sentence : ℕ → List ℕ
@@ -139,7 +140,8 @@ reason_sentence reasons.NotNegotiated r m own =
 reason_sentence reasons.WrongLength r m own =
     codes "The message has the length " ++ (decimal m.length ++ (codes ", and the length of a "
     ++ (id_text m.id ++ (codes " message is " ++ lengths_text m.id own.pieces))))
-reason_sentence reasons.Late r m own = codes "A " ++ (id_text m.id ++ codes " message may only come first, and a message that counts came before it")
+reason_sentence reasons.Late r m own =
+    codes "A " ++ (id_text m.id ++ codes " message may only come first, and a message that counts came before it")
 reason_sentence reasons.Missing r m own =
     codes "Both peers have the Fast Extension, so a bitfield, have all or have none has to come first, and " ++ (id_text m.id ++ codes " came")
 reason_sentence reasons.BadIndex r m own =
@@ -149,7 +151,8 @@ reason_sentence reasons.SpareBits r m own =
     codes "The torrent has " ++ (decimal (unwrap_or own.pieces 0) ++ (codes " pieces, and the last byte of the bitfield is "
     ++ (byte_text m.byte ++ codes ", which has a 1 after them")))
 reason_sentence reasons.EndInside r m own = end_sentence r.message (r.at - m.start) m.length
-reason_sentence reasons.BadExtLength r m own = codes "A message that takes back a piece has four bytes after its extended id, and this one has another number"
+reason_sentence reasons.BadExtLength r m own =
+    codes "A message that takes back a piece has four bytes after its extended id, and this one has another number"
 reason_sentence reasons.BadBencode r m own = bencode_sentence r.at m.byte
 reason_sentence reasons.Unsorted r m own =
     codes "The keys of a dictionary are in order, and the key at " ++ (decimal r.at ++ codes " is not above the one before it")

@@ -423,7 +423,8 @@ fn put_bad_protocol(offset: u64, byte: Option<u8>, text: &mut [u8], at: usize) -
     ensures room { (at ≤ result) × (result ≤ at + 200) }
     ensures size { length text.new ≡ length text.old }
     ensures text { take result text.new ≡ take at text.old
-        ++ (codes "A stream begins with the byte 19 and the text \"BitTorrent protocol\", and byte " ++ (decimal offset ++ (codes " is " ++ byte_text byte))) }
+        ++ (codes "A stream begins with the byte 19 and the text \"BitTorrent protocol\", and byte "
+        ++ (decimal offset ++ (codes " is " ++ byte_text byte))) }
 {
     let at = put_between(NO_PROTOCOL, offset, b" is ", text, at);
     put_byte(byte, text, at)
