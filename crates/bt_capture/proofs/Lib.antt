@@ -5,5 +5,8 @@ pub mod Viewing
 pub mod Pairing
 pub mod InOrder
 pub mod Titles
+pub mod Taking
+pub mod Entries
+pub mod Shares
+pub mod Reported
 pub mod Outcomes
-pub mod Finding

@@ -1,41 +1,221 @@
--- What is written when a capture ends.
-use Rattle.std.proofs.Common.{◌≡◌, ◌∙◌, ℕ, List, [], ◌++◌, append-nil, refl, sym, ap, subst}
-use Rattle.std.specs.Io.KnownBytes.{Appends}
-use Rattle.std.proofs.KnownBytes.{Appends-nil}
+-- What is told while a capture is read, and at its end.
+use Rattle.std.proofs.Common.{◌≡◌, ◌∙◌, ℕ, ◌+◌, ◌-◌, ◌^◌, min, List, [], ◌∷◌, ◌++◌, length, append-nil, Option, Some, None, unwrap_or, Result, Ok, Err, refl, sym, ap, subst, arith}
+use Rattle.std.specs.List.{All}
+use Rattle.std.specs.List.Sorted.{IsPermutation}
+use Rattle.std.proofs.lemmas.List.Sorted.{IsPermutation-sym}
+use Rattle.std.specs.Map.{lookup}
+use Rattle.std.specs.Io.KnownBytes.{Appends, Consumes, Keeps}
+use Rattle.std.proofs.lemmas.List.Elements.{All-nil}
+use Rattle.std.proofs.KnownBytes.{Appends-nil, Consumes-nil, Consumes-trans, Consumes-kept}
 use Rattle.bt_io.specs.Seen.{TargetSeen}
-use Rattle.bt_told.specs.declared.report.Report.{Report}
+use Rattle.bt_pcap.specs.Formats.{Captured}
+use Rattle.bt_pcap.specs.Steps.{captured}
+use Rattle.bt_pcap.specs.declared.fault.FileFault.{FileFault}
+use Rattle.bt_pcap.specs.declared.fronts.Packet.{Packet}
+use Rattle.bt_capture.specs.declared.connections.Run.{Run}
 use Rattle.bt_capture.specs.declared.ending.CaptureFault.{CaptureFault}
 use Rattle.bt_capture.specs.declared.ending.CaptureFault.TheVariants.{File, Read, Write, Memory, Turns}
+use Rattle.bt_capture.specs.declared.pair.Pair.{Pair}
 use Rattle.bt_capture.specs.declared.telling.Teller.{Teller}
-use Rattle.bt_capture.specs.Tellings.{Tells, texts, IsEmpty}
-use Rattle.bt_capture.specs.Runs.{IsTelling, ArePartlyWritten, AfterFault, IsOfTelling, IsOfReading, IsToldTo}
+use Rattle.bt_told.specs.declared.report.Report.{Report}
+use Rattle.bt_capture.specs.Arrivals.{arrivals, first_time}
+use Rattle.bt_capture.specs.Following.{Finished, IsFinished, IsShare, IsShared, Follows, Stops, reports_of}
+use Rattle.bt_capture.specs.Readings.{Reading, IsReading, GoesOn, Hands, nothing_read, shown}
+use Rattle.bt_capture.specs.Tables.{Held, IsApart, same_pair}
+use Rattle.bt_capture.specs.Tellings.{Tells, IsStopped, IsEmpty, texts}
+use Rattle.bt_capture.specs.Runs.{Origin, HasRead, IsTelling, IsLeft, AreOver, AreAllOver, AreWritten, ArePartlyWritten, AfterFault, IsOfTelling, IsOfReading, IsToldTo}
+use Rattle.bt_capture.proofs.Entries.{apart_moved, lookup_moved}
+use Rattle.bt_capture.proofs.Going.{fresh}
+use Rattle.bt_capture.proofs.Reported.{follows_moved, follows_same, stops_of}
+
+-- ---- what was read
+
+pub read_nothing : (o : Origin) → HasRead o o.left [] nothing_read
+read_nothing o = record { all = []; consumed = Consumes-nil o.left; reading = fresh }
+
+pub read_packet : (o : Origin) (left : Option (List ℕ)) (packets given : List Captured) (r r' : Reading) → GoesOn r [] given r' → HasRead o left packets r
+    → HasRead o left (packets ++ given) r'
+read_packet o left packets given r r' goes i = record {
+  all = i.all;
+  consumed = i.consumed;
+  reading = subst (λ l. IsReading l (packets ++ given) r') (append-nil i.all) (goes.reads i.all packets i.reading);
+}
+
+pub read_quiet : (o : Origin) (left : Option (List ℕ)) (packets : List Captured) (r r' : Reading) → GoesOn r [] [] r' → HasRead o left packets r → HasRead o left packets r'
+read_quiet o left packets r r' goes i = subst (λ l. HasRead o left l r') (append-nil packets) (read_packet o left packets [] r r' goes i)
+
+pub hands_none : (r r' : Reading) (x : Result (Option Packet) FileFault) → x ≡ Ok None → Hands r (shown x) r' → GoesOn r [] [] r'
+hands_none r r' x e h = (subst (λ y. Hands r (shown y) r') e h).0
+
+pub hands_some : (r r' : Reading) (x : Result (Option Packet) FileFault) (p : Packet) → x ≡ Ok (Some p) → Hands r (shown x) r' → GoesOn r [] (captured p ∷ []) r'
+hands_some r r' x p e h = subst (λ y. Hands r (shown y) r') e h
+
+pub hands_fault : (r r' : Reading) (x : Result (Option Packet) FileFault) (f : FileFault) → x ≡ Err f → Hands r (shown x) r' → GoesOn r [] [] r'
+hands_fault r r' x f e h = (subst (λ y. Hands r (shown y) r') e h).0
+
+-- the number of the next packet
+pub next_number : (packets : List Captured) (all : List ℕ) (r : Reading) (n m : ℕ) → IsReading all packets r → n ≡ r.packets → m ≡ min (n + 1) (2 ^ 64 - 1)
+    → m ≡ min (length packets + 1) (2 ^ 64 - 1)
+next_number packets all r n m i e f = let count : r.packets ≡ min (length packets) (2 ^ 64 - 1) = i.count in omega (arith, count, e, f)
+
+pub read_bytes : (o : Origin) (left left' : Option (List ℕ)) (packets : List Captured) (r r' : Reading) (bytes : List ℕ) → GoesOn r bytes [] r'
+    → Consumes left left' bytes → HasRead o left packets r → HasRead o left' packets r'
+read_bytes o left left' packets r r' bytes goes more i = record {
+  all = i.all ++ bytes;
+  consumed = Consumes-trans o.left left left' i.all bytes i.consumed more;
+  reading = subst (λ l. IsReading (i.all ++ bytes) l r') (append-nil packets) (goes.reads i.all packets i.reading);
+}
+
+pub read_kept : (o : Origin) (left left' : Option (List ℕ)) (packets : List Captured) (r r' : Reading) → r' ≡ r → Keeps left left' → HasRead o left packets r
+    → HasRead o left' packets r'
+read_kept o left left' packets r r' same keeps i = record {
+  all = i.all;
+  consumed = Consumes-kept o.left left left' i.all i.consumed keeps;
+  reading = subst (λ x. IsReading i.all packets x) (sym same) i.reading;
+}
+
+-- ---- a step
+
+pub told_read : (o : Origin) (left left' : Option (List ℕ)) (now : TargetSeen) (es : List (Pair × Held)) (run : Run) (r r' : Reading)
+    → ((packets : List Captured) → HasRead o left packets r → HasRead o left' packets r') → IsTelling o left now es run r → IsTelling o left' now es run r'
+told_read o left left' now es run r r' reads i = record { packets = i.packets; read = reads i.packets i.read; pieces = i.pieces; time = i.time; follows = i.follows }
+
+pub flushed : (o : Origin) (left : Option (List ℕ)) (now after : TargetSeen) (es : List (Pair × Held)) (old new : Run) (r : Reading) → new.pieces ≡ old.pieces
+    → new.start ≡ old.start → new.lost ≡ old.lost → ((reports : List Report) → Tells o.target now old.teller reports → Tells o.target after new.teller reports)
+    → IsTelling o left now es old r → IsTelling o left after es new r
+flushed o left now after es old new r pieces begin lost tells i =
+    let known = i.follows.known in
+    record {
+      packets = i.packets;
+      read = i.read;
+      pieces = pieces ∙ i.pieces;
+      time = begin ∙ i.time;
+      follows = record {
+        fs = i.follows.fs;
+        known = record {
+          tells = tells (reports_of i.follows.fs) known.tells;
+          finished = subst (λ x. All (IsFinished x (unwrap_or new.start 0)) i.follows.fs) (sym pieces)
+              (subst (λ x. All (IsFinished old.pieces (unwrap_or x 0)) i.follows.fs) (sym begin) known.finished);
+          lost = lost ∙ known.lost;
+        };
+        shared = subst (λ x. (k : Pair) → IsShare x (arrivals i.packets) i.follows.fs k (lookup (same_pair k) es)) (sym pieces) i.follows.shared;
+      };
+    }
+
+finished_by : (o : Origin) (packets : List Captured) (fs : List Finished) (run : Run) → run.pieces ≡ o.pieces → run.start ≡ first_time packets
+    → All (IsFinished run.pieces (unwrap_or run.start 0)) fs → All (IsFinished o.pieces (unwrap_or (first_time packets) 0)) fs
+finished_by o packets fs run pieces time i =
+    subst (λ x. All (IsFinished x (unwrap_or (first_time packets) 0)) fs) pieces (subst (λ x. All (IsFinished run.pieces (unwrap_or x 0)) fs) time i)
+
+over_by : (o : Origin) (now : TargetSeen) (packets : List Captured) (run : Run) → run.pieces ≡ o.pieces → run.start ≡ first_time packets
+    → (s : Stops o.target now (arrivals packets) run) → AreOver o packets s.fs
+over_by o now packets run pieces time s = record { finished = finished_by o packets s.fs run pieces time s.known.finished; shared = s.shared }
+
+pub left_by : (o : Origin) (left : Option (List ℕ)) (now after : TargetSeen) (es : List (Pair × Held)) (run : Run) (r : Reading)
+    → ((reports : List Report) → Tells o.target now run.teller reports → IsStopped o.target after reports) → IsTelling o left now es run r → IsLeft o left after
+left_by o left now after es run r stopped i =
+    let s = stops_of o.target now (arrivals i.packets) es run i.follows in
+    record { packets = i.packets; r = r; read = i.read; fs = s.fs; over = over_by o now i.packets run i.pieces i.time s; stopped = stopped (reports_of s.fs) s.known.tells }
+
+pub given_up : (o : Origin) (left : Option (List ℕ)) (now : TargetSeen) (packets : List Captured) (run : Run) (r : Reading) → HasRead o left packets r
+    → run.pieces ≡ o.pieces → run.start ≡ first_time packets → Stops o.target now (arrivals packets) run → ArePartlyWritten o left now
+given_up o left now packets run r read pieces time s = let t = s.known.tells in record {
+  packets = packets;
+  r = r;
+  read = read;
+  fs = s.fs;
+  over = over_by o now packets run pieces time s;
+  front = (t.written, run.teller.text.items, sym t.whole, t.held);
+}
+
+pub partly : (o : Origin) (left : Option (List ℕ)) (now : TargetSeen) (es : List (Pair × Held)) (run : Run) (r : Reading) → IsTelling o left now es run r
+    → ArePartlyWritten o left now
+partly o left now es run r i = given_up o left now i.packets run r i.read i.pieces i.time (stops_of o.target now (arrivals i.packets) es run i.follows)
+
+pub nothing_told : (o : Origin) → ArePartlyWritten o o.left o.target
+nothing_told o = record {
+  packets = [];
+  r = nothing_read;
+  read = read_nothing o;
+  fs = [];
+  over = record { finished = All-nil (IsFinished o.pieces 0); shared = λ k. ([], refl) };
+  front = ([], [], refl, Appends-nil o.target.held);
+}
+
+-- ---- the end
 
 pub texts_written : (start now : TargetSeen) (t : Teller) (reports : List Report) → IsEmpty t → Tells start now t reports
     → Appends start.held now.held (texts reports)
 texts_written start now t reports empty w =
     subst (Appends start.held now.held) (sym (append-nil w.written) ∙ ap (λ (l : List ℕ). w.written ++ l) (sym empty) ∙ w.whole) w.held
 
-pub partly : (start now : TargetSeen) (t : Teller) → IsTelling start now t → ArePartlyWritten start now
-partly start now t i = record { reports = i.reports; front = (i.tells.written, t.text.items, sym i.tells.whole, i.tells.held) }
+pub all_over : (o : Origin) (left : Option (List ℕ)) (now : TargetSeen) (run : Run) (r : Reading) → (i : IsTelling o left now [] run r) → AreAllOver o i.packets i.follows.fs
+all_over o left now run r i = record {
+  finished = finished_by o i.packets i.follows.fs run i.pieces i.time i.follows.known.finished;
+  shared = λ k. let s = i.follows.shared k in subst (IsShared k (arrivals i.packets) i.follows.fs) s.is s.share;
+}
 
-pub nothing_told : (start : TargetSeen) → ArePartlyWritten start start
-nothing_told start = record { reports = []; front = ([], [], refl, Appends-nil start.held) }
+all_written : (o : Origin) (left : Option (List ℕ)) (now : TargetSeen) (run : Run) (r : Reading) → IsEmpty run.teller → IsTelling o left now [] run r → AreWritten o left now
+all_written o left now run r empty i = record {
+  packets = i.packets;
+  r = r;
+  read = i.read;
+  fs = i.follows.fs;
+  over = all_over o left now run r i;
+  written = texts_written o.target now run.teller (reports_of i.follows.fs) empty i.follows.known.tells;
+}
 
 -- The text couldn't be made or written.
-pub told_fault : (f : CaptureFault) (start now : TargetSeen) (t : Teller) → IsOfTelling f → AfterFault f start now t → IsToldTo f start now
-told_fault Write start now t x i = i
-told_fault Memory start now t x i = partly start now t i
-told_fault (File f) start now t x i = absurd x
-told_fault Read start now t x i = absurd x
-told_fault Turns start now t x i = absurd x
+pub told_fault : (f : CaptureFault) (o : Origin) (left : Option (List ℕ)) (now : TargetSeen) (es : List (Pair × Held)) (run : Run) (r : Reading) → IsOfTelling f
+    → AfterFault f o left now es run r → IsToldTo f o left now
+told_fault Write o left now es run r x i = i
+told_fault Memory o left now es run r x i = i
+told_fault (File f) o left now es run r x i = absurd x
+told_fault Read o left now es run r x i = absurd x
+told_fault Turns o left now es run r x i = absurd x
 
 -- The file couldn't be read on.
-pub told_unread : (f : CaptureFault) (start now : TargetSeen) (t : Teller) → IsOfReading f → IsEmpty t → IsTelling start now t → IsToldTo f start now
-told_unread Write start now t x empty i = absurd x
-told_unread Memory start now t x empty i = absurd x
-told_unread (File f) start now t x empty i = record { reports = i.reports; written = texts_written start now t i.reports empty i.tells }
-told_unread Read start now t x empty i = record { reports = i.reports; written = texts_written start now t i.reports empty i.tells }
-told_unread Turns start now t x empty i = absurd x
+pub told_unread : (f : CaptureFault) (o : Origin) (left : Option (List ℕ)) (now : TargetSeen) (run : Run) (r : Reading) → IsOfReading f → IsEmpty run.teller
+    → IsTelling o left now [] run r → IsToldTo f o left now
+told_unread Write o left now run r x empty i = absurd x
+told_unread Memory o left now run r x empty i = absurd x
+told_unread (File f) o left now run r x empty i = all_written o left now run r empty i
+told_unread Read o left now run r x empty i = all_written o left now run r empty i
+told_unread Turns o left now run r x empty i = absurd x
 
-pub telling_same : (start now : TargetSeen) (t t' : Teller) → t' ≡ t → IsTelling start now t → IsTelling start now t'
-telling_same start now t t' e i = subst (λ (x : Teller). IsTelling start now x) (sym e) i
+-- A fault of telling leaves no connection.
+pub fault_any : (f : CaptureFault) (o : Origin) (left : Option (List ℕ)) (now : TargetSeen) (es gs : List (Pair × Held)) (run : Run) (r : Reading) → IsOfTelling f
+    → AfterFault f o left now es run r → AfterFault f o left now gs run r
+fault_any Write o left now es gs run r x i = i
+fault_any Memory o left now es gs run r x i = i
+fault_any (File f) o left now es gs run r x i = absurd x
+fault_any Read o left now es gs run r x i = absurd x
+fault_any Turns o left now es gs run r x i = absurd x
+
+-- Those that are left are taken out of the table.
+pub told_rest : (o : Origin) (left : Option (List ℕ)) (now : TargetSeen) (old new : Run) (es : List (Pair × Held)) (r : Reading) → IsPermutation old.table es
+    → IsApart es → new ≡ record old { table = new.table } → IsTelling o left now old.table old r → IsTelling o left now es new r
+told_rest o left now old new es r all apart same i =
+    let table : List (Pair × Held) = old.table in
+    let was : IsApart table = apart_moved es table (IsPermutation-sym table es all) apart in
+    let mid : Run = record old { table = new.table } in
+    let moves = follows_moved o.target now (arrivals i.packets) table es old (lookup_moved table es all was) i.follows in
+    subst (λ x. IsTelling o left now es x r) (sym same) (record {
+      packets = i.packets;
+      read = i.read;
+      pieces = i.pieces;
+      time = i.time;
+      follows = follows_same o.target now (arrivals i.packets) es old mid refl refl refl refl moves;
+    })
+
+-- ---- the begin
+
+pub begins : (o : Origin) (run : Run) (r : Reading) → run.pieces ≡ o.pieces → run.start ≡ None → Follows o.target o.target [] run.table run → r ≡ nothing_read
+    → IsTelling o o.left o.target run.table run r
+begins o run r pieces begin follows same = record {
+  packets = [];
+  read = subst (HasRead o o.left []) (sym same) (read_nothing o);
+  pieces = pieces;
+  time = begin;
+  follows = follows;
+}

@@ -4,7 +4,10 @@ pub mod Walks
 pub mod Ends
 pub mod Sights
 pub mod Pairs
+pub mod Arrivals
+pub mod Connections
 pub mod Tellings
 pub mod Reportings
+pub mod Following
 pub mod Runs
 pub mod Tables

@@ -1,35 +1,137 @@
 -- What was told of a capture.
-use Rattle.std.specs.Prelude.{◌≡◌, List, Result, Ok, Err}
-use Rattle.std.specs.Io.KnownBytes.{Appends}
-use Rattle.bt_io.specs.Seen.{TargetSeen, AppendsPrefix}
-use Rattle.bt_told.specs.declared.report.Report.{Report}
+use Rattle.std.specs.Prelude.{◌≡◌, ℕ, ◌-◌, ◌^◌, min, Bool, true, false, List, [], length, Option, unwrap_or, Result, Ok, Err}
+use Rattle.std.specs.List.{All}
+use Rattle.std.specs.Io.KnownBytes.{Appends, Consumes}
+use Rattle.bt_io.specs.Seen.{SourceSeen, TargetSeen, AppendsPrefix}
+use Rattle.bt_pcap.specs.Formats.{Captured}
+use Rattle.bt_capture.specs.declared.connections.Run.{Run}
 use Rattle.bt_capture.specs.declared.ending.CaptureEnd.{CaptureEnd}
 use Rattle.bt_capture.specs.declared.ending.CaptureFault.{CaptureFault}
+use Rattle.bt_capture.specs.declared.ending.CaptureJob.{CaptureJob}
 use Rattle.bt_capture.specs.declared.ending.CaptureFault.TheVariants.{File, Read, Write, Memory, Turns}
-use Rattle.bt_capture.specs.declared.telling.Teller.{Teller}
-use Rattle.bt_capture.specs.Tellings.{Tells, IsStopped, texts, count_torrents, is_one_refused}
+use Rattle.bt_capture.specs.declared.packets.FileEnd.{FileEnd}
+use Rattle.bt_capture.specs.declared.packets.FileEnd.TheVariants.{Whole, Cut}
+use Rattle.bt_capture.specs.declared.pair.Pair.{Pair}
+use Rattle.bt_capture.specs.Arrivals.{Arrival, arrivals, first_time}
+use Rattle.bt_capture.specs.Ends.{IsEnded}
+use Rattle.bt_capture.specs.Following.{Finished, IsFinished, IsShared, Follows, reports_of, count_lost}
+use Rattle.bt_capture.specs.Readings.{Reading, IsReading}
+use Rattle.bt_capture.specs.Tables.{Held}
+use Rattle.bt_capture.specs.Tellings.{IsStopped, texts, count_torrents, is_one_refused}
+
+-- ---- what a run begins with
+
+-- the piece count, if it is known; the bytes that the source has, where these are known; and the target
+pub record Origin : Type 0 where
+  pub pieces : Option ℕ
+  pub left : Option (List ℕ)
+  pub target : TargetSeen
+
+abbrev pub origin : CaptureJob → SourceSeen → TargetSeen → Origin
+origin job source target = record { pieces = job.pieces; left = source.left; target = target }
+
+-- These packets were read from the source, all of them since the begin. Now it has these bytes left.
+pub record HasRead (o : Origin) (left : Option (List ℕ)) (packets : List Captured) (r : Reading) : Type 0 where
+  pub all : List ℕ
+  pub consumed : Consumes o.left left all
+  pub reading : IsReading all packets r
 
 -- ---- while it is read
 
--- Reports were told, in order. Their texts are written, except for what is kept.
-pub record IsTelling (start now : TargetSeen) (t : Teller) : Type 0 where
-  pub reports : List Report
-  pub tells : Tells start now t reports
+-- The packets' segments were taken. These connections aren't over, and the others are told.
+pub record IsTelling (o : Origin) (left : Option (List ℕ)) (now : TargetSeen) (es : List (Pair × Held)) (run : Run) (r : Reading) : Type 0 where
+  pub packets : List Captured
+  pub read : HasRead o left packets r
+  pub pieces : run.pieces ≡ o.pieces
+  pub time : run.start ≡ first_time packets
+  pub follows : Follows o.target now (arrivals packets) es run
 
-abbrev pub IsLeft : TargetSeen → TargetSeen → Type 0
-IsLeft start now = (reports : List Report) × IsStopped start now reports
+-- ---- at its end
 
--- After a failed write nothing more is written; any other fault leaves what was told.
-abbrev pub AfterFault : CaptureFault → TargetSeen → TargetSeen → Teller → Type 0
-AfterFault Write start now t = IsLeft start now
-AfterFault (File f) start now t = IsTelling start now t
-AfterFault Read start now t = IsTelling start now t
-AfterFault Memory start now t = IsTelling start now t
-AfterFault Turns start now t = IsTelling start now t
+-- The connections that are over, each with its segments among those of the packets, in order, but for the rest.
+pub record AreOver (o : Origin) (packets : List Captured) (fs : List Finished) : Type 0 where
+  pub finished : All (IsFinished o.pieces (unwrap_or (first_time packets) 0)) fs
+  pub shared : (k : Pair) → (rest : List Arrival) × IsShared k (arrivals packets) fs rest
 
-abbrev pub IsAfter : {T : Type 0} → TargetSeen → TargetSeen → Teller → Result T CaptureFault → Type 0
-IsAfter start now t (Ok x) = IsTelling start now t
-IsAfter start now t (Err f) = AfterFault f start now t
+-- All connections are over: each segment of the packets was taken by one of them.
+pub record AreAllOver (o : Origin) (packets : List Captured) (fs : List Finished) : Type 0 where
+  pub finished : All (IsFinished o.pieces (unwrap_or (first_time packets) 0)) fs
+  pub shared : (k : Pair) → IsShared k (arrivals packets) fs []
+
+abbrev pub is_cut_by : FileEnd → Bool
+is_cut_by Whole = false
+is_cut_by Cut = true
+
+-- The file was read to its end. What was written are the texts of the reports on all its connections, in order, and these add up to this.
+pub record IsEndOf (o : Origin) (left : Option (List ℕ)) (now : TargetSeen) (end : CaptureEnd) : Type 0 where
+  pub packets : List Captured
+  pub r : Reading
+  pub read : HasRead o left packets r
+  pub file_end : FileEnd
+  pub ended : IsEnded r (Ok file_end)
+  pub cut : end.is_cut ≡ is_cut_by file_end
+  pub count : end.packets ≡ min (length packets) (2 ^ 64 - 1)
+  pub fs : List Finished
+  pub over : AreAllOver o packets fs
+  pub written : Appends o.target.held now.held (texts (reports_of fs))
+  pub calm : now.failed ≡ o.target.failed
+  pub torrents : end.torrents ≡ count_torrents (reports_of fs)
+  pub refused : end.is_refused ≡ is_one_refused (reports_of fs)
+  pub lost : end.lost ≡ count_lost fs
+
+-- The texts of the reports on all connections of what was read are written.
+pub record AreWritten (o : Origin) (left : Option (List ℕ)) (now : TargetSeen) : Type 0 where
+  pub packets : List Captured
+  pub r : Reading
+  pub read : HasRead o left packets r
+  pub fs : List Finished
+  pub over : AreAllOver o packets fs
+  pub written : Appends o.target.held now.held (texts (reports_of fs))
+
+-- The first part of the texts of reports on connections of what was read is written.
+pub record ArePartlyWritten (o : Origin) (left : Option (List ℕ)) (now : TargetSeen) : Type 0 where
+  pub packets : List Captured
+  pub r : Reading
+  pub read : HasRead o left packets r
+  pub fs : List Finished
+  pub over : AreOver o packets fs
+  pub front : AppendsPrefix o.target.held now.held (texts (reports_of fs))
+
+-- A write failed: the first part of the texts is written.
+pub record IsLeft (o : Origin) (left : Option (List ℕ)) (now : TargetSeen) : Type 0 where
+  pub packets : List Captured
+  pub r : Reading
+  pub read : HasRead o left packets r
+  pub fs : List Finished
+  pub over : AreOver o packets fs
+  pub stopped : IsStopped o.target now (reports_of fs)
+
+abbrev pub IsToldTo : CaptureFault → Origin → Option (List ℕ) → TargetSeen → Type 0
+IsToldTo Write o left now = IsLeft o left now
+IsToldTo (File f) o left now = AreWritten o left now
+IsToldTo Read o left now = AreWritten o left now
+IsToldTo Memory o left now = ArePartlyWritten o left now
+IsToldTo Turns o left now = ArePartlyWritten o left now
+
+-- What is written are the texts of the reports on the connections of the packets that were read: all of them at the end, and when the
+-- file can't be read on.
+abbrev pub IsTold : Origin → Option (List ℕ) → TargetSeen → Result CaptureEnd CaptureFault → Type 0
+IsTold o left now (Ok end) = IsEndOf o left now end
+IsTold o left now (Err f) = IsToldTo f o left now
+
+-- ---- after a step
+
+-- After a failed write or without memory no more is told. What can't be read on leaves the connections as they are.
+abbrev pub AfterFault : CaptureFault → Origin → Option (List ℕ) → TargetSeen → List (Pair × Held) → Run → Reading → Type 0
+AfterFault Write o left now es run r = IsLeft o left now
+AfterFault (File f) o left now es run r = IsTelling o left now es run r
+AfterFault Read o left now es run r = IsTelling o left now es run r
+AfterFault Memory o left now es run r = ArePartlyWritten o left now
+AfterFault Turns o left now es run r = ArePartlyWritten o left now
+
+abbrev pub IsAfter : {T : Type 0} → Origin → Option (List ℕ) → TargetSeen → List (Pair × Held) → Run → Reading → Result T CaptureFault → Type 0
+IsAfter o left now es run r (Ok x) = IsTelling o left now es run r
+IsAfter o left now es run r (Err f) = AfterFault f o left now es run r
 
 abbrev pub IsOfTelling : CaptureFault → Type 0
 IsOfTelling Write = Unit {0}
@@ -44,35 +146,3 @@ IsOfReading Memory = ⊥
 IsOfReading (File f) = Unit {0}
 IsOfReading Read = Unit {0}
 IsOfReading Turns = ⊥
-
--- ---- at its end
-
--- What was written are the texts of reports, in order, and these add up to this.
-pub record IsEndOf (start now : TargetSeen) (end : CaptureEnd) : Type 0 where
-  pub reports : List Report
-  pub written : Appends start.held now.held (texts reports)
-  pub calm : now.failed ≡ start.failed
-  pub torrents : end.torrents ≡ count_torrents reports
-  pub refused : end.is_refused ≡ is_one_refused reports
-
--- All texts of reports are written.
-pub record AreWritten (start now : TargetSeen) : Type 0 where
-  pub reports : List Report
-  pub written : Appends start.held now.held (texts reports)
-
--- A front of the texts of reports is written.
-pub record ArePartlyWritten (start now : TargetSeen) : Type 0 where
-  pub reports : List Report
-  pub front : AppendsPrefix start.held now.held (texts reports)
-
-abbrev pub IsToldTo : CaptureFault → TargetSeen → TargetSeen → Type 0
-IsToldTo Write start now = IsLeft start now
-IsToldTo (File f) start now = AreWritten start now
-IsToldTo Read start now = AreWritten start now
-IsToldTo Memory start now = ArePartlyWritten start now
-IsToldTo Turns start now = ArePartlyWritten start now
-
--- What is written are the texts of reports, in order: all of them at the end, and when the file can't be read on.
-abbrev pub IsTold : TargetSeen → TargetSeen → Result CaptureEnd CaptureFault → Type 0
-IsTold start now (Ok end) = IsEndOf start now end
-IsTold start now (Err f) = IsToldTo f start now

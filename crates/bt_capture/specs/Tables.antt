@@ -1,8 +1,20 @@
 -- Connections by their ends.
-use Rattle.std.specs.Prelude.{Bool}
+use Rattle.std.specs.Prelude.{Bool, List, Box}
+use Rattle.std.specs.declared.alloc.Global.{Global}
+use Rattle.std.specs.List.{IsDistinct}
+use Rattle.std.specs.Map.{keys_of}
 use Rattle.bt_capture.specs.declared.pair.Pair.{Pair}
+use Rattle.bt_capture.specs.declared.connection.Connection.{Connection}
 use Rattle.bt_capture.specs.contracts.pair.PairPartialEq.TheImpl as pair_eq
 
 -- what `==` says of two keys
 abbrev pub same_pair : Pair → Pair → Bool
 same_pair = (pair_eq.ghosts).eq
+
+-- No two have the same ends.
+abbrev pub IsApart : {X : Type 0} → List (Pair × X) → Type 0
+IsApart es = IsDistinct same_pair (keys_of es)
+
+-- a connection, in memory of its own
+abbrev pub Held : Type 0
+Held = Box Connection Global

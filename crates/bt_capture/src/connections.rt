@@ -1,32 +1,30 @@
 //! The connections of a capture, and the reports of those that are over.
-ghost use Rattle.std.specs.Prelude.{◌≡◌, IfOk};
+ghost use Rattle.std.specs.Prelude.{◌≡◌, ◌∷◌, ◌++◌, [], ◌+◌, ◌-◌, ◌^◌, min, ℕ, List, length, None, IfOk};
+ghost use Rattle.std.specs.Map.{lookup};
+ghost use Rattle.std.specs.List.Sorted.{IsPermutation};
 ghost use Rattle.bt_io.specs.Seen.{TargetSeen};
-ghost use Rattle.bt_capture.specs.Runs.{IsTelling};
+ghost use Rattle.bt_pcap.specs.Formats.{Captured};
+ghost use Rattle.bt_pcap.specs.Steps.{captured};
+ghost use Rattle.bt_capture.specs.Arrivals.{Arrival, arrived, arrivals, arrivals_in, first_time};
+ghost use Rattle.bt_capture.specs.Following.{Follows, Goes, Finds};
+ghost use Rattle.bt_capture.specs.Sights.{seen};
+ghost use Rattle.bt_capture.specs.Tables.{Held, same_pair, IsApart};
+ghost use Rattle.bt_capture.specs.declared.pair.Pair.{Pair};
 
+use crate::connection::Connection;
 use crate::pair::Pair;
 use crate::sight::{Sight, sight_of};
+use crate::table::Table;
 use crate::telling::Teller;
 use bt_packet::Segment;
 use bt_pcap::Packet;
-use bt_talk::{Room, Talk, When};
-use lru::LruCache;
+use bt_talk::{Room, When};
 use std::alloc::{AllocError, Global};
-use std::num::NonZeroUsize;
 
-/// How many connections are followed at once, beside the one of the last packet.
+/// How many connections are followed at once.
 ///
 /// Past that the one that was used least recently is over.
 const MOST: usize = 16_384;
-
-/// A connection, with its number among those of the capture.
-#[derive(Drop)]
-pub struct Connection {
-    pair: Pair,
-    number: u64,
-    talk: Talk,
-    /// Whether a byte of a stream was captured.
-    has_payload: bool,
-}
 
 /// The connections of a capture, and what is told of them.
 #[derive(Drop)]
@@ -35,9 +33,7 @@ pub struct Run {
     pieces: Option<u32>,
     /// The time of the first packet.
     start: Option<u64>,
-    /// The connection of the last packet, which isn't in the table.
-    current: Option<Box<Connection>>,
-    table: LruCache<Pair, Box<Connection>>,
+    table: Table,
     /// How many connections have begun.
     begun: u64,
     pub teller: Teller,
@@ -46,35 +42,21 @@ pub struct Run {
     pub lost: u64,
 }
 
-impl Connection {
-    /// Takes a segment.
-    ///
-    /// If memory runs out the connection is lost.
-    fn take(&mut self, segment: &Segment, when: When, room: &mut Room) {
-        if !segment.flags.rst && !segment.payload.is_empty() {
-            self.has_payload = true;
-        }
-        let _taken = self.talk.take(segment, when, room);
-    }
-}
-
 impl Run {
     /// Starts before a capture's first packet.
     ///
     /// # Errors
     /// `AllocError` when out of memory.
     pub fn new(alloc: Global, pieces: Option<u32>) -> Result<Run, AllocError>
-        ensures { IfOk result (λ run. (start : TargetSeen) → IsTelling start start run.teller) }
+        ensures follows { IfOk result (λ run. (start : TargetSeen) → Follows start start [] run.table run) }
+        ensures start { IfOk result (λ run. run.start ≡ None) }
+        ensures pieces { IfOk result (λ run. run.pieces ≡ pieces) }
     {
-        let Some(most) = NonZeroUsize::new(MOST) else {
-            unreachable!()
-        };
         Ok(Run {
             alloc,
             pieces,
             start: None,
-            current: None,
-            table: LruCache::sparse(alloc, most)?,
+            table: Table::new(alloc)?,
             begun: 0,
             teller: Teller::new(alloc),
             room: Room::new(alloc)?,
@@ -88,42 +70,69 @@ impl Run {
     /// # Errors
     /// `AllocError` when out of memory. The connection isn't told then.
     pub fn report(&mut self, mut connection: Box<Connection>) -> Result<(), AllocError>
-        ensures { (start now : TargetSeen) → IsTelling start now self.old.teller → IsTelling start now self.new.teller }
+        ensures goes { (start now : TargetSeen) (came : List Arrival) (p : Pair) (es : List (Pair × Held)) → lookup (same_pair p) es ≡ None
+            → Follows start now came ((p, connection) ∷ es) self.old → Goes start now came es self.new result }
+        ensures table { self.new.table ≡ self.old.table }
+        ensures pieces { self.new.pieces ≡ self.old.pieces }
+        ensures start { self.new.start ≡ self.old.start }
     {
         if !connection.has_payload {
             return Ok(());
         }
-        if connection.talk.end_opening(&mut self.room).is_err() {
-            self.lost = self.lost.saturating_add(1);
-            return Ok(());
+        let from = self.start.unwrap_or(0);
+        match connection.talk.end_opening(&mut self.room) {
+            Ok(()) => self
+                .teller
+                .report(&connection.talk, connection.number, from),
+            Err(_) => {
+                self.lost = self.lost.saturating_add(1);
+                Ok(())
+            }
         }
-        self.teller.report(&connection.talk, connection.number, self.start.unwrap_or(0))
     }
 
-    /// Puts a connection into the table. If that is full, the one that was used least recently is over.
+    /// Ends the connection that was used least recently, if there are too many.
+    fn shrink(&mut self) -> Result<(), AllocError>
+        ensures goes { (start now : TargetSeen) (came : List Arrival) → Follows start now came self.old.table self.old
+            → Goes start now came self.new.table self.new result }
+        ensures pieces { self.new.pieces ≡ self.old.pieces }
+        ensures start { self.new.start ≡ self.old.start }
+    {
+        if self.table.len() <= MOST {
+            return Ok(());
+        }
+        match self.table.take_oldest() {
+            Some((_, oldest)) => self.report(oldest),
+            None => Ok(()),
+        }
+    }
+
+    /// Puts a connection into the table, which has none of the same ends.
     ///
     /// # Errors
     /// `AllocError` when out of memory.
-    fn put(&mut self, connection: Box<Connection>) -> Result<(), AllocError>
-        ensures { (start now : TargetSeen) → IsTelling start now self.old.teller → IsTelling start now self.new.teller }
+    fn put(&mut self, pair: Pair, connection: Box<Connection>) -> Result<(), AllocError>
+        requires { lookup (same_pair pair) self.old.table ≡ None }
+        ensures goes { (start now : TargetSeen) (came : List Arrival) → Follows start now came ((pair, connection) ∷ self.old.table) self.old
+            → Goes start now came self.new.table self.new result }
+        ensures pieces { self.new.pieces ≡ self.old.pieces }
+        ensures start { self.new.start ≡ self.old.start }
     {
-        match self.table.push(connection.pair, connection) {
-            Ok(Some((_, out))) => self.report(out),
-            Ok(None) => Ok(()),
-            Err(_) => Err(AllocError),
+        match self.table.put(pair, connection) {
+            Ok(()) => self.shrink(),
+            Err(error) => Err(error),
         }
     }
 
     /// Begins the connection of a segment.
-    fn begin(&mut self, pair: Pair, segment: &Segment) -> Result<Box<Connection>, AllocError>
-        ensures { self.new.teller ≡ self.old.teller }
+    fn begin(&mut self, segment: &Segment) -> Result<Box<Connection>, AllocError>
+        ensures finds { (start now : TargetSeen) (came : List Arrival) (when : When) (p : Pair) (es : List (Pair × Held)) → lookup (same_pair p) es ≡ None
+            → Follows start now came es self.old → Finds start now came (arrived segment.now when) p es self.new result }
+        ensures table { self.new.table ≡ self.old.table }
+        ensures pieces { self.new.pieces ≡ self.old.pieces }
+        ensures start { self.new.start ≡ self.old.start }
     {
-        let connection = Connection {
-            pair,
-            number: self.begun,
-            talk: Talk::new(self.alloc, segment, self.pieces),
-            has_payload: false,
-        };
+        let connection = Connection::new(self.alloc, self.begun, segment, self.pieces);
         self.begun = self.begun.saturating_add(1);
         match Box::new(self.alloc, connection) {
             Ok(connection) => Ok(connection),
@@ -131,50 +140,91 @@ impl Run {
         }
     }
 
-    /// Takes out the connection of these ends, if there is one.
-    fn take_out(&mut self, pair: Pair) -> Result<Option<Box<Connection>>, AllocError>
-        ensures { (start now : TargetSeen) → IsTelling start now self.old.teller → IsTelling start now self.new.teller }
-    {
-        if let Some(connection) = self.current.take() {
-            if connection.pair == pair {
-                return Ok(Some(connection));
-            }
-            self.put(connection)?;
-        }
-        Ok(self.table.pop(&pair))
-    }
-
-    /// Takes out the connection to which a segment belongs, or begins it.
+    /// Returns the connection to which a segment belongs: this one between the same ends, or another that it begins.
     ///
-    /// One between the same ends is over if it was closed four seconds ago, or if the segment begins another.
-    fn connection_of(
+    /// This one is over if it was closed four seconds ago, or if the segment begins another.
+    fn goes_on(
         &mut self,
+        connection: Box<Connection>,
         segment: &Segment,
         when: When,
     ) -> Result<Box<Connection>, AllocError>
-        ensures { (start now : TargetSeen) → IsTelling start now self.old.teller → IsTelling start now self.new.teller }
+        ensures finds { (start now : TargetSeen) (came : List Arrival) (p : Pair) (es : List (Pair × Held)) → lookup (same_pair p) es ≡ None
+            → Follows start now came ((p, connection) ∷ es) self.old → Finds start now came (arrived segment.now when) p es self.new result }
+        ensures table { self.new.table ≡ self.old.table }
+        ensures pieces { self.new.pieces ≡ self.old.pieces }
+        ensures start { self.new.start ≡ self.old.start }
     {
-        let pair = Pair::of(segment.source, segment.target);
-        match self.take_out(pair)? {
-            Some(connection) => {
-                if !connection.talk.is_over(when.nanos) && !connection.talk.opens_again(segment) {
-                    return Ok(connection);
-                }
-                self.report(connection)?;
-                self.begin(pair, segment)
-            }
-            None => self.begin(pair, segment),
+        if !connection.talk.is_over(when.nanos) && !connection.talk.opens_again(segment) {
+            return Ok(connection);
+        }
+        match self.report(connection) {
+            Ok(()) => self.begin(segment),
+            Err(error) => Err(error),
+        }
+    }
+
+    /// Takes out the connection to which a segment belongs, or begins it.
+    fn connection_of(
+        &mut self,
+        pair: Pair,
+        segment: &Segment,
+        when: When,
+    ) -> Result<Box<Connection>, AllocError>
+        ensures finds { (start now : TargetSeen) (came : List Arrival) → Follows start now came self.old.table self.old
+            → Finds start now came (arrived segment.now when) pair self.new.table self.new result }
+        ensures absent { lookup (same_pair pair) self.new.table ≡ None }
+        ensures pieces { self.new.pieces ≡ self.old.pieces }
+        ensures start { self.new.start ≡ self.old.start }
+    {
+        match self.table.take_out(pair) {
+            Some(connection) => self.goes_on(connection, segment, when),
+            None => self.begin(segment),
         }
     }
 
     /// Takes a segment.
     fn take_segment(&mut self, segment: &Segment, when: When) -> Result<(), AllocError>
-        ensures { (start now : TargetSeen) → IsTelling start now self.old.teller → IsTelling start now self.new.teller }
+        ensures goes { (start now : TargetSeen) (came : List Arrival) → Follows start now came self.old.table self.old
+            → Goes start now (came ++ arrived segment.now when ∷ []) self.new.table self.new result }
+        ensures pieces { self.new.pieces ≡ self.old.pieces }
+        ensures start { self.new.start ≡ self.old.start }
     {
-        let mut connection = self.connection_of(segment, when)?;
-        connection.take(segment, when, &mut self.room);
-        self.current = Some(connection);
-        Ok(())
+        let pair = Pair::of(segment.source, segment.target);
+        match self.connection_of(pair, segment, when) {
+            Ok(mut connection) => {
+                connection.take(segment, when, &mut self.room);
+                self.put(pair, connection)
+            }
+            Err(error) => Err(error),
+        }
+    }
+
+    /// Counts a packet that isn't TCP.
+    fn skip(&mut self)
+        ensures { self.new ≡ record self.old { skipped = self.new.skipped } }
+    {
+        self.skipped = self.skipped.saturating_add(1);
+    }
+
+    /// Takes what a packet carries.
+    fn take_sight(&mut self, sight: &Sight, when: When) -> Result<(), AllocError>
+        ensures goes { (start now : TargetSeen) (came : List Arrival) → Follows start now came self.old.table self.old
+            → Goes start now (came ++ arrivals_in when.packet when.nanos (seen sight.now)) self.new.table self.new result }
+        ensures pieces { self.new.pieces ≡ self.old.pieces }
+        ensures start { self.new.start ≡ self.old.start }
+    {
+        match sight {
+            Sight::Segment(segment) => self.take_segment(segment, when),
+            Sight::Utp(_) => {
+                self.skip();
+                Ok(())
+            }
+            Sight::Other => {
+                self.skip();
+                Ok(())
+            }
+        }
     }
 
     /// Takes the next packet; `number` is its number in the capture, counted from 1.
@@ -182,43 +232,34 @@ impl Run {
     /// # Errors
     /// `AllocError` when out of memory.
     pub fn take(&mut self, packet: &Packet, number: u64) -> Result<(), AllocError>
-        ensures { (start now : TargetSeen) → IsTelling start now self.old.teller → IsTelling start now self.new.teller }
+        ensures goes { (start now : TargetSeen) (packets : List Captured) → number ≡ min (length packets + 1) (2 ^ 64 - 1)
+            → self.old.start ≡ first_time packets → Follows start now (arrivals packets) self.old.table self.old
+            → Goes start now (arrivals (packets ++ captured packet.now ∷ [])) self.new.table self.new result }
+        ensures pieces { self.new.pieces ≡ self.old.pieces }
+        ensures start { (packets : List Captured) → self.old.start ≡ first_time packets → self.new.start ≡ first_time (packets ++ captured packet.now ∷ []) }
     {
         self.start = self.start.or(Some(packet.nanos));
-        match sight_of(packet) {
-            Sight::Segment(segment) => {
-                let when = When {
-                    nanos: packet.nanos,
-                    packet: number,
-                };
-                self.take_segment(&segment, when)
-            }
-            Sight::Utp(_) => {
-                self.skipped = self.skipped.saturating_add(1);
-                Ok(())
-            }
-            Sight::Other => {
-                self.skipped = self.skipped.saturating_add(1);
-                Ok(())
-            }
-        }
+        let when = When {
+            nanos: packet.nanos,
+            packet: number,
+        };
+        self.take_sight(&sight_of(packet), when)
     }
 
     /// Takes out the connections that aren't over, in the order of their numbers.
     ///
     /// # Errors
     /// `AllocError` when out of memory.
-    pub fn rest(&mut self) -> Result<Vec<Box<Connection>>, AllocError>
-        ensures { self.new.teller ≡ self.old.teller }
+    pub fn rest(&mut self) -> Result<Vec<(Pair, Box<Connection>)>, AllocError>
+        ensures all { IfOk result (λ all. IsPermutation self.old.table all.items) }
+        ensures apart { IfOk result (λ all. IsApart all.items) }
+        ensures same { self.new ≡ record self.old { table = self.new.table } }
     {
-        let mut rest = Vec::new(self.alloc);
-        if let Some(connection) = self.current.take() {
-            rest.push(connection)?;
+        let mut rest = Vec::with_capacity(self.alloc, self.table.len())?;
+        'table: while let Some(oldest) = self.table.take_oldest() {
+            rest.push(oldest)?;
         }
-        'table: while let Some((_, connection)) = self.table.pop_lru() {
-            rest.push(connection)?;
-        }
-        rest.sort_by_key(|connection| connection.number)?;
+        rest.sort_by_key(|(_, connection)| connection.number)?;
         Ok(rest)
     }
 }

@@ -2,6 +2,7 @@
 #![tactic(auto)]
 
 mod buffer;
+mod connection;
 mod connections;
 mod ending;
 mod fault;
@@ -21,5 +22,4 @@ pub use pair::Pair;
 pub use reporting::report_of;
 pub use run::run_capture;
 pub use sight::{Sight, sight_of};
-pub use table::Table;
 pub use telling::is_refused;

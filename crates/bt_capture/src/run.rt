@@ -1,11 +1,17 @@
 //! What `capture` does: from a source of a capture file to a target of the reports on its connections.
-ghost use Rattle.std.specs.Prelude.{◌≡◌, ◌<◌, length, Ok, OnOk, IfErr, false};
+ghost use Rattle.std.specs.Prelude.{◌≡◌, ◌<◌, ℕ, List, [], ◌∷◌, length, Option, None, Ok, OnOk, IfOk, IfErr, IfSome, false};
+ghost use Rattle.std.specs.Map.{lookup};
 ghost use Rattle.bt_io.specs.Seen.{TargetSeen};
+ghost use Rattle.bt_capture.specs.Ends.{IsEnded};
+ghost use Rattle.bt_capture.specs.Readings.{Reading};
+ghost use Rattle.bt_capture.specs.Tables.{Held, same_pair};
 ghost use Rattle.bt_capture.specs.Tellings.{IsEmpty};
-ghost use Rattle.bt_capture.specs.declared.telling.Teller.{Teller};
-ghost use Rattle.bt_capture.specs.Runs.{IsTelling, IsOfTelling, IsOfReading, IsAfter, IsTold, IsEndOf};
+ghost use Rattle.bt_capture.specs.Runs.{Origin, origin, IsTelling, IsOfTelling, IsOfReading, IsAfter, IsTold, IsEndOf, is_cut_by};
+ghost use Rattle.bt_capture.specs.declared.connections.Run.{Run};
+ghost use Rattle.bt_capture.specs.declared.pair.Pair.{Pair};
 
-use crate::connections::{Connection, Run};
+use crate::connection::Connection;
+use crate::connections::Run;
 use crate::ending::{CaptureEnd, CaptureFault, CaptureJob};
 use crate::fault::ReadFault;
 use crate::packets::{FileEnd, Packets};
@@ -14,7 +20,9 @@ use std::alloc::Global;
 
 /// Writes the text that is kept.
 fn write<W: Target>(run: &mut Run, writer: &mut W) -> Result<(), CaptureFault>
-    ensures after { (start : TargetSeen) → IsTelling start (W.seen writer.old) run.old.teller → IsAfter start (W.seen writer.new) run.new.teller result }
+    ensures after { (o : Origin) (left : Option (List ℕ)) (es : List (Pair × Held)) (r : Reading) → IsTelling o left (W.seen writer.old) es run.old r
+        → IsAfter o left (W.seen writer.new) es run.new r result }
+    ensures table { run.new.table ≡ run.old.table }
     ensures fault { IfErr result IsOfTelling }
     ensures empty { OnOk result (IsEmpty run.new.teller) }
 {
@@ -26,7 +34,9 @@ fn write<W: Target>(run: &mut Run, writer: &mut W) -> Result<(), CaptureFault>
 
 /// Writes the text that is kept if it is long.
 fn write_if_full<W: Target>(run: &mut Run, writer: &mut W) -> Result<(), CaptureFault>
-    ensures after { (start : TargetSeen) → IsTelling start (W.seen writer.old) run.old.teller → IsAfter start (W.seen writer.new) run.new.teller result }
+    ensures after { (o : Origin) (left : Option (List ℕ)) (es : List (Pair × Held)) (r : Reading) → IsTelling o left (W.seen writer.old) es run.old r
+        → IsAfter o left (W.seen writer.new) es run.new r result }
+    ensures table { run.new.table ≡ run.old.table }
     ensures fault { IfErr result IsOfTelling }
 {
     if run.teller.is_full() {
@@ -38,7 +48,8 @@ fn write_if_full<W: Target>(run: &mut Run, writer: &mut W) -> Result<(), Capture
 
 /// Takes the next packet of what was read, and tells whether there was one.
 fn step(run: &mut Run, packets: &mut Packets) -> Result<bool, CaptureFault>
-    ensures after { (start now : TargetSeen) → IsTelling start now run.old.teller → IsAfter start now run.new.teller result }
+    ensures after { (o : Origin) (left : Option (List ℕ)) (now : TargetSeen) → IsTelling o left now run.old.table run.old packets.old
+        → IsAfter o left now run.new.table run.new packets.new result }
     ensures few { result ≡ Ok false → length packets.new.held < 1048604 }
 {
     let number = packets.packets().saturating_add(1);
@@ -60,7 +71,8 @@ fn read_more<R: Source, W: Target>(
     writer: &mut W,
 ) -> Result<bool, CaptureFault>
     requires { length packets.old.held < 1048604 }
-    ensures { (start : TargetSeen) → IsTelling start (W.seen writer.old) run.old.teller → IsAfter start (W.seen writer.new) run.new.teller result }
+    ensures after { (o : Origin) → IsTelling o (R.seen reader.old).left (W.seen writer.old) run.old.table run.old packets.old
+        → IsAfter o (R.seen reader.new).left (W.seen writer.new) run.new.table run.new packets.new result }
 {
     match write(run, writer) {
         Ok(()) => {}
@@ -75,7 +87,9 @@ fn read_more<R: Source, W: Target>(
 
 /// Tells how the file ended, which was read to its end.
 fn ended(packets: &Packets) -> Result<Option<FileEnd>, CaptureFault>
-    ensures { (start now : TargetSeen) → (teller : Teller) → IsTelling start now teller → IsAfter start now teller result }
+    ensures after { (o : Origin) (left : Option (List ℕ)) (now : TargetSeen) (es : List (Pair × Held)) (run : Run) → IsTelling o left now es run packets.now
+        → IsAfter o left now es run packets.now result }
+    ensures ended { IfOk result (λ end. IfSome end (λ e. IsEnded packets.now (Ok e))) }
 {
     match packets.ended() {
         Ok(end) => Ok(Some(end)),
@@ -90,7 +104,9 @@ fn turn<R: Source, W: Target>(
     reader: &mut R,
     writer: &mut W,
 ) -> Result<Option<FileEnd>, CaptureFault>
-    ensures { (start : TargetSeen) → IsTelling start (W.seen writer.old) run.old.teller → IsAfter start (W.seen writer.new) run.new.teller result }
+    ensures after { (o : Origin) → IsTelling o (R.seen reader.old).left (W.seen writer.old) run.old.table run.old packets.old
+        → IsAfter o (R.seen reader.new).left (W.seen writer.new) run.new.table run.new packets.new result }
+    ensures ended { IfOk result (λ end. IfSome end (λ e. IsEnded packets.new (Ok e))) }
 {
     match step(run, packets) {
         Ok(true) => match write_if_full(run, writer) {
@@ -113,7 +129,9 @@ fn read_all<R: Source, W: Target>(
     reader: &mut R,
     writer: &mut W,
 ) -> Result<FileEnd, CaptureFault>
-    ensures { (start : TargetSeen) → IsTelling start (W.seen writer.old) run.old.teller → IsAfter start (W.seen writer.new) run.new.teller result }
+    ensures after { (o : Origin) → IsTelling o (R.seen reader.old).left (W.seen writer.old) run.old.table run.old packets.old
+        → IsAfter o (R.seen reader.new).left (W.seen writer.new) run.new.table run.new packets.new result }
+    ensures ended { IfOk result (λ e. IsEnded packets.new (Ok e)) }
 {
     for _turn in 0..u64::MAX {
         match turn(run, packets, reader, writer) {
@@ -131,7 +149,8 @@ fn tell_last<W: Target>(
     connection: Box<Connection>,
     writer: &mut W,
 ) -> Result<(), CaptureFault>
-    ensures after { (start : TargetSeen) → IsTelling start (W.seen writer.old) run.old.teller → IsAfter start (W.seen writer.new) run.new.teller result }
+    ensures after { (o : Origin) (left : Option (List ℕ)) (p : Pair) (es : List (Pair × Held)) (r : Reading) → lookup (same_pair p) es ≡ None
+        → IsTelling o left (W.seen writer.old) ((p, connection) ∷ es) run.old r → IsAfter o left (W.seen writer.new) es run.new r result }
     ensures fault { IfErr result IsOfTelling }
 {
     match run.report(connection) {
@@ -141,16 +160,16 @@ fn tell_last<W: Target>(
 }
 
 /// Tells of the connections that are left, and writes all text.
-#[tactic(auto, using(crate::proofs::Outcomes::telling_same))]
 fn finish<W: Target>(run: &mut Run, writer: &mut W) -> Result<(), CaptureFault>
-    ensures after { (start : TargetSeen) → IsTelling start (W.seen writer.old) run.old.teller → IsAfter start (W.seen writer.new) run.new.teller result }
+    ensures after { (o : Origin) (left : Option (List ℕ)) (r : Reading) → IsTelling o left (W.seen writer.old) run.old.table run.old r
+        → IsAfter o left (W.seen writer.new) [] run.new r result }
     ensures fault { IfErr result IsOfTelling }
     ensures empty { OnOk result (IsEmpty run.new.teller) }
 {
     let Ok(rest) = run.rest() else {
         return Err(CaptureFault::Memory);
     };
-    for connection in rest {
+    for (_, connection) in rest {
         match tell_last(run, connection, writer) {
             Ok(()) => {}
             Err(fault) => return Err(fault),
@@ -159,9 +178,20 @@ fn finish<W: Target>(run: &mut Run, writer: &mut W) -> Result<(), CaptureFault>
     write(run, writer)
 }
 
+/// Tells whether the file ended inside an item.
+fn is_cut(end: FileEnd) -> bool
+    ensures { result ≡ is_cut_by end }
+{
+    match end {
+        FileEnd::Whole => false,
+        FileEnd::Cut => true,
+    }
+}
+
 /// Returns what the capture had, once all is told.
 fn end_of(run: &Run, packets: &Packets, end: FileEnd) -> CaptureEnd
-    ensures { (start now : TargetSeen) → IsTelling start now run.now.teller → IsEmpty run.now.teller → IsEndOf start now result }
+    ensures { (o : Origin) (left : Option (List ℕ)) (now : TargetSeen) → IsTelling o left now [] run.now packets.now → IsEmpty run.now.teller
+        → IsEnded packets.now (Ok end) → IsEndOf o left now result }
 {
     CaptureEnd {
         packets: packets.packets(),
@@ -169,7 +199,7 @@ fn end_of(run: &Run, packets: &Packets, end: FileEnd) -> CaptureEnd
         torrents: run.teller.torrents(),
         lost: run.lost,
         is_refused: run.teller.is_refused(),
-        is_cut: end == FileEnd::Cut,
+        is_cut: is_cut(end),
     }
 }
 
@@ -180,7 +210,8 @@ fn end_whole<W: Target>(
     end: FileEnd,
     writer: &mut W,
 ) -> Result<CaptureEnd, CaptureFault>
-    ensures { (start : TargetSeen) → IsTelling start (W.seen writer.old) run.old.teller → IsTold start (W.seen writer.new) result }
+    ensures { (o : Origin) (left : Option (List ℕ)) → IsTelling o left (W.seen writer.old) run.old.table run.old packets.now → IsEnded packets.now (Ok end)
+        → IsTold o left (W.seen writer.new) result }
 {
     match finish(run, writer) {
         Ok(()) => Ok(end_of(run, packets, end)),
@@ -195,7 +226,8 @@ fn end_unread<W: Target>(
     writer: &mut W,
 ) -> Result<CaptureEnd, CaptureFault>
     requires { IsOfReading fault }
-    ensures { (start : TargetSeen) → IsTelling start (W.seen writer.old) run.old.teller → IsTold start (W.seen writer.new) result }
+    ensures { (o : Origin) (left : Option (List ℕ)) (r : Reading) → IsTelling o left (W.seen writer.old) run.old.table run.old r
+        → IsTold o left (W.seen writer.new) result }
 {
     match finish(run, writer) {
         Ok(()) => Err(fault),
@@ -210,7 +242,8 @@ fn tell_all<R: Source, W: Target>(
     reader: &mut R,
     writer: &mut W,
 ) -> Result<CaptureEnd, CaptureFault>
-    ensures { (start : TargetSeen) → IsTelling start (W.seen writer.old) run.old.teller → IsTold start (W.seen writer.new) result }
+    ensures { (o : Origin) → IsTelling o (R.seen reader.old).left (W.seen writer.old) run.old.table run.old packets.old
+        → IsTold o (R.seen reader.new).left (W.seen writer.new) result }
 {
     match read_all(run, packets, reader, writer) {
         Ok(end) => end_whole(run, packets, end, writer),
@@ -230,14 +263,13 @@ fn tell_all<R: Source, W: Target>(
 /// # Errors
 /// `File` if the bytes aren't those of a capture file. `Read` if a read failed, `Write` if a write failed or took no byte, `Memory`
 /// when out of memory.
-#[tactic(auto, using(crate::proofs::Outcomes::nothing_told))]
 pub fn run_capture<R: Source, W: Target>(
     alloc: Global,
     reader: &mut R,
     writer: &mut W,
     job: &CaptureJob,
 ) -> Result<CaptureEnd, CaptureFault>
-    ensures told { IsTold (W.seen writer.old) (W.seen writer.new) result }
+    ensures told { IsTold (origin job.now (R.seen reader.old) (W.seen writer.old)) (R.seen reader.new).left (W.seen writer.new) result }
 {
     match Run::new(alloc, job.pieces) {
         Ok(mut run) => match Packets::new(alloc) {

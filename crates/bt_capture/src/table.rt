@@ -1,110 +1,139 @@
-//! The connections that are followed, by their ends.
-ghost use Rattle.std.specs.Prelude.{◌≡◌, ℕ, List, true, ◌-◌, ◌≤◌, [], ◌∷◌, length, take, IfOk, IfSome, OnOk, OnErr};
-ghost use Rattle.std.specs.NonZero.{non_zero_usize_get};
-ghost use Rattle.std.specs.Map.{lookup, remove_entry, keys_of};
-ghost use Rattle.lru.specs.LruCache.{lru_cache, promoted, put_entries, displaced, last_entry};
-ghost use Rattle.std.specs.List.{IsDistinct};
-ghost use Rattle.bt_capture.specs.declared.pair.Pair.{Pair};
-ghost use Rattle.bt_capture.specs.Tables.{same_pair};
+//! The connections that aren't over, by their ends.
+ghost use Rattle.std.specs.Prelude.{◌≡◌, ◌-◌, ◌^◌, [], ◌∷◌, ◌++◌, length, None, IfOk, OnOk, OnErr};
+ghost use Rattle.std.specs.Option.{option_to_list};
+ghost use Rattle.lru.specs.LruCache.{lru_cache};
+ghost use Rattle.std.specs.Map.{lookup, remove_entry};
+ghost use Rattle.std.specs.List.{cons_option};
+ghost use Rattle.bt_capture.specs.Tables.{same_pair, IsApart};
 
+use crate::connection::Connection;
 use crate::pair::Pair;
 use lru::LruCache;
 use std::alloc::{AllocError, Global};
 use std::marker::Model;
-use std::num::NonZeroUsize;
 
-/// Which of the caller's slots each connection has. There are at most `most`, in the order of their last use.
+/// The connections that aren't over, in the order of their last segments.
 ///
-/// The connection that was used last is found without a search.
+/// The one that was put last is found without a search.
 #[derive(Drop)]
 pub struct Table {
-    slots: LruCache<Pair, usize>,
+    last: Option<(Pair, Box<Connection>)>,
+    others: LruCache<Pair, Box<Connection>>,
 }
 
 impl Model for Table {
-    ghost use Rattle.std.specs.Prelude.{ℕ};
-    ghost use Rattle.lru.specs.LruCache.{LruCache as Entries};
+    ghost use Rattle.std.specs.Prelude.{◌≡◌, ◌-◌, ◌^◌, List};
+    ghost use Rattle.std.specs.List.{cons_option};
+    ghost use Rattle.bt_capture.specs.Tables.{IsApart, Held};
     ghost use Rattle.bt_capture.specs.declared.pair.Pair.{Pair};
+    ghost use Rattle.std.specs.Coded.{codes};
+    ghost use Rattle.bt_capture.specs.contracts.connection.Connection as connection;
 
-    ghost Value = { Entries Pair ℕ };
+    ghost Value = { List (Pair × Held) };
 
-    ghost view = { λ t. t.slots };
+    ghost coded = { Prim.hlevel (codes, connection.the_row.coded) };
+
+    ghost view = { λ t. cons_option t.last t.others.entries };
+
+    ghost invariant = { λ t. IsApart (cons_option t.last t.others.entries) × (t.others.cap ≡ 2 ^ 64 - 1) };
+}
+
+/// Puts a connection among others, of which none has the same ends.
+fn keep(
+    others: &mut LruCache<Pair, Box<Connection>>,
+    pair: Pair,
+    connection: Box<Connection>,
+) -> Result<(), AllocError>
+    requires room { others.old.cap ≡ 2 ^ 64 - 1 }
+    requires absent { lookup (same_pair pair) others.old.entries ≡ None }
+    ensures kept { OnOk result (others.new ≡ lru_cache ((pair, connection) ∷ others.old.entries) others.old.cap) }
+    ensures same { OnErr result (others.new ≡ others.old) }
+{
+    let _few = others.len();
+    match others.push(pair, connection) {
+        Ok(_) => Ok(()),
+        Err(_) => Err(AllocError),
+    }
 }
 
 impl Table {
-    /// Makes a table of at most `most` connections, without one.
+    /// Makes a table without a connection.
     ///
     /// # Errors
     /// `AllocError` when out of memory.
-    pub fn new(alloc: Global, most: NonZeroUsize) -> Result<Table, AllocError>
-        ensures { IfOk result (λ t. t ≡ lru_cache [] (non_zero_usize_get most)) }
+    pub fn new(alloc: Global) -> Result<Table, AllocError>
+        ensures { IfOk result (λ t. t ≡ []) }
     {
         Ok(Table {
-            slots: LruCache::sparse(alloc, most)?,
+            last: None,
+            others: LruCache::unbounded(alloc)?,
         })
     }
 
-    /// Returns a connection's slot, and makes it the one that was used last.
-    pub fn find(&mut self, key: &Pair) -> Option<usize>
-        ensures slot { result ≡ lookup (same_pair key.now) self.old.entries }
-        ensures used { self.new ≡ lru_cache (promoted (same_pair key.now) self.old.entries) self.old.cap }
+    /// Takes out the connection of these ends, if there is one.
+    pub fn take_out(&mut self, pair: Pair) -> Option<Box<Connection>>
+        ensures found { result ≡ lookup (same_pair pair) self.old }
+        ensures rest { self.new ≡ remove_entry (same_pair pair) self.old }
+        ensures apart { IsApart self.old }
     {
-        if let Some(slot) = self.last(key) {
-            return Some(slot);
-        }
-        self.slots.get(key).copied()
-    }
-
-    /// Returns a connection's slot, if it was used last.
-    fn last(&self, key: &Pair) -> Option<usize>
-        ensures { IfSome result (λ slot. (first : Pair) × (rest : List (Pair × ℕ)) × (self.now.entries ≡ (first, slot) ∷ rest) × (same_pair key.now first ≡ true)) }
-    {
-        match self.slots.peek_mru() {
-            Some((first, slot)) if *key == *first => Some(*slot),
-            _ => None,
+        match self.last.take() {
+            Some((last, connection)) => {
+                if last == pair {
+                    return Some(connection);
+                }
+                self.last = Some((last, connection));
+                self.others.pop(&pair)
+            }
+            None => self.others.pop(&pair),
         }
     }
 
-    /// Puts a connection into the table, as the one that was used last.
-    ///
-    /// It returns the connection that went out for it: the one that was used least recently, if the table was full; or this one
-    /// with its old slot, if it was there.
+    /// Puts a connection into the table, which has none of the same ends.
     ///
     /// # Errors
-    /// `AllocError` when out of memory. Nothing has changed then.
-    pub fn insert(&mut self, key: Pair, slot: usize) -> Result<Option<(Pair, usize)>, AllocError>
-        ensures out { IfOk result (λ out. out ≡ displaced same_pair self.old key slot) }
-        ensures entries { OnOk result (self.new ≡ lru_cache (put_entries same_pair self.old key slot) self.old.cap) }
-        ensures err { OnErr result (self.new ≡ self.old) }
+    /// `AllocError` when out of memory.
+    pub fn put(&mut self, pair: Pair, connection: Box<Connection>) -> Result<(), AllocError>
+        requires { lookup (same_pair pair) self.old ≡ None }
+        ensures put { OnOk result (self.new ≡ (pair, connection) ∷ self.old) }
+        ensures apart { IsApart self.old }
     {
-        match self.slots.push(key, slot) {
-            Ok(out) => Ok(out),
-            Err(_) => Err(AllocError),
+        match self.last.take() {
+            Some((last, other)) => match keep(&mut self.others, last, other) {
+                Ok(()) => {
+                    self.last = Some((pair, connection));
+                    Ok(())
+                }
+                Err(error) => Err(error),
+            },
+            None => {
+                self.last = Some((pair, connection));
+                Ok(())
+            }
         }
     }
 
-    /// Takes a connection out, and returns its slot.
-    pub fn remove(&mut self, key: &Pair) -> Option<usize>
-        ensures slot { result ≡ lookup (same_pair key.now) self.old.entries }
-        ensures entries { self.new ≡ lru_cache (remove_entry (same_pair key.now) self.old.entries) self.old.cap }
+    /// Takes out the connection that was put least recently.
+    pub fn take_oldest(&mut self) -> Option<(Pair, Box<Connection>)>
+        ensures oldest { self.old ≡ self.new ++ option_to_list result }
+        ensures empty { result ≡ None → self.old ≡ [] }
+        ensures apart { IsApart self.old }
     {
-        self.slots.pop(key)
-    }
-
-    /// Takes the connection out that was used least recently.
-    pub fn take_oldest(&mut self) -> Option<(Pair, usize)>
-        ensures oldest { result ≡ last_entry self.old.entries }
-        ensures entries { self.new ≡ lru_cache (take (length self.old.entries - 1) self.old.entries) self.old.cap }
-    {
-        self.slots.pop_lru()
+        match self.others.pop_lru() {
+            Some(oldest) => Some(oldest),
+            None => self.last.take(),
+        }
     }
 
     /// Returns how many connections it has.
     pub fn len(&self) -> usize
-        ensures count { result ≡ length self.now.entries }
-        ensures most { result ≤ self.now.cap }
-        ensures distinct { IsDistinct same_pair (keys_of self.now.entries) }
+        ensures count { result ≡ length self.now }
+        ensures apart { IsApart self.now }
     {
-        self.slots.len()
+        let others = self.others.len();
+        if self.last.is_some() {
+            others + 1
+        } else {
+            others
+        }
     }
 }

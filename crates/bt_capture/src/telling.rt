@@ -1,10 +1,12 @@
 //! The text of reports, which is written in large pieces.
-ghost use Rattle.std.specs.Prelude.{◌≡◌, ◌∷◌, ◌++◌, [], List, OnOk, OnErr};
+ghost use Rattle.std.specs.Prelude.{◌≡◌, ◌∷◌, ◌++◌, [], ℕ, List, OnOk, OnErr};
 ghost use Rattle.bt_io.specs.Counts.{counted as counted_by};
 ghost use Rattle.bt_io.specs.Seen.{TargetSeen, WriteFailed};
 ghost use Rattle.bt_told.specs.declared.report.Report.{Report};
 ghost use Rattle.bt_told.specs.Reports.{closer};
-ghost use Rattle.bt_capture.specs.Runs.{IsTelling};
+ghost use Rattle.bt_talk.specs.Pasts.{Past};
+ghost use Rattle.bt_talk.specs.Talks.{IsTalk};
+ghost use Rattle.bt_capture.specs.Reportings.{IsReportOf};
 ghost use Rattle.bt_capture.specs.Tellings.{may_be_cut as may_be_cut_by, is_refusal as is_refusal_by, is_direction_refused as is_direction_refused_by, is_refused as is_refused_by, is_told as is_told_by};
 
 use crate::reporting::body_of;
@@ -151,7 +153,10 @@ impl Teller {
     /// # Errors
     /// `AllocError` when out of memory. The report isn't told then.
     pub fn report(&mut self, talk: &Talk, number: u64, from: u64) -> Result<(), AllocError>
-        ensures { (start now : TargetSeen) → IsTelling start now self.old → IsTelling start now self.new }
+        ensures told { OnOk result ((a b : Past) → IsTalk a b talk.now → (r : Report) × IsReportOf number from a b talk.now r
+            × ((start now : TargetSeen) (reports : List Report) → Tells start now self.old reports → Tells start now self.new (reports ++ r ∷ []))) }
+        ensures same { OnErr result ((start now : TargetSeen) (reports : List Report) → Tells start now self.old reports
+            → Tells start now self.new reports) }
     {
         let ends = talk.ends();
         let body = body_of(talk, from);
@@ -174,7 +179,7 @@ impl Teller {
     /// Writes the text that is kept.
     ///
     /// # Errors
-    /// `WriteFault` if a write failed, or took no byte. A front of the text may be written then.
+    /// `WriteFault` if a write failed, or took no byte. The first part of the text may be written then.
     pub fn flush<W: Target>(&mut self, writer: &mut W) -> Result<(), WriteFault>
         ensures written { OnOk result ((start : TargetSeen) (reports : List Report) → Tells start (W.seen writer.old) self.old reports
             → Tells start (W.seen writer.new) self.new reports) }

@@ -1,10 +1,9 @@
 //! The packets of captures that come piece by piece, what they carry, and keys of connections. All values are by hand.
-use bt_capture::{FileEnd, Packets, Pair, ReadFault, Sight, Table, sight_of};
+use bt_capture::{FileEnd, Packets, Pair, ReadFault, Sight, sight_of};
 use bt_io::MemSource;
 use bt_packet::{Address, Host};
 use bt_pcap::{FileFault, KEEP, Packet};
 use std::alloc::{AllocError, Global};
-use std::num::NonZeroUsize;
 
 /// A record of three bytes and one without.
 const RECORDS: &[u8] = b"\xd4\xc3\xb2\xa1\x02\0\x04\0\0\0\0\0\0\0\0\0\xff\xff\0\0\x01\0\0\x10\
@@ -168,23 +167,4 @@ fn sees_packets(rt: HostRuntime) {
         port: 80,
     };
     assert!(rt; Pair::of(v6, b) == Pair { low: b, high: v6 });
-}
-
-/// A table of two connections, into which a third one comes.
-#[test]
-fn keeps_connections(rt: HostRuntime) -> Result<(), AllocError> {
-    let one = Pair::of(address(1, 1), address(2, 2));
-    let two = Pair::of(address(1, 1), address(2, 3));
-    let three = Pair::of(address(1, 1), address(3, 2));
-    let Some(most) = NonZeroUsize::new(2) else {
-        panic!(rt; "no number")
-    };
-    let mut table = Table::new(rt.alloc(), most)?;
-    assert!(rt; table.insert(one, 10)? == None && table.insert(two, 20)? == None);
-    assert!(rt; table.find(&two) == Some(20) && table.find(&one) == Some(10));
-    assert!(rt; table.find(&three) == None && table.insert(three, 30)? == Some((two, 20)));
-    assert!(rt; table.find(&two) == None && table.remove(&three) == Some(30));
-    assert!(rt; table.len() == 1 && table.take_oldest() == Some((one, 10)));
-    assert!(rt; table.take_oldest() == None);
-    Ok(())
 }

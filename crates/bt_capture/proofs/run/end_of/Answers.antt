@@ -1,11 +1,26 @@
-use Rattle.bt_capture.proofs.Outcomes.{texts_written}
+use Rattle.std.proofs.Common.{◌∙◌}
+use Rattle.bt_capture.specs.Following.{reports_of}
+use Rattle.bt_capture.proofs.Outcomes.{all_over, texts_written}
 use Rattle.bt_capture.proofs.run.end_of.Goals as goal
 
 pub returns : goal.returns
-returns c start now i empty = record {
-  reports = i.reports;
-  written = texts_written start now c.args.run.now.teller i.reports empty i.tells;
-  calm = i.tells.calm;
-  torrents = c.torrents.ensures start now i.reports i.tells;
-  refused = c.is_refused.ensures start now i.reports i.tells;
-}
+returns c o left now i empty ended =
+    let run = c.args.run.now in
+    let known = i.follows.known in
+    let fs = i.follows.fs in
+    record {
+      packets = i.packets;
+      r = c.args.packets.now;
+      read = i.read;
+      file_end = c.args.end;
+      ended = ended;
+      cut = c.is_cut.ensures;
+      count = c.packets.ensures ∙ i.read.reading.count;
+      fs = fs;
+      over = all_over o left now run c.args.packets.now i;
+      written = texts_written o.target now run.teller (reports_of fs) empty known.tells;
+      calm = known.tells.calm;
+      torrents = c.torrents.ensures o.target now (reports_of fs) known.tells;
+      refused = c.is_refused.ensures o.target now (reports_of fs) known.tells;
+      lost = known.lost;
+    }

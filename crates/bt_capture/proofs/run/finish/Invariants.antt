@@ -1,9 +1,14 @@
-use Rattle.bt_io.specs.Seen.{TargetSeen}
-use Rattle.bt_capture.specs.Runs.{IsTelling}
+use Rattle.std.proofs.Common.{Option, List, ℕ}
+use Rattle.std.specs.Vec.Iter.{into_iter_items}
+use Rattle.bt_capture.specs.Readings.{Reading}
+use Rattle.bt_capture.specs.Runs.{Origin, IsTelling}
+use Rattle.bt_capture.specs.Tables.{IsApart}
 use Rattle.bt_capture.proofs.run.finish.Given as goal
 
 abbrev pub invariant-loop-connection : goal.invariant-loop-connection
 invariant-loop-connection g l = record {
-  told : (start : TargetSeen) → IsTelling start (g.W.Target.seen l.initial.writer) l.initial.run.teller
-      → IsTelling start (g.W.Target.seen l.writer) l.run.teller;
+  apart : IsApart (into_iter_items l.connection-iterator);
+  told : (o : Origin) (left : Option (List ℕ)) (r : Reading)
+      → IsTelling o left (g.W.Target.seen l.initial.writer) (into_iter_items l.initial.connection-iterator) l.initial.run r
+      → IsTelling o left (g.W.Target.seen l.writer) (into_iter_items l.connection-iterator) l.run r;
 }

@@ -1,16 +1,18 @@
+use Rattle.bt_capture.proofs.Outcomes.{partly}
 use Rattle.bt_capture.proofs.run.read_all.Goals as goal
 
 pub loop-turn-init : goal.loop-turn-init
-loop-turn-init g c = record { told = λ start i. i }
+loop-turn-init g c = record { told = λ o i. i }
 
 pub loop-turn-preserved : goal.loop-turn-preserved
-loop-turn-preserved g c = record { told = λ start i. c.in-Ok-None.ensures start (c.loop-turn.invariant.told start i) }
+loop-turn-preserved g c = record { told = λ o i. c.in-Ok-None.ensures.after o (c.loop-turn.invariant.told o i) }
 
-pub returns-in-Ok-Some : goal.returns-in-Ok-Some
-returns-in-Ok-Some g c start i = c.in-Ok-Some.ensures start (c.loop-turn.invariant.told start i)
+pub returns-in-Ok-Some-clause-after : goal.returns-in-Ok-Some-clause-after
+returns-in-Ok-Some-clause-after g c o i = c.in-Ok-Some.ensures.after o (c.loop-turn.invariant.told o i)
 
-pub returns-in-Err : goal.returns-in-Err
-returns-in-Err g c start i = c.in-Err.ensures start (c.loop-turn.invariant.told start i)
+pub returns-in-Err-clause-after : goal.returns-in-Err-clause-after
+returns-in-Err-clause-after g c o i = c.in-Err.ensures.after o (c.loop-turn.invariant.told o i)
 
-pub returns : goal.returns
-returns g c start i = c.loop-turn.invariant.told start i
+pub returns-clause-after : goal.returns-clause-after
+returns-clause-after g c o i =
+    partly o (g.R.Source.seen c.loop-turn.reader).left (g.W.Target.seen c.loop-turn.writer) c.loop-turn.run.table c.loop-turn.run c.loop-turn.packets (c.loop-turn.invariant.told o i)

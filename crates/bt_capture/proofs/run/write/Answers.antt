@@ -1,4 +1,13 @@
+use Rattle.std.proofs.Common.{refl}
+use Rattle.bt_capture.proofs.Outcomes.{flushed, left_by}
 use Rattle.bt_capture.proofs.run.write.Goals as goal
 
+pub returns-in-Ok-clause-after : goal.returns-in-Ok-clause-after
+returns-in-Ok-clause-after g c o left es r i =
+    flushed o left (g.W.Target.seen c.args.writer.now) (g.W.Target.seen c.flush.new.writer) es c.args.run.now _ r refl refl refl
+    (λ reports t. c.in-Ok.ensures.written o.target reports t) i
+
 pub returns-in-Err-clause-after : goal.returns-in-Err-clause-after
-returns-in-Err-clause-after g c start i = (i.reports, c.in-Err.ensures.stopped start i.reports i.tells)
+returns-in-Err-clause-after g c o left es r i =
+    left_by o left (g.W.Target.seen c.args.writer.now) (g.W.Target.seen c.flush.new.writer) es c.args.run.now r
+    (λ reports t. c.in-Err.ensures.stopped o.target reports t) i

@@ -1,5 +1,6 @@
-use Rattle.std.proofs.Common.{[]}
+use Rattle.std.proofs.Common.{rules, refl}
+use Rattle.bt_capture.proofs.Reported.{follows_nothing}
 use Rattle.bt_capture.proofs.connections.Run.new.Goals as goal
 
-pub returns : goal.returns
-returns c start = record { reports = []; tells = c.new-2.ensures start }
+pub returns-clause-follows : goal.returns-clause-follows
+returns-clause-follows c start = follows_nothing start _ (c.new-2.ensures start) refl (search rules)

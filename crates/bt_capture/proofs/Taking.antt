@@ -1,0 +1,53 @@
+-- A connection takes one segment more.
+use Rattle.std.proofs.Common.{◌≡◌, ◌∙◌, ℕ, Bool, true, false, ◌||◌, List, [], ◌∷◌, ◌++◌, append-nil, Option, Result, Ok, Err, OnOk, OnErr, refl, sym, ap, subst, inl, inr}
+use Rattle.std.specs.List.{list_any}
+use Rattle.std.proofs.lemmas.Bool.{cases_Bool}
+use Rattle.std.proofs.lemmas.List.Folds.{list_any-append}
+use Rattle.bt_packet.specs.Tcp.{segment}
+use Rattle.bt_packet.specs.declared.tcp.Segment.{Segment}
+use Rattle.bt_talk.specs.Pasts.{Past}
+use Rattle.bt_talk.specs.Talks.{Takes, ends_of, pieces_of}
+use Rattle.bt_talk.specs.declared.talk.Talk.{Talk}
+use Rattle.bt_capture.specs.Arrivals.{Arrival}
+use Rattle.bt_capture.specs.Connections.{HasTaken, IsFirst, IsMade}
+
+pub any_more : {X : Type 0} (p : X → Bool) (xs : List X) (x : X) → list_any p (xs ++ x ∷ []) ≡ (list_any p xs || p x)
+any_more p xs x = list_any-append p xs (x ∷ []) ∙ ap (λ (b : Bool). list_any p xs || b) (elim (cases_Bool (p x)) [ inl e ↦ rw e refl | inr e ↦ rw e refl ])
+
+-- the outcome is the fact, since the connection isn't lost
+pub on_there : {A E P : Type 0} (r : Result A E) (lost : Bool) → OnOk r P → OnErr r (lost ≡ true) → lost ≡ false → P
+on_there (Ok x) lost p l e = p
+on_there (Err x) lost p l e = cc
+
+pub was_there : {A E : Type 0} (r : Result A E) (before lost : Bool) (fault : E) → (before ≡ true → r ≡ Err fault) → OnErr r (lost ≡ true) → lost ≡ false
+    → before ≡ false
+was_there r false lost fault stays l e = refl
+was_there (Ok x) true lost fault stays l e = let f : Ok x ≡ Err fault = stays refl in cc
+was_there (Err x) true lost fault stays l e = cc
+
+taken_more : (xs : List Arrival) (x : Arrival) (s : Segment) → segment s ≡ x.segment → (a b : Past) (t : Talk) (a' b' : Past) (t' t'' : Talk)
+    → HasTaken xs a b t a' b' t' → (took : Takes s x.when a' b' t' t'') → HasTaken (xs ++ x ∷ []) a b t took.a' took.b' t''
+taken_more [] x s e a b t a' b' t' t'' i took =
+    subst (λ (p : Past). HasTaken (x ∷ []) p b t took.a' took.b' t'') i.0
+    (subst (λ (p : Past). HasTaken (x ∷ []) a' p t took.a' took.b' t'') i.1
+    (subst (λ (u : Talk). HasTaken (x ∷ []) a' b' u took.a' took.b' t'') i.2 (s, e, t'', took, (refl, refl, refl))))
+taken_more (y ∷ ys) x s e a b t a' b' t' t'' i took = (i.0, i.1, i.2, i.3, taken_more ys x s e i.3.a' i.3.b' i.2 a' b' t' t'' i.4 took)
+
+pub made_more : (pieces : Option ℕ) (taken : List Arrival) (s : Segment) (x : Arrival) (t t' : Talk) → segment s ≡ x.segment → ends_of t' ≡ ends_of t
+    → pieces_of t' ≡ pieces_of t → (i : IsMade pieces taken (x ∷ []) t) → Takes s x.when i.a i.b t t' → IsMade pieces (taken ++ x ∷ []) [] t'
+made_more pieces taken s x t t' e ends same i took = record {
+  first = i.first;
+  is_first = subst (IsFirst i.first) (sym (append-nil (taken ++ x ∷ []))) i.is_first;
+  a = took.a';
+  b = took.b';
+  made = record {
+    begin = i.made.begin;
+    nothing = i.made.nothing;
+    opening = i.made.opening;
+    not_closed = i.made.not_closed;
+    has_taken = taken_more taken x s e _ _ i.made.begin i.a i.b t t' i.made.has_taken took;
+    is = took.is;
+    ends = ends ∙ i.made.ends;
+    pieces_are = same ∙ i.made.pieces_are;
+  };
+}

@@ -1,0 +1,18 @@
+use Rattle.std.proofs.Common.{◌||◌, ◌∙◌, ap, sym, refl}
+use Rattle.std.specs.List.{list_any}
+use Rattle.bt_capture.specs.Arrivals.{arrived, has_data}
+use Rattle.bt_capture.proofs.Taking.{any_more, on_there, was_there, made_more}
+use Rattle.bt_capture.proofs.connection.Connection.take.Goals as goal
+
+pub returns : goal.returns
+returns c pieces taken i =
+    let x = arrived c.args.segment.now c.args.when in
+    let now = c.take-taken.new.self.is_lost in
+    record {
+      has_payload = ap (λ b. b || c.has_payload.result) i.has_payload ∙ ap (λ b. list_any has_data taken || b) (c.has_payload.ensures c.args.when) ∙ sym (any_more has_data taken x);
+      made = λ there.
+          let took = on_there c.take-taken.result now c.take-taken.ensures.taken c.take-taken.ensures.lost there in
+          let m = i.made (was_there c.take-taken.result c.args.self.now.talk.is_lost now _ c.take-taken.ensures.stays c.take-taken.ensures.lost there) in
+          made_more pieces taken c.args.segment.now x c.args.self.now.talk c.take-taken.new.self refl c.take-taken.ensures.ends c.take-taken.ensures.pieces m
+          (took m.a m.b m.made.is);
+    }

@@ -1,0 +1,17 @@
+use Rattle.std.proofs.Common.{rules, ◌∙◌, [], ◌∷◌, ◌++◌}
+use Rattle.bt_pcap.specs.Steps.{captured}
+use Rattle.bt_capture.proofs.Outcomes.{read_packet, read_quiet, hands_none, hands_some, told_read, next_number, given_up}
+use Rattle.bt_capture.proofs.run.step.Goals as goal
+
+pub returns-in-Err-take-clause-after : goal.returns-in-Err-take-clause-after
+returns-in-Err-take-clause-after c o left now i =
+    let p = captured c.in-Ok-Some.packet in
+    let number = next_number i.packets i.read.all c.args.packets.now c.packets.result c.saturating_add-number.result i.read.reading c.packets.ensures c.saturating_add-number.ensures in
+    let goes = hands_some c.args.packets.now _ c.take.result c.in-Ok-Some.packet (search rules) c.take.follows.holds-at-none.0 in
+    given_up o left now (i.packets ++ p ∷ []) c.take-in-Ok-Some.new.self _ (read_packet o left i.packets (p ∷ []) c.args.packets.now _ goes i.read)
+    (c.take-in-Ok-Some.ensures.pieces ∙ i.pieces) (c.take-in-Ok-Some.ensures.start i.packets i.time) (c.in-Err-take.ensures.goes o.target now i.packets number i.time i.follows)
+
+pub returns-in-Ok-None-clause-after : goal.returns-in-Ok-None-clause-after
+returns-in-Ok-None-clause-after c o left now i =
+    let goes = hands_none c.args.packets.now _ c.take.result (search rules) c.take.follows.holds-at-none.0 in
+    told_read o left left now c.args.run.now.table c.args.run.now c.args.packets.now _ (λ packets h. read_quiet o left packets c.args.packets.now _ goes h) i

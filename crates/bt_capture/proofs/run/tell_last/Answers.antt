@@ -1,0 +1,21 @@
+use Rattle.std.proofs.Common.{◌∙◌}
+use Rattle.bt_capture.specs.Arrivals.{arrivals}
+use Rattle.bt_capture.proofs.Outcomes.{given_up}
+use Rattle.bt_capture.proofs.run.tell_last.Goals as goal
+
+pub returns-in-Ok-clause-after : goal.returns-in-Ok-clause-after
+returns-in-Ok-clause-after g c o left p es r absent i =
+    let now = g.W.Target.seen c.args.writer.now in
+    c.write_if_full.ensures.after o left es r (record {
+      packets = i.packets;
+      read = i.read;
+      pieces = c.in-Ok.ensures.pieces ∙ i.pieces;
+      time = c.in-Ok.ensures.start ∙ i.time;
+      follows = c.in-Ok.ensures.goes o.target now (arrivals i.packets) p es absent i.follows;
+    })
+
+pub returns-in-Err-clause-after : goal.returns-in-Err-clause-after
+returns-in-Err-clause-after g c o left p es r absent i =
+    let now = g.W.Target.seen c.args.writer.now in
+    given_up o left now i.packets c.report.new.self r i.read (c.in-Err.ensures.pieces ∙ i.pieces) (c.in-Err.ensures.start ∙ i.time)
+    (c.in-Err.ensures.goes o.target now (arrivals i.packets) p es absent i.follows)

@@ -1,0 +1,53 @@
+-- The segments of a capture, in the order of its packets.
+use Rattle.std.specs.Prelude.{ℕ, ◌+◌, ◌-◌, ◌^◌, min, Bool, not, ◌&&◌, ◌==◌, List, [], ◌∷◌, ◌++◌, length, Option, Some, None}
+use Rattle.bt_packet.specs.Tcp.{TcpSegment, segment}
+use Rattle.bt_packet.specs.declared.tcp.Segment.{Segment}
+use Rattle.bt_pcap.specs.Formats.{Captured}
+use Rattle.bt_talk.specs.declared.closing.When.{When}
+use Rattle.bt_capture.specs.declared.pair.Pair.{Pair}
+use Rattle.bt_capture.specs.Pairs.{pair}
+use Rattle.bt_capture.specs.Sights.{Seen, SawSegment, SawUtp, SawOther, seen_in}
+use Rattle.bt_capture.specs.Tables.{same_pair}
+
+-- a captured segment, and where its packet stands in the capture
+pub record Arrival : Type 0 where
+  pub segment : TcpSegment
+  pub when : When
+
+abbrev pub arrived : Segment → When → Arrival
+arrived s when = record { segment = segment s; when = when }
+
+-- its ends, whichever of them sent it
+abbrev pub pair_of : Arrival → Pair
+pair_of a = pair a.segment.source a.segment.target
+
+-- It is between the two ends.
+abbrev pub is_between : Pair → Arrival → Bool
+is_between k a = same_pair k (pair_of a)
+
+-- It has a captured byte of its sender's stream; one with RST has none (RFC 9293 3.5.2).
+abbrev pub has_data : Arrival → Bool
+has_data a = not a.segment.flags.rst && not (length a.segment.payload == 0)
+
+abbrev pub arrivals_in : ℕ → ℕ → Seen → List Arrival
+arrivals_in number nanos (SawSegment s) = record { segment = s; when = record { nanos = nanos; packet = number } } ∷ []
+arrivals_in number nanos (SawUtp u) = []
+arrivals_in number nanos SawOther = []
+
+-- the segment that a packet carries, if there is one; the packet has this number in the capture
+abbrev pub arrivals_of : ℕ → Captured → List Arrival
+arrivals_of number p = arrivals_in number p.nanos (seen_in p.link p.bytes p.original)
+
+-- the segments of packets, before which the capture has n others
+abbrev pub arrivals_after : ℕ → List Captured → List Arrival
+arrivals_after n [] = []
+arrivals_after n (p ∷ ps) = arrivals_of (min (n + 1) (2 ^ 64 - 1)) p ++ arrivals_after (n + 1) ps
+
+-- the segments of a capture's packets, which are numbered from 1 on
+abbrev pub arrivals : List Captured → List Arrival
+arrivals packets = arrivals_after 0 packets
+
+-- the time of the first packet
+abbrev pub first_time : List Captured → Option ℕ
+first_time [] = None
+first_time (p ∷ ps) = Some p.nanos

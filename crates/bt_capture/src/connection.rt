@@ -1,0 +1,49 @@
+//! A connection of a capture, with its number.
+ghost use Rattle.std.specs.Prelude.{◌≡◌, ◌++◌, ◌∷◌, List, [], Option, ℕ};
+ghost use Rattle.bt_talk.specs.declared.closing.When.{When};
+ghost use Rattle.bt_capture.specs.Arrivals.{Arrival, arrived, has_data};
+ghost use Rattle.bt_capture.specs.Connections.{IsOpen};
+
+use bt_packet::Segment;
+use bt_talk::{Room, Talk, When};
+use std::alloc::Global;
+
+/// A connection, with its number among those of the capture.
+#[derive(Drop)]
+pub struct Connection {
+    pub number: u64,
+    pub talk: Talk,
+    /// Whether a byte of a stream was captured.
+    pub has_payload: bool,
+}
+
+/// Tells whether a segment has a byte of its sender's stream.
+fn has_payload(segment: &Segment) -> bool
+    ensures { (when : When) → result ≡ has_data (arrived segment.now when) }
+{
+    !segment.flags.rst && !segment.payload.is_empty()
+}
+
+impl Connection {
+    /// Begins a connection; nothing of it was taken yet.
+    pub fn new(alloc: Global, number: u64, first: &Segment, pieces: Option<u32>) -> Connection
+        ensures { (when : When) → IsOpen pieces [] (arrived first.now when ∷ []) result }
+    {
+        Connection {
+            number,
+            talk: Talk::new(alloc, first, pieces),
+            has_payload: false,
+        }
+    }
+
+    /// Takes a segment.
+    ///
+    /// If memory runs out the connection is lost.
+    pub fn take(&mut self, segment: &Segment, when: When, room: &mut Room)
+        ensures { (pieces : Option ℕ) (taken : List Arrival) → let a = arrived segment.now when in IsOpen pieces taken (a ∷ []) self.old
+            → IsOpen pieces (taken ++ a ∷ []) [] self.new }
+    {
+        self.has_payload |= has_payload(segment);
+        let _taken = self.talk.take(segment, when, room);
+    }
+}
