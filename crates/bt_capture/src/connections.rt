@@ -24,7 +24,7 @@ use std::alloc::{AllocError, Global};
 /// How many connections are followed at once.
 ///
 /// Past that the one that was used least recently is over.
-const MOST: usize = 16_384;
+const MOST: usize = 8_192;
 
 /// The connections of a capture, and what is told of them.
 #[derive(Drop)]

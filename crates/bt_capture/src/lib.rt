@@ -22,4 +22,3 @@ pub use pair::Pair;
 pub use reporting::report_of;
 pub use run::run_capture;
 pub use sight::{Sight, sight_of};
-pub use telling::is_refused;

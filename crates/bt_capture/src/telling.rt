@@ -3,106 +3,48 @@ ghost use Rattle.std.specs.Prelude.{◌≡◌, ◌∷◌, ◌++◌, [], ℕ, Lis
 ghost use Rattle.bt_io.specs.Counts.{counted as counted_by};
 ghost use Rattle.bt_io.specs.Seen.{TargetSeen, WriteFailed};
 ghost use Rattle.bt_told.specs.declared.report.Report.{Report};
-ghost use Rattle.bt_told.specs.Reports.{closer};
 ghost use Rattle.bt_talk.specs.Pasts.{Past};
 ghost use Rattle.bt_talk.specs.Talks.{IsTalk};
 ghost use Rattle.bt_capture.specs.Reportings.{IsReportOf};
-ghost use Rattle.bt_capture.specs.Tellings.{may_be_cut as may_be_cut_by, is_refusal as is_refusal_by, is_direction_refused as is_direction_refused_by, is_refused as is_refused_by, is_told as is_told_by};
+ghost use Rattle.bt_capture.specs.Tellings.{is_told_with, is_refused_with};
 
 use crate::reporting::body_of;
 use bt_io::{Target, WriteFault};
 use bt_jobs::output::write_out;
-use bt_remarks::Side;
 use bt_talk::Talk;
-use bt_text::ended::Ended;
-use bt_told::{Body, Closed, Direction, Report, Sender, put_report};
-use bt_wire::Reason;
+use bt_told::{Finding, Report, put_report};
 use std::alloc::{AllocError, Global};
 
 /// How many bytes of text are kept before they are written.
 const ROOM: usize = 65_536;
 
-/// Returns the side that closed first.
-fn closer_of(closed: &Option<Closed>) -> Option<Side>
-    ensures { result ≡ closer closed.now }
+/// Tells whether a report with this finding is on a BitTorrent connection.
+fn is_told(finding: Finding) -> bool
+    ensures { result ≡ is_told_with finding }
 {
-    match closed {
-        Some(closed) => Some(closed.first),
-        None => None,
+    match finding {
+        Finding::NotBitTorrent => false,
+        Finding::Accepted => true,
+        Finding::Refused => true,
     }
 }
 
-/// Tells whether a side's stream may end inside a message for a reason that isn't its sender's.
-fn may_be_cut(has_gap: bool, closer: Option<Side>, side: Side) -> bool
-    ensures { result ≡ may_be_cut_by has_gap closer side }
+/// Tells whether a direction of a report with this finding is refused under the lenient rules.
+fn is_refused(finding: Finding) -> bool
+    ensures { result ≡ is_refused_with finding }
 {
-    if has_gap {
-        return true;
-    }
-    match (closer, side) {
-        (None, _) => true,
-        (Some(Side::A), Side::A) => false,
-        (Some(Side::B), Side::B) => false,
-        (Some(_), _) => true,
-    }
-}
-
-/// Tells whether a verdict is a refusal, and not only a cut.
-fn is_refusal(ended: &Ended, is_cut: bool) -> bool
-    ensures { result ≡ is_refusal_by ended.now is_cut }
-{
-    match ended {
-        Ended::Accepted { .. } => false,
-        Ended::Refused(refusal) => match refusal.reason {
-            Reason::EndInside => !is_cut,
-            _ => true,
-        },
-    }
-}
-
-/// Tells whether a direction is refused under the lenient rules.
-fn is_direction_refused(side: Side, closer: Option<Side>, direction: &Direction) -> bool
-    ensures { result ≡ is_direction_refused_by side closer direction.now }
-{
-    let is_cut = may_be_cut(direction.gaps.first.is_some(), closer, side);
-    match &direction.sender {
-        Sender::Unknown(_) => false,
-        Sender::Known(judged) => is_refusal(&judged.free, is_cut),
-    }
-}
-
-/// Tells whether a direction of a report is refused under the lenient rules.
-///
-/// One that ends inside a message isn't, if it has a gap, if the other side closed first, or if nobody had closed at the capture's
-/// end.
-pub fn is_refused(report: &Report) -> bool
-    ensures { result ≡ is_refused_by report.now }
-{
-    match &report.body {
-        Body::NotBitTorrent => false,
-        Body::Told(told) => {
-            let closer = closer_of(&told.closed);
-            is_direction_refused(Side::A, closer, &told.a)
-                || is_direction_refused(Side::B, closer, &told.b)
-        }
-    }
-}
-
-/// Tells whether a report is on a BitTorrent connection.
-fn is_told(report: &Report) -> bool
-    ensures { result ≡ is_told_by report.now }
-{
-    match &report.body {
-        Body::NotBitTorrent => false,
-        Body::Told(_) => true,
+    match finding {
+        Finding::NotBitTorrent => false,
+        Finding::Accepted => false,
+        Finding::Refused => true,
     }
 }
 
 /// Returns a count, one more after a report on a BitTorrent connection.
-fn counted(torrents: u64, report: &Report) -> u64
-    ensures { result ≡ counted_by (is_told_by report.now) torrents }
+fn counted(torrents: u64, finding: Finding) -> u64
+    ensures { result ≡ counted_by (is_told_with finding) torrents }
 {
-    if is_told(report) {
+    if is_told(finding) {
         torrents.saturating_add(1)
     } else {
         torrents
@@ -143,8 +85,9 @@ impl Teller {
             → Tells start now self.new reports) }
     {
         put_report(report, &mut self.text)?;
-        self.torrents = counted(self.torrents, report);
-        self.is_refused |= is_refused(report);
+        let finding = report.finding();
+        self.torrents = counted(self.torrents, finding);
+        self.is_refused |= is_refused(finding);
         Ok(())
     }
 
