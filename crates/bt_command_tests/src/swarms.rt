@@ -3,7 +3,7 @@ ghost use Rattle.std.specs.Prelude.{◌≡◌, ◌<◌, IfSome};
 ghost use Rattle.bt_io.specs.Counts.{one_more, counted as raised};
 
 use bt_end::{Announce, Config, End, Progress, Role, Window};
-use bt_exchange::Connection;
+use bt_exchange::{Connection, Hearing, Watch, exchange};
 use bt_ext::{ExtId, Registered, Rules};
 use bt_fetch::{Device, Ending, FetchError, Outcome, Wish, fetch};
 use bt_io::{Failed, MemTarget};
@@ -35,6 +35,11 @@ struct Link {
     end: Option<End>,
     closes: bool,
     fails_at: Option<u64>,
+    /// How many bytes a call moves at most.
+    most: usize,
+    /// How many bytes the first writes moved.
+    writes: [usize; 5],
+    written: usize,
     calls: u64,
     ends: u64,
     failed: u64,
@@ -55,6 +60,19 @@ impl Link {
             return true;
         }
         false
+    }
+
+    /// Takes note of a write.
+    fn note(&mut self, count: usize)
+        ensures calls { self.new.calls ≡ self.old.calls }
+        ensures failed { self.new.failed ≡ self.old.failed }
+        ensures ends { self.new.ends ≡ self.old.ends }
+        ensures time { self.new.time ≡ self.old.time }
+    {
+        if let Some(length) = self.writes.get_mut(self.written) {
+            *length = count;
+        }
+        self.written = self.written.saturating_add(1);
     }
 }
 
@@ -83,7 +101,7 @@ impl Connection for Link {
             return Ok(None);
         };
         let out = end.outgoing();
-        let count = out.len().min(into.len()).min(7);
+        let count = out.len().min(into.len()).min(self.most);
         if count == 0 {
             return Ok(None);
         }
@@ -96,10 +114,11 @@ impl Connection for Link {
         if self.fails() {
             return Err(Failed);
         }
-        let count = from.len().min(7);
+        let count = from.len().min(self.most);
         if count == 0 {
             return Ok(None);
         }
+        self.note(count);
         let Some(end) = &mut self.end else {
             return Ok(Some(count));
         };
@@ -118,7 +137,10 @@ impl Connection for Link {
 
 /// Returns an end that serves the bytes.
 fn serving(alloc: Global, bytes: &[u8]) -> Option<End> {
-    let metadata = bytes.to_vec(alloc).ok()?;
+    end_for(alloc, Role::Serve(bytes.to_vec(alloc).ok()?))
+}
+
+fn end_for(alloc: Global, role: Role) -> Option<End> {
     let config = Config {
         own: Own {
             reserved: Reserved(0x10_0004),
@@ -131,7 +153,7 @@ fn serving(alloc: Global, bytes: &[u8]) -> Option<End> {
         peer_id: [45; 20],
         announce: Announce::Nothing,
         window: Window::default(),
-        role: Role::Serve(metadata),
+        role,
     };
     End::new(alloc, config).ok()
 }
@@ -196,6 +218,9 @@ impl Peers {
             end,
             closes,
             fails_at: if is_first { self.fails_at } else { None },
+            most: 7,
+            writes: [0; 5],
+            written: 0,
             calls: 0,
             ends: 0,
             failed: 0,
@@ -384,4 +409,40 @@ fn is_right(came: &Came) -> bool {
 #[test]
 fn memory_is_refused_or_all_is_fetched(rt: HostRuntime) {
     assert!(rt; is_right(&fetched(rt.alloc(), &STRANGERS, None, 3)));
+}
+
+/// Returns how many bytes the first writes of a fetch of 12 blocks had, from a peer that moves all that it can at once.
+fn first_writes(alloc: Global) -> Option<[usize; 5]> {
+    let mut blocks = Vec::new(alloc);
+    blocks.resize(12 * 16_384, 0).ok()?;
+    let mut link = Link {
+        end: end_for(alloc, Role::Serve(blocks)),
+        closes: false,
+        fails_at: None,
+        most: usize::MAX,
+        writes: [0; 5],
+        written: 0,
+        calls: 0,
+        ends: 0,
+        failed: 0,
+        time: 0,
+    };
+    let mut end = end_for(alloc, Role::Fetch)?;
+    let mut hearing = Hearing::new(alloc).ok()?;
+    for _news in 0..10 {
+        let watch = Watch { since: 0 };
+        exchange(&mut link, &mut end, &mut hearing, watch, 60, &mut 64).ok()?;
+    }
+    Some(link.writes)
+}
+
+/// The handshake; the extended handshake and have-none; the requests for 8 blocks. Then 65,536 bytes come, which have 3 blocks and a part
+/// of the next one: the requests for 3 more. 65,536 bytes more have 4: the request for the last one.
+#[test]
+fn requests_go_out_together(rt: HostRuntime) {
+    let writes = first_writes(rt.alloc());
+    assert!(rt;
+        writes == Some([68, 30 + 5, 8 * 31, 31 + 31 + 32, 32]),
+        "{writes:?}"
+    );
 }
