@@ -6,7 +6,6 @@ use Rattle.bt_packet.specs.Addresses.{address_text}
 use Rattle.bt_remarks.specs.declared.events.Side.{Side}
 use Rattle.bt_remarks.specs.declared.events.Side.TheVariants.{A, B}
 use Rattle.bt_tcp.specs.declared.covered.Gap.{Gap}
-use Rattle.bt_tcp.specs.declared.covered.Gaps.{Gaps}
 use Rattle.bt_text.specs.declared.ended.Ended.{Ended}
 use Rattle.bt_text.specs.declared.ended.Ended.TheVariants as ended_by
 use Rattle.bt_wire.specs.declared.context.Own.{Own}
@@ -16,7 +15,6 @@ use Rattle.bt_told.specs.declared.report.Body.{Body}
 use Rattle.bt_told.specs.declared.report.Body.TheVariants as body
 use Rattle.bt_told.specs.declared.report.Closed.{Closed}
 use Rattle.bt_told.specs.declared.report.Direction.{Direction}
-use Rattle.bt_told.specs.declared.report.Judged.{Judged}
 use Rattle.bt_told.specs.declared.report.Last.{Last}
 use Rattle.bt_told.specs.declared.report.Last.TheVariants.{Nothing, Item, Refused}
 use Rattle.bt_told.specs.declared.report.Noted.{Noted}

@@ -2,7 +2,7 @@
 use Rattle.std.specs.Prelude.{ℕ, ◌+◌, ◌-◌, ◌/◌, ◌==◌, List, [], ◌∷◌, ◌++◌, Option, Some, None, codes, decimal, drop, length, nat_lt, slice_get, unwrap_or, if◌then◌else◌}
 use Rattle.hex.specs.Hex.{encode_lower}
 use Rattle.bt_text.specs.declared.ended.Ended.{Ended}
-use Rattle.bt_text.specs.declared.ended.Ended.TheVariants.{Accepted, Refused}
+use Rattle.bt_text.specs.declared.ended.Ended.TheVariants.{Refused}
 use Rattle.bt_wire.specs.declared.context.Own.{Own}
 use Rattle.bt_wire.specs.declared.fault.Reason.{Reason}
 use Rattle.bt_wire.specs.declared.fault.Reason.TheVariants as reasons
