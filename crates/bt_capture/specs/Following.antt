@@ -84,7 +84,7 @@ count_lost fs = min (length (filter (λ f. is_lost_by f.fate) fs)) (2 ^ 64 - 1)
 abbrev pub taken_between : Pair → List Finished → List Arrival
 taken_between k fs = flat_map (λ f. f.taken) (filter (λ f. same_pair k f.pair) fs)
 
--- Of these segments, those between the two ends were taken by connections that are over, in order, but for the rest.
+-- Of these segments, those between the two ends were taken by connections that are over, in order, except the rest.
 abbrev pub IsShared : Pair → List Arrival → List Finished → List Arrival → Type 0
 IsShared k arrivals fs rest = filter (is_between k) arrivals ≡ taken_between k fs ++ rest
 

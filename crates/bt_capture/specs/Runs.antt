@@ -21,7 +21,7 @@ use Rattle.bt_capture.specs.Tellings.{IsStopped, texts, count_torrents, is_one_r
 
 -- ---- what a run begins with
 
--- the piece count, if it is known; the bytes that the source has, where these are known; and the target
+-- the piece count, if it is known; the bytes that the source has, if these are known; and the target
 pub record Origin : Type 0 where
   pub pieces : Option ℕ
   pub left : Option (List ℕ)
@@ -48,7 +48,7 @@ pub record IsTelling (o : Origin) (left : Option (List ℕ)) (now : TargetSeen) 
 
 -- ---- at its end
 
--- The connections that are over, each with its segments among those of the packets, in order, but for the rest.
+-- The connections that are over, each with its segments among those of the packets, in order, except the rest.
 pub record AreOver (o : Origin) (packets : List Captured) (fs : List Finished) : Type 0 where
   pub finished : All (IsFinished o.pieces (unwrap_or (first_time packets) 0)) fs
   pub shared : (k : Pair) → (rest : List Arrival) × IsShared k (arrivals packets) fs rest

@@ -5,8 +5,17 @@ ghost use Rattle.bt_capture.specs.Arrivals.{Arrival, arrived, has_data};
 ghost use Rattle.bt_capture.specs.Connections.{IsOpen};
 
 use bt_packet::Segment;
-use bt_talk::{Room, Talk, When};
+use bt_talk::{Room, Side, Talk, When};
 use std::alloc::Global;
+
+/// How many bytes of memory a connection takes of which no byte was captured.
+const LEAST: u64 = 3_072;
+
+/// How many more a side takes of which a byte was captured: the last ones are kept for comparison.
+const HISTORY: u64 = 16_384;
+
+/// How many more the parsers of both sides take, besides a long message that isn't whole.
+const PARSERS: u64 = 24_576;
 
 /// A connection, with its number among those of the capture.
 #[derive(Drop)]
@@ -22,6 +31,11 @@ fn has_payload(segment: &Segment) -> bool
     ensures { (when : When) → result ≡ has_data (arrived segment.now when) }
 {
     !segment.flags.rst && !segment.payload.is_empty()
+}
+
+/// Returns how many bytes the last ones of a side take.
+fn history(length: u64) -> u64 {
+    if length == 0 { 0 } else { HISTORY }
 }
 
 impl Connection {
@@ -45,5 +59,21 @@ impl Connection {
     {
         self.has_payload |= has_payload(segment);
         let _taken = self.talk.take(segment, when, room);
+    }
+
+    /// Returns about how many bytes of memory it takes, besides a long message that isn't whole.
+    ///
+    /// In the opening its bytes are kept twice: as they are, and in a parser.
+    pub fn size(&self) -> u64 {
+        let a = self.talk.length(Side::A);
+        let b = self.talk.length(Side::B);
+        let kept = if self.talk.is_opening() {
+            a.saturating_add(b).saturating_mul(2)
+        } else {
+            PARSERS
+        };
+        kept.saturating_add(LEAST)
+            .saturating_add(history(a))
+            .saturating_add(history(b))
     }
 }

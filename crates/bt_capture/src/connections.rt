@@ -1,5 +1,5 @@
 //! The connections of a capture, and the reports of those that are over.
-ghost use Rattle.std.specs.Prelude.{◌≡◌, ◌∷◌, ◌++◌, [], ◌+◌, ◌-◌, ◌^◌, min, ℕ, List, length, None, IfOk};
+ghost use Rattle.std.specs.Prelude.{◌≡◌, ◌∷◌, ◌++◌, [], ◌+◌, ◌-◌, ◌^◌, ◌<◌, min, ℕ, List, length, None, IfOk};
 ghost use Rattle.std.specs.Map.{lookup};
 ghost use Rattle.std.specs.List.Sorted.{IsPermutation};
 ghost use Rattle.bt_io.specs.Seen.{TargetSeen};
@@ -21,10 +21,8 @@ use bt_pcap::Packet;
 use bt_talk::{Room, When};
 use std::alloc::{AllocError, Global};
 
-/// How many connections are followed at once.
-///
-/// Past that the one that was used least recently is over.
-const MOST: usize = 8_192;
+/// How many bytes of memory the connections take together. Past that the one that was used least recently is over.
+const BYTES: u64 = 500_000_000;
 
 /// The connections of a capture, and what is told of them.
 #[derive(Drop)]
@@ -34,6 +32,8 @@ pub struct Run {
     /// The time of the first packet.
     start: Option<u64>,
     table: Table,
+    /// How many bytes of memory those in the table take.
+    bytes: u64,
     /// How many connections have begun.
     begun: u64,
     pub teller: Teller,
@@ -57,6 +57,7 @@ impl Run {
             pieces,
             start: None,
             table: Table::new(alloc)?,
+            bytes: 0,
             begun: 0,
             teller: Teller::new(alloc),
             room: Room::new(alloc)?,
@@ -91,20 +92,37 @@ impl Run {
         }
     }
 
-    /// Ends the connection that was used least recently, if there are too many.
+    /// Ends the connection that was used least recently, if there is one.
+    fn end_oldest(&mut self) -> Result<(), AllocError>
+        ensures goes { (start now : TargetSeen) (came : List Arrival) → Follows start now came self.old.table self.old
+            → Goes start now came self.new.table self.new result }
+        ensures shorter { 0 < length self.old.table → length self.new.table < length self.old.table }
+        ensures pieces { self.new.pieces ≡ self.old.pieces }
+        ensures start { self.new.start ≡ self.old.start }
+    {
+        match self.table.take_oldest() {
+            Some((_, oldest)) => {
+                self.bytes = self.bytes.saturating_sub(oldest.size());
+                self.report(oldest)
+            }
+            None => Ok(()),
+        }
+    }
+
+    /// Ends the connections that were used least recently, as long as they take too much memory together.
     fn shrink(&mut self) -> Result<(), AllocError>
         ensures goes { (start now : TargetSeen) (came : List Arrival) → Follows start now came self.old.table self.old
             → Goes start now came self.new.table self.new result }
         ensures pieces { self.new.pieces ≡ self.old.pieces }
         ensures start { self.new.start ≡ self.old.start }
     {
-        if self.table.len() <= MOST {
-            return Ok(());
+        'oldest: while self.bytes > BYTES && self.table.len() > 0 {
+            match self.end_oldest() {
+                Ok(()) => {}
+                Err(error) => return Err(error),
+            }
         }
-        match self.table.take_oldest() {
-            Some((_, oldest)) => self.report(oldest),
-            None => Ok(()),
-        }
+        Ok(())
     }
 
     /// Puts a connection into the table, which has none of the same ends.
@@ -118,6 +136,7 @@ impl Run {
         ensures pieces { self.new.pieces ≡ self.old.pieces }
         ensures start { self.new.start ≡ self.old.start }
     {
+        self.bytes = self.bytes.saturating_add(connection.size());
         match self.table.put(pair, connection) {
             Ok(()) => self.shrink(),
             Err(error) => Err(error),
@@ -178,7 +197,10 @@ impl Run {
         ensures start { self.new.start ≡ self.old.start }
     {
         match self.table.take_out(pair) {
-            Some(connection) => self.goes_on(connection, segment, when),
+            Some(connection) => {
+                self.bytes = self.bytes.saturating_sub(connection.size());
+                self.goes_on(connection, segment, when)
+            }
             None => self.begin(segment),
         }
     }

@@ -1,23 +1,21 @@
-use Rattle.std.proofs.Common.{rules, ◌≡◌, refl, sym, subst, List, [], ◌∷◌, ◌++◌}
-use Rattle.std.specs.List.Sorted.{IsPermutation}
-use Rattle.std.proofs.lemmas.List.Sorted.{IsPermutation-append_comm}
-use Rattle.bt_capture.specs.Following.{Follows, Goes}
-use Rattle.bt_capture.specs.Tables.{Held, IsApart}
-use Rattle.bt_capture.specs.declared.pair.Pair.{Pair}
-use Rattle.bt_capture.proofs.Entries.{lookup_moved, apart_moved, apart_first}
-use Rattle.bt_capture.proofs.Reported.{follows_same, follows_moved}
+use Rattle.std.proofs.Common.{◌∙◌, refl}
 use Rattle.bt_capture.proofs.connections.Run.shrink.Goals as goal
 
-pub returns-in-Some-clause-goes : goal.returns-in-Some-clause-goes
-returns-in-Some-clause-goes c start now came i =
-    let es : List (Pair × Held) = c.args.self.now.table in
-    let left : List (Pair × Held) = c.take_oldest.new.self in
-    let e : Pair × Held = (c.in-Some.field-0-0, c.in-Some.oldest) in
-    let is : es ≡ left ++ e ∷ [] = search rules in
-    let apart : IsApart (left ++ e ∷ []) = subst (λ l. IsApart l) is c.take_oldest.ensures.apart in
-    let move : IsPermutation (left ++ e ∷ []) (e ∷ left) = IsPermutation-append_comm left (e ∷ []) in
-    let absent = apart_first e left (apart_moved (left ++ e ∷ []) (e ∷ left) move apart) in
-    let same = follows_moved start now came (left ++ e ∷ []) (e ∷ left) c.args.self.now (lookup_moved (left ++ e ∷ []) (e ∷ left) move apart)
-    (subst (λ l. Follows start now came l c.args.self.now) is i) in
-    subst (λ l. Goes start now came l c.report.new.self c.report.result) (sym c.report.ensures.table)
-    (c.report.ensures.goes start now came e.0 left absent (follows_same start now came (e ∷ left) c.args.self.now _ refl refl refl refl same))
+pub oldest-init : goal.oldest-init
+oldest-init c = record { told = λ start now came i. i; pieces = refl; start = refl }
+
+pub oldest-preserved : goal.oldest-preserved
+oldest-preserved c = record {
+  told = λ start now came i. c.in-Ok.ensures.goes start now came (c.oldest.invariant.told start now came i);
+  pieces = c.in-Ok.ensures.pieces ∙ c.oldest.invariant.pieces;
+  start = c.in-Ok.ensures.start ∙ c.oldest.invariant.start;
+}
+
+pub returns-in-Err-clause-goes : goal.returns-in-Err-clause-goes
+returns-in-Err-clause-goes c start now came i = c.in-Err.ensures.goes start now came (c.oldest.invariant.told start now came i)
+
+pub returns-else-len-gt0-clause-goes : goal.returns-else-len-gt0-clause-goes
+returns-else-len-gt0-clause-goes c start now came i = c.oldest.invariant.told start now came i
+
+pub returns-after-oldest-clause-goes : goal.returns-after-oldest-clause-goes
+returns-after-oldest-clause-goes c start now came i = c.oldest.invariant.told start now came i

@@ -1,0 +1,32 @@
+use Rattle.std.proofs.Common.{rules, ◌≡◌, refl, sym, subst, List, [], ◌∷◌, ◌++◌, ◌∙◌, ◌+◌, ap, arith, length}
+use Rattle.std.proofs.lemmas.List.{length-append}
+use Rattle.std.specs.List.Sorted.{IsPermutation}
+use Rattle.std.proofs.lemmas.List.Sorted.{IsPermutation-append_comm}
+use Rattle.bt_capture.specs.Following.{Follows, Goes}
+use Rattle.bt_capture.specs.Tables.{Held, IsApart}
+use Rattle.bt_capture.specs.declared.pair.Pair.{Pair}
+use Rattle.bt_capture.proofs.Entries.{lookup_moved, apart_moved, apart_first}
+use Rattle.bt_capture.proofs.Reported.{follows_same, follows_moved}
+use Rattle.bt_capture.proofs.connections.Run.end_oldest.Goals as goal
+
+pub returns-in-Some-clause-goes : goal.returns-in-Some-clause-goes
+returns-in-Some-clause-goes c start now came i =
+    let es : List (Pair × Held) = c.args.self.now.table in
+    let left : List (Pair × Held) = c.take_oldest.new.self in
+    let e : Pair × Held = (c.in-Some.field-0-0, c.in-Some.oldest) in
+    let is : es ≡ left ++ e ∷ [] = search rules in
+    let apart : IsApart (left ++ e ∷ []) = subst (λ l. IsApart l) is c.take_oldest.ensures.apart in
+    let move : IsPermutation (left ++ e ∷ []) (e ∷ left) = IsPermutation-append_comm left (e ∷ []) in
+    let absent = apart_first e left (apart_moved (left ++ e ∷ []) (e ∷ left) move apart) in
+    let same = follows_moved start now came (left ++ e ∷ []) (e ∷ left) c.args.self.now (lookup_moved (left ++ e ∷ []) (e ∷ left) move apart)
+    (subst (λ l. Follows start now came l c.args.self.now) is i) in
+    subst (λ l. Goes start now came l c.report.new.self c.report.result) (sym c.report.ensures.table)
+    (c.report.ensures.goes start now came e.0 left absent (follows_same start now came (e ∷ left) c.args.self.now _ refl refl refl refl same))
+
+pub returns-in-Some-clause-shorter : goal.returns-in-Some-clause-shorter
+returns-in-Some-clause-shorter c some =
+    let left : List (Pair × Held) = c.take_oldest.new.self in
+    let e : Pair × Held = (c.in-Some.field-0-0, c.in-Some.oldest) in
+    let more : length c.args.self.now.table ≡ length left + 1 = ap length c.in-Some.ensures.oldest ∙ length-append left (e ∷ []) in
+    let same : length c.report.new.self.table ≡ length left = ap length c.report.ensures.table in
+    omega (arith, more, same)

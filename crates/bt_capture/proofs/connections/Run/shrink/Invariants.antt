@@ -1,0 +1,15 @@
+use Rattle.std.proofs.Common.{◌≡◌, List, length}
+use Rattle.bt_io.specs.Seen.{TargetSeen}
+use Rattle.bt_capture.specs.Arrivals.{Arrival}
+use Rattle.bt_capture.specs.Following.{Follows}
+use Rattle.bt_capture.proofs.connections.Run.shrink.Given as goal
+
+abbrev pub decreases-oldest : goal.decreases-oldest
+decreases-oldest l = length l.self.table
+
+abbrev pub invariant-oldest : goal.invariant-oldest
+invariant-oldest l = record {
+  told : (start now : TargetSeen) (came : List Arrival) → Follows start now came l.initial.self.table l.initial.self → Follows start now came l.self.table l.self;
+  pieces : l.self.pieces ≡ l.initial.self.pieces;
+  start : l.self.start ≡ l.initial.self.start;
+}
