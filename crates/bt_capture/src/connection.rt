@@ -11,7 +11,7 @@ use std::alloc::Global;
 /// How many bytes of memory a connection takes of which no byte was captured.
 const LEAST: u64 = 3_072;
 
-/// How many more a side takes of which a byte was captured: the last ones are kept for comparison.
+/// How many bytes of a side are kept for comparison with what comes again: the last ones.
 const HISTORY: u64 = 16_384;
 
 /// How many more the parsers of both sides take, besides a long message that isn't whole.
@@ -31,11 +31,6 @@ fn has_payload(segment: &Segment) -> bool
     ensures { (when : When) → result ≡ has_data (arrived segment.now when) }
 {
     !segment.flags.rst && !segment.payload.is_empty()
-}
-
-/// Returns how many bytes the last ones of a side take.
-fn history(length: u64) -> u64 {
-    if length == 0 { 0 } else { HISTORY }
 }
 
 impl Connection {
@@ -73,7 +68,7 @@ impl Connection {
             PARSERS
         };
         kept.saturating_add(LEAST)
-            .saturating_add(history(a))
-            .saturating_add(history(b))
+            .saturating_add(a.min(HISTORY))
+            .saturating_add(b.min(HISTORY))
     }
 }
