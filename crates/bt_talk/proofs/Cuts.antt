@@ -1,5 +1,5 @@
 -- The last that a side had sent when the connection was closed.
-use Rattle.std.proofs.Common.{◌≡◌, ◌∙◌, ℕ, ◌+◌, ◌-◌, ◌≤◌, ◌<◌, ◌^◌, min, List, [], ◌++◌, append-nil, drop, take, length, Option, Some, None, refl, sym, ap, subst, arith, length-append, length-take, inl, inr}
+use Rattle.std.proofs.Common.{◌≡◌, ◌∙◌, ℕ, ◌+◌, ◌-◌, ◌≤◌, min, List, [], ◌++◌, append-nil, drop, take, length, Option, Some, None, refl, sym, ap, subst, arith, length-append, length-take, inl, inr}
 use Rattle.std.proofs.lemmas.Bool.{cases_lt}
 use Rattle.std.proofs.lemmas.List.{drop-take, drop_all, take-append-le, take_all}
 use Rattle.bt_ext.specs.declared.ids.Rules.TheVariants.{Free}
@@ -7,7 +7,6 @@ use Rattle.bt_intro.specs.declared.settling.Receiver.{Receiver}
 use Rattle.bt_judge.specs.declared.judge.Judge.{Judge}
 use Rattle.bt_judge.specs.Judges.{AreJudged, under}
 use Rattle.bt_judge.specs.Readings.{IsStanding}
-use Rattle.bt_told.specs.declared.report.Last.{Last}
 use Rattle.bt_told.specs.declared.report.Last.TheVariants.{Nothing, Item as LastItem, Refused}
 use Rattle.bt_told.specs.declared.said.Said.{Said}
 use Rattle.bt_wire.specs.declared.context.Own.{Own}
@@ -15,7 +14,7 @@ use Rattle.bt_wire.specs.declared.item.Item.{Item}
 use Rattle.bt_wire.specs.declared.item.Refusal.{Refusal}
 use Rattle.bt_wire.specs.Streams.{Outcome, IsVerdict}
 use Rattle.bt_talk.specs.declared.stage.Cut.{Cut}
-use Rattle.bt_talk.specs.Cuts.{IsLastBy, IsLastIn, IsLastOf, IsCutBy, IsCutNow, IsWithin, cut_length}
+use Rattle.bt_talk.specs.Cuts.{IsLastBy, IsLastIn, IsCutBy, IsCutNow, IsWithin, cut_length}
 use Rattle.bt_talk.specs.Watching.{IsLast}
 
 standing : (own : Own) (b : List ℕ) (v : Outcome) (o : Option Refusal) → IsVerdict own b v → IsStanding own b o → v.refusal ≡ o

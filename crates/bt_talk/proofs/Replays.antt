@@ -1,5 +1,5 @@
 -- How far the bytes of the opening are judged.
-use Rattle.std.proofs.Common.{◌≡◌, ◌∙◌, ℕ, Bool, true, List, [], ◌∷◌, ◌++◌, append-nil, append_assoc, drop, take, Option, Some, None, refl, sym, ap, subst}
+use Rattle.std.proofs.Common.{◌≡◌, ◌∙◌, ℕ, Bool, List, [], ◌∷◌, ◌++◌, append-nil, append_assoc, drop, take, Option, Some, None, refl, sym, ap, subst}
 use Rattle.bt_feed.specs.Pumps.{Took}
 use Rattle.bt_intro.specs.declared.settling.Receiver.{Receiver}
 use Rattle.bt_intro.specs.Hellos.{IsFirstHello}
@@ -16,9 +16,9 @@ use Rattle.bt_talk.specs.declared.replay.Replay.{Replay}
 use Rattle.bt_talk.specs.declared.stage.Cut.{Cut}
 use Rattle.bt_talk.specs.declared.stage.Judged.{Judged}
 use Rattle.bt_talk.specs.declared.watch.Watch.{Watch}
-use Rattle.bt_talk.specs.Cuts.{IsCutBy, IsCutNow, IsLastIn, IsLastOf, cut_length}
+use Rattle.bt_talk.specs.Cuts.{IsCutNow, IsLastIn, IsLastOf, cut_length}
 use Rattle.bt_talk.specs.Pasts.{Past}
-use Rattle.bt_talk.specs.Receivers.{IsJudgedBy, AreItems}
+use Rattle.bt_talk.specs.Receivers.{IsJudgedBy}
 use Rattle.bt_talk.specs.Replays.{IsJudgedTo, IsReplay, IsReplayBy, IsReplayOf, IsReplayed, IsParted, IsFollowed, upto, close_length}
 use Rattle.bt_talk.specs.Watching.{IsLast, IsWatched, Watches, notes_of, tell, with_items}
 use Rattle.bt_talk.proofs.Items.{first_only}

@@ -1,5 +1,5 @@
 -- What a direction's stage says of its past.
-use Rattle.std.proofs.Common.{◌≡◌, ◌∙◌, ℕ, true, false, Bool, List, [], ◌++◌, append-nil, append_assoc, Option, Some, None, refl, sym, ap, subst, if◌then◌else◌}
+use Rattle.std.proofs.Common.{◌≡◌, ◌∙◌, ℕ, true, false, List, [], ◌++◌, append-nil, append_assoc, Option, Some, None, refl, sym, ap, subst}
 use Rattle.bt_flow.specs.declared.flow.Given.{Given}
 use Rattle.bt_intro.specs.declared.introduction.Introduction.{Introduction}
 use Rattle.bt_intro.specs.Hearing.{IsHeardOf}
@@ -9,7 +9,6 @@ use Rattle.bt_talk.specs.declared.direction.Direction.{Direction}
 use Rattle.bt_talk.specs.declared.stage.Cut.{Cut}
 use Rattle.bt_talk.specs.Cuts.{IsCutNow, IsWithin, cut_length}
 use Rattle.bt_talk.specs.Pasts.{Past, IsFlowOf, Adds}
-use Rattle.bt_talk.specs.Receivers.{IsReceiver, IsJudgedBy}
 use Rattle.bt_talk.specs.Stages.{is_opening, receiver_in, IsStage, IsDirection}
 use Rattle.bt_talk.proofs.Cuts.{cut_more, cut_none, within_more}
 use Rattle.bt_talk.proofs.Receivers.{receiver_same, judged_same}

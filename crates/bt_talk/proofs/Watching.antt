@@ -15,7 +15,7 @@ use Rattle.bt_wire.specs.declared.item.Item.{Item}
 use Rattle.bt_talk.specs.declared.watch.Notes.{Notes}
 use Rattle.bt_talk.specs.declared.watch.Watch.{Watch}
 use Rattle.bt_talk.specs.Events.{event_of}
-use Rattle.bt_talk.specs.Watching.{IsSaid, told_of, tell, said_by, messages_of, IsAmong, IsItemAt, IsLast, AreNoted, notes_of, IsWatched, with_items, GoesOn, first_said, noted, Watches}
+use Rattle.bt_talk.specs.Watching.{IsSaid, told_of, tell, said_by, messages_of, IsAmong, IsItemAt, AreNoted, notes_of, IsWatched, with_items, GoesOn, first_said, noted, Watches}
 
 -- ---- the first item with a remark
 

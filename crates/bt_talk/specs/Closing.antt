@@ -1,5 +1,5 @@
 -- How a connection is closed (RFC 9293 3.5.2, 3.6).
-use Rattle.std.specs.Prelude.{◌≡◌, ℕ, ◌-◌, Bool, false, ◌||◌, ◌&&◌, not, nat_eq, nat_le, nat_lt, List, Option, Some, None}
+use Rattle.std.specs.Prelude.{◌≡◌, ℕ, ◌-◌, Bool, false, ◌||◌, ◌&&◌, not, nat_eq, nat_le, nat_lt, Option, Some, None}
 use Rattle.std.specs.Bool.{then_some}
 use Rattle.std.specs.Option.{option_or}
 use Rattle.bt_remarks.specs.declared.events.Side.{Side}

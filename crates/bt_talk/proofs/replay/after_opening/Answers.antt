@@ -1,4 +1,4 @@
-use Rattle.std.proofs.Common.{[], ℕ, List, Option, Some, None, refl, sym, subst}
+use Rattle.std.proofs.Common.{[], ℕ, List, Option, None, refl, subst}
 use Rattle.bt_intro.specs.declared.settling.Receiver.{Receiver}
 use Rattle.bt_wire.specs.declared.item.Item.{Item}
 use Rattle.bt_talk.specs.declared.replay.Close.{Close}

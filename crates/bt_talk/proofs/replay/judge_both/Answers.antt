@@ -1,5 +1,4 @@
 use Rattle.std.proofs.Common.{ℕ, List, sym, subst}
-use Rattle.bt_remarks.specs.declared.events.Side.TheVariants.{A, B}
 use Rattle.bt_wire.specs.declared.item.Item.{Item}
 use Rattle.bt_talk.specs.Replays.{IsReplay}
 use Rattle.bt_talk.specs.Stages.{AreItemsIn}

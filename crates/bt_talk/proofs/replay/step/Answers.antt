@@ -1,6 +1,5 @@
 use Rattle.std.proofs.Common.{ℕ, List, sym, subst}
 use Rattle.bt_remarks.specs.declared.events.Side.{Side}
-use Rattle.bt_remarks.specs.declared.events.Side.TheVariants.{A, B}
 use Rattle.bt_wire.specs.declared.item.Item.{Item}
 use Rattle.bt_talk.specs.Replays.{IsReplay, Replays}
 use Rattle.bt_talk.proofs.replay.step.Goals as goal

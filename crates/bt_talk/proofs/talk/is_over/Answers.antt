@@ -1,7 +1,5 @@
-use Rattle.std.proofs.Common.{◌≡◌, ◌∙◌, ℕ, ◌+◌, ◌-◌, ◌^◌, min, Bool, length, ap, arith}
-use Rattle.std.specs.Prelude.{nat_le}
-use Rattle.bt_talk.specs.Talks.{is_over}
-use Rattle.bt_talk.proofs.Talks.{bytes_over, over_same}
+use Rattle.std.proofs.Common.{◌≡◌, ◌∙◌, ◌+◌, ◌-◌, ◌^◌, min, length, arith}
+use Rattle.bt_talk.proofs.Talks.{over_same}
 use Rattle.bt_talk.proofs.talk.is_over.Goals as goal
 
 pub returns : goal.returns

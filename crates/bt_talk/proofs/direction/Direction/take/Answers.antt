@@ -1,4 +1,4 @@
-use Rattle.std.proofs.Common.{◌≡◌, Bool, [], ◌++◌, Some, refl, sym, ap, subst}
+use Rattle.std.proofs.Common.{Bool, [], ◌++◌, Some, refl, sym, ap, subst}
 use Rattle.bt_talk.specs.declared.stage.Stage.{Stage}
 use Rattle.bt_talk.specs.Pasts.{Adds}
 use Rattle.bt_talk.specs.Stages.{IsStage, AreItemsIn, is_opening, receiver_in}

@@ -1,4 +1,4 @@
-use Rattle.std.proofs.Common.{◌≡◌, ◌∙◌, ◌++◌, ℕ, List, take, drop, sym, ap, subst}
+use Rattle.std.proofs.Common.{◌≡◌, ◌∙◌, ◌++◌, ℕ, List, drop, sym, ap, subst}
 use Rattle.std.proofs.lemmas.List.{take-append-drop}
 use Rattle.bt_talk.specs.Replays.{IsReplayOf}
 use Rattle.bt_talk.proofs.Replays.{nearer}
