@@ -11,9 +11,8 @@ use Rattle.std.proofs.lemmas.List.Folds.{list_any-append}
 use Rattle.bt_io.specs.Counts.{counted, Grew}
 use Rattle.bt_io.specs.Seen.{TargetSeen, WriteFailed}
 use Rattle.bt_told.specs.declared.report.Report.{Report}
-use Rattle.bt_told.specs.Reports.{report_text}
 use Rattle.bt_capture.specs.declared.telling.Teller.{Teller}
-use Rattle.bt_capture.specs.Tellings.{texts, count_torrents, is_one_refused, is_refused, is_told, Tells, IsStopped}
+use Rattle.bt_capture.specs.Tellings.{text_by, texts, count_torrents, is_one_refused, is_refused, is_told, Tells, IsStopped}
 
 one : (p : Report → Bool) (x : Report) → length (filter p (x ∷ [])) ≡ (if p x then 1 else 0)
 one p x = elim (cases_Bool (p x)) [ inl e ↦ rw e refl | inr e ↦ rw e refl ]
@@ -39,17 +38,17 @@ one_any p x = elim (cases_Bool (p x)) [ inl e ↦ rw e refl | inr e ↦ rw e ref
 pub refused_more : (reports : List Report) (r : Report) → is_one_refused (reports ++ r ∷ []) ≡ (is_one_refused reports || is_refused r)
 refused_more reports r = list_any-append is_refused reports (r ∷ []) ∙ ap (λ (b : Bool). is_one_refused reports || b) (one_any is_refused r)
 
-pub text_more : (reports : List Report) (r : Report) → texts (reports ++ r ∷ []) ≡ texts reports ++ report_text r
-text_more reports r = flat_map-append report_text reports (r ∷ []) ∙ ap (λ (l : List ℕ). texts reports ++ l) (append-nil (report_text r))
+pub text_more : (json : Bool) (reports : List Report) (r : Report) → texts json (reports ++ r ∷ []) ≡ texts json reports ++ text_by json r
+text_more json reports r = flat_map-append (text_by json) reports (r ∷ []) ∙ ap (λ (l : List ℕ). texts json reports ++ l) (append-nil (text_by json r))
 
 -- One more report is told.
-pub told_more : (start now : TargetSeen) (old new : Teller) (reports : List Report) (r : Report) → new.text.items ≡ old.text.items ++ report_text r
-    → new.torrents ≡ counted (is_told r) old.torrents → new.is_refused ≡ (old.is_refused || is_refused r) → Tells start now old reports
+pub told_more : (start now : TargetSeen) (old new : Teller) (reports : List Report) (r : Report) → new.text.items ≡ old.text.items ++ text_by old.json r
+    → new.json ≡ old.json → new.torrents ≡ counted (is_told r) old.torrents → new.is_refused ≡ (old.is_refused || is_refused r) → Tells start now old reports
     → Tells start now new (reports ++ r ∷ [])
-told_more start now old new reports r text torrents refused t = record {
+told_more start now old new reports r text json torrents refused t = record {
   written = t.written;
-  whole = ap (λ (l : List ℕ). t.written ++ l) text ∙ sym (append_assoc t.written old.text.items (report_text r))
-      ∙ ap (λ (l : List ℕ). l ++ report_text r) t.whole ∙ sym (text_more reports r);
+  whole = ap (λ (l : List ℕ). t.written ++ l) text ∙ sym (append_assoc t.written old.text.items (text_by old.json r))
+      ∙ ap (λ (l : List ℕ). l ++ text_by old.json r) t.whole ∙ sym (text_more old.json reports r) ∙ ap (λ b. texts b (reports ++ r ∷ [])) (sym json);
   held = t.held;
   calm = t.calm;
   torrents = torrents ∙ ap (counted (is_told r)) t.torrents ∙ sym (count_more reports r);
@@ -58,11 +57,11 @@ told_more start now old new reports r text torrents refused t = record {
 
 -- The text that was kept is written.
 pub all_written : (start now after : TargetSeen) (old new : Teller) (reports : List Report) → Appends now.held after.held old.text.items
-    → after.failed ≡ now.failed → new.text.items ≡ [] → new.torrents ≡ old.torrents → new.is_refused ≡ old.is_refused
+    → after.failed ≡ now.failed → new.text.items ≡ [] → new.json ≡ old.json → new.torrents ≡ old.torrents → new.is_refused ≡ old.is_refused
     → Tells start now old reports → Tells start after new reports
-all_written start now after old new reports held calm empty torrents refused t = record {
+all_written start now after old new reports held calm empty json torrents refused t = record {
   written = t.written ++ old.text.items;
-  whole = ap (λ (l : List ℕ). (t.written ++ old.text.items) ++ l) empty ∙ append-nil (t.written ++ old.text.items) ∙ t.whole;
+  whole = ap (λ (l : List ℕ). (t.written ++ old.text.items) ++ l) empty ∙ append-nil (t.written ++ old.text.items) ∙ t.whole ∙ ap (λ b. texts b reports) (sym json);
   held = Appends-trans start.held now.held after.held t.written old.text.items t.held held;
   calm = calm ∙ t.calm;
   torrents = torrents ∙ t.torrents;
@@ -71,7 +70,7 @@ all_written start now after old new reports held calm empty torrents refused t =
 
 -- A front of the text that was kept is written.
 pub front_written : (start now after : TargetSeen) (t : Teller) (reports : List Report) (front rest : List ℕ) → t.text.items ≡ front ++ rest
-    → Appends now.held after.held front → WriteFailed now after → Tells start now t reports → IsStopped start after reports
+    → Appends now.held after.held front → WriteFailed now after → Tells start now t reports → IsStopped t.json start after reports
 front_written start now after teller reports front rest parts held failed t = record {
   front = (
     t.written ++ front,

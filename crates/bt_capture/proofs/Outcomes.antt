@@ -78,17 +78,18 @@ read_kept o left left' packets r r' same keeps i = record {
 
 pub told_read : (o : Origin) (left left' : Option (List ℕ)) (now : TargetSeen) (es : List (Pair × Held)) (run : Run) (r r' : Reading)
     → ((packets : List Captured) → HasRead o left packets r → HasRead o left' packets r') → IsTelling o left now es run r → IsTelling o left' now es run r'
-told_read o left left' now es run r r' reads i = record { packets = i.packets; read = reads i.packets i.read; pieces = i.pieces; time = i.time; follows = i.follows }
+told_read o left left' now es run r r' reads i = record { packets = i.packets; read = reads i.packets i.read; pieces = i.pieces; json = i.json; time = i.time; follows = i.follows }
 
 pub flushed : (o : Origin) (left : Option (List ℕ)) (now after : TargetSeen) (es : List (Pair × Held)) (old new : Run) (r : Reading) → new.pieces ≡ old.pieces
-    → new.start ≡ old.start → new.lost ≡ old.lost → ((reports : List Report) → Tells o.target now old.teller reports → Tells o.target after new.teller reports)
+    → new.teller.json ≡ old.teller.json → new.start ≡ old.start → new.lost ≡ old.lost → ((reports : List Report) → Tells o.target now old.teller reports → Tells o.target after new.teller reports)
     → IsTelling o left now es old r → IsTelling o left after es new r
-flushed o left now after es old new r pieces begin lost tells i =
+flushed o left now after es old new r pieces json begin lost tells i =
     let known = i.follows.known in
     record {
       packets = i.packets;
       read = i.read;
       pieces = pieces ∙ i.pieces;
+      json = json ∙ i.json;
       time = begin ∙ i.time;
       follows = record {
         fs = i.follows.fs;
@@ -112,25 +113,32 @@ over_by : (o : Origin) (now : TargetSeen) (packets : List Captured) (run : Run) 
 over_by o now packets run pieces time s = record { finished = finished_by o packets s.fs run pieces time s.known.finished; shared = s.shared }
 
 pub left_by : (o : Origin) (left : Option (List ℕ)) (now after : TargetSeen) (es : List (Pair × Held)) (run : Run) (r : Reading)
-    → ((reports : List Report) → Tells o.target now run.teller reports → IsStopped o.target after reports) → IsTelling o left now es run r → IsLeft o left after
+    → ((reports : List Report) → Tells o.target now run.teller reports → IsStopped run.teller.json o.target after reports) → IsTelling o left now es run r → IsLeft o left after
 left_by o left now after es run r stopped i =
     let s = stops_of o.target now (arrivals i.packets) es run i.follows in
-    record { packets = i.packets; r = r; read = i.read; fs = s.fs; over = over_by o now i.packets run i.pieces i.time s; stopped = stopped (reports_of s.fs) s.known.tells }
+    record {
+      packets = i.packets;
+      r = r;
+      read = i.read;
+      fs = s.fs;
+      over = over_by o now i.packets run i.pieces i.time s;
+      stopped = subst (λ b. IsStopped b o.target after (reports_of s.fs)) i.json (stopped (reports_of s.fs) s.known.tells);
+    }
 
 pub given_up : (o : Origin) (left : Option (List ℕ)) (now : TargetSeen) (packets : List Captured) (run : Run) (r : Reading) → HasRead o left packets r
-    → run.pieces ≡ o.pieces → run.start ≡ first_time packets → Stops o.target now (arrivals packets) run → ArePartlyWritten o left now
-given_up o left now packets run r read pieces time s = let t = s.known.tells in record {
+    → run.pieces ≡ o.pieces → run.teller.json ≡ o.json → run.start ≡ first_time packets → Stops o.target now (arrivals packets) run → ArePartlyWritten o left now
+given_up o left now packets run r read pieces json time s = let t = s.known.tells in record {
   packets = packets;
   r = r;
   read = read;
   fs = s.fs;
   over = over_by o now packets run pieces time s;
-  front = (t.written, run.teller.text.items, sym t.whole, t.held);
+  front = (t.written, run.teller.text.items, ap (λ b. texts b (reports_of s.fs)) (sym json) ∙ sym t.whole, t.held);
 }
 
 pub partly : (o : Origin) (left : Option (List ℕ)) (now : TargetSeen) (es : List (Pair × Held)) (run : Run) (r : Reading) → IsTelling o left now es run r
     → ArePartlyWritten o left now
-partly o left now es run r i = given_up o left now i.packets run r i.read i.pieces i.time (stops_of o.target now (arrivals i.packets) es run i.follows)
+partly o left now es run r i = given_up o left now i.packets run r i.read i.pieces i.json i.time (stops_of o.target now (arrivals i.packets) es run i.follows)
 
 pub nothing_told : (o : Origin) → ArePartlyWritten o o.left o.target
 nothing_told o = record {
@@ -145,7 +153,7 @@ nothing_told o = record {
 -- ---- the end
 
 pub texts_written : (start now : TargetSeen) (t : Teller) (reports : List Report) → IsEmpty t → Tells start now t reports
-    → Appends start.held now.held (texts reports)
+    → Appends start.held now.held (texts t.json reports)
 texts_written start now t reports empty w =
     subst (Appends start.held now.held) (sym (append-nil w.written) ∙ ap (λ (l : List ℕ). w.written ++ l) (sym empty) ∙ w.whole) w.held
 
@@ -162,7 +170,8 @@ all_written o left now run r empty i = record {
   read = i.read;
   fs = i.follows.fs;
   over = all_over o left now run r i;
-  written = texts_written o.target now run.teller (reports_of i.follows.fs) empty i.follows.known.tells;
+  written = subst (λ b. Appends o.target.held now.held (texts b (reports_of i.follows.fs))) i.json
+      (texts_written o.target now run.teller (reports_of i.follows.fs) empty i.follows.known.tells);
 }
 
 -- The text couldn't be made or written.
@@ -204,18 +213,20 @@ told_rest o left now old new es r all apart same i =
       packets = i.packets;
       read = i.read;
       pieces = i.pieces;
+      json = i.json;
       time = i.time;
       follows = follows_same o.target now (arrivals i.packets) es old mid refl refl refl refl moves;
     })
 
 -- ---- the begin
 
-pub begins : (o : Origin) (run : Run) (r : Reading) → run.pieces ≡ o.pieces → run.start ≡ None → Follows o.target o.target [] run.table run → r ≡ nothing_read
+pub begins : (o : Origin) (run : Run) (r : Reading) → run.pieces ≡ o.pieces → run.teller.json ≡ o.json → run.start ≡ None → Follows o.target o.target [] run.table run → r ≡ nothing_read
     → IsTelling o o.left o.target run.table run r
-begins o run r pieces begin follows same = record {
+begins o run r pieces json begin follows same = record {
   packets = [];
   read = subst (HasRead o o.left []) (sym same) (read_nothing o);
   pieces = pieces;
+  json = json;
   time = begin;
   follows = follows;
 }

@@ -21,14 +21,15 @@ use Rattle.bt_capture.specs.Tellings.{IsStopped, texts, count_torrents, is_one_r
 
 -- ---- what a run begins with
 
--- the piece count, if it is known; the bytes that the source has, if these are known; and the target
+-- the piece count, if it is known; whether reports are JSON objects; the bytes that the source has, if these are known; and the target
 pub record Origin : Type 0 where
   pub pieces : Option ℕ
+  pub json : Bool
   pub left : Option (List ℕ)
   pub target : TargetSeen
 
 abbrev pub origin : CaptureJob → SourceSeen → TargetSeen → Origin
-origin job source target = record { pieces = job.pieces; left = source.left; target = target }
+origin job source target = record { pieces = job.pieces; json = job.json; left = source.left; target = target }
 
 -- These packets were read from the source, all of them since the begin. Now it has these bytes left.
 pub record HasRead (o : Origin) (left : Option (List ℕ)) (packets : List Captured) (r : Reading) : Type 0 where
@@ -43,6 +44,7 @@ pub record IsTelling (o : Origin) (left : Option (List ℕ)) (now : TargetSeen) 
   pub packets : List Captured
   pub read : HasRead o left packets r
   pub pieces : run.pieces ≡ o.pieces
+  pub json : run.teller.json ≡ o.json
   pub time : run.start ≡ first_time packets
   pub follows : Follows o.target now (arrivals packets) es run
 
@@ -73,7 +75,7 @@ pub record IsEndOf (o : Origin) (left : Option (List ℕ)) (now : TargetSeen) (e
   pub count : end.packets ≡ min (length packets) (2 ^ 64 - 1)
   pub fs : List Finished
   pub over : AreAllOver o packets fs
-  pub written : Appends o.target.held now.held (texts (reports_of fs))
+  pub written : Appends o.target.held now.held (texts o.json (reports_of fs))
   pub calm : now.failed ≡ o.target.failed
   pub torrents : end.torrents ≡ count_torrents (reports_of fs)
   pub refused : end.is_refused ≡ is_one_refused (reports_of fs)
@@ -86,7 +88,7 @@ pub record AreWritten (o : Origin) (left : Option (List ℕ)) (now : TargetSeen)
   pub read : HasRead o left packets r
   pub fs : List Finished
   pub over : AreAllOver o packets fs
-  pub written : Appends o.target.held now.held (texts (reports_of fs))
+  pub written : Appends o.target.held now.held (texts o.json (reports_of fs))
 
 -- The first part of the texts of reports on connections of what was read is written.
 pub record ArePartlyWritten (o : Origin) (left : Option (List ℕ)) (now : TargetSeen) : Type 0 where
@@ -95,7 +97,7 @@ pub record ArePartlyWritten (o : Origin) (left : Option (List ℕ)) (now : Targe
   pub read : HasRead o left packets r
   pub fs : List Finished
   pub over : AreOver o packets fs
-  pub front : AppendsPrefix o.target.held now.held (texts (reports_of fs))
+  pub front : AppendsPrefix o.target.held now.held (texts o.json (reports_of fs))
 
 -- A write failed: the first part of the texts is written.
 pub record IsLeft (o : Origin) (left : Option (List ℕ)) (now : TargetSeen) : Type 0 where
@@ -104,7 +106,7 @@ pub record IsLeft (o : Origin) (left : Option (List ℕ)) (now : TargetSeen) : T
   pub read : HasRead o left packets r
   pub fs : List Finished
   pub over : AreOver o packets fs
-  pub stopped : IsStopped o.target now (reports_of fs)
+  pub stopped : IsStopped o.json o.target now (reports_of fs)
 
 abbrev pub IsToldTo : CaptureFault → Origin → Option (List ℕ) → TargetSeen → Type 0
 IsToldTo Write o left now = IsLeft o left now

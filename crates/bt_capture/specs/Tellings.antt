@@ -4,6 +4,7 @@ use Rattle.std.specs.List.{flat_map, filter, list_any}
 use Rattle.std.specs.Io.KnownBytes.{Appends}
 use Rattle.bt_io.specs.Seen.{TargetSeen, AppendsPrefix, WriteFailed}
 use Rattle.bt_told.specs.Findings.{finding_of}
+use Rattle.bt_told.specs.Objects.{report_object}
 use Rattle.bt_told.specs.Reports.{report_text}
 use Rattle.bt_told.specs.declared.finding.Finding.{Finding}
 use Rattle.bt_told.specs.declared.finding.Finding.TheVariants as finding
@@ -32,8 +33,13 @@ is_refused r = is_refused_with (finding_of r)
 
 -- ---- reports in order
 
-abbrev pub texts : List Report → List ℕ
-texts reports = flat_map report_text reports
+-- a report as text, or as a JSON object
+abbrev pub text_by : Bool → Report → List ℕ
+text_by false r = report_text r
+text_by true r = report_object r
+
+abbrev pub texts : Bool → List Report → List ℕ
+texts json reports = flat_map (text_by json) reports
 
 -- how many are of BitTorrent connections, at most 2 ^ 64 - 1
 abbrev pub count_torrents : List Report → ℕ
@@ -45,15 +51,15 @@ is_one_refused reports = list_any is_refused reports
 -- These reports were told, and what they add up to is known. Their texts are written, except for what is kept.
 pub record Tells (start now : TargetSeen) (t : Teller) (reports : List Report) : Type 0 where
   pub written : List ℕ
-  pub whole : written ++ t.text.items ≡ texts reports
+  pub whole : written ++ t.text.items ≡ texts t.json reports
   pub held : Appends start.held now.held written
   pub calm : now.failed ≡ start.failed
   pub torrents : t.torrents ≡ count_torrents reports
   pub refused : t.is_refused ≡ is_one_refused reports
 
 -- A write failed: the first part of the texts is written.
-pub record IsStopped (start now : TargetSeen) (reports : List Report) : Type 0 where
-  pub front : AppendsPrefix start.held now.held (texts reports)
+pub record IsStopped (json : Bool) (start now : TargetSeen) (reports : List Report) : Type 0 where
+  pub front : AppendsPrefix start.held now.held (texts json reports)
   pub failed : WriteFailed start now
 
 -- All is written.

@@ -47,10 +47,11 @@ impl Run {
     ///
     /// # Errors
     /// `AllocError` when out of memory.
-    pub fn new(alloc: Global, pieces: Option<u32>) -> Result<Run, AllocError>
+    pub fn new(alloc: Global, pieces: Option<u32>, json: bool) -> Result<Run, AllocError>
         ensures follows { IfOk result (λ run. (start : TargetSeen) → Follows start start [] run.table run) }
         ensures start { IfOk result (λ run. run.start ≡ None) }
         ensures pieces { IfOk result (λ run. run.pieces ≡ pieces) }
+        ensures json { IfOk result (λ run. run.teller.json ≡ json) }
     {
         Ok(Run {
             alloc,
@@ -59,7 +60,7 @@ impl Run {
             table: Table::new(alloc)?,
             bytes: 0,
             begun: 0,
-            teller: Teller::new(alloc),
+            teller: Teller::new(alloc, json),
             room: Room::new(alloc)?,
             skipped: 0,
             lost: 0,
@@ -75,6 +76,7 @@ impl Run {
             → Follows start now came ((p, connection) ∷ es) self.old → Goes start now came es self.new result }
         ensures table { self.new.table ≡ self.old.table }
         ensures pieces { self.new.pieces ≡ self.old.pieces }
+        ensures json { self.new.teller.json ≡ self.old.teller.json }
         ensures start { self.new.start ≡ self.old.start }
     {
         if !connection.has_payload {
@@ -98,6 +100,7 @@ impl Run {
             → Goes start now came self.new.table self.new result }
         ensures shorter { 0 < length self.old.table → length self.new.table < length self.old.table }
         ensures pieces { self.new.pieces ≡ self.old.pieces }
+        ensures json { self.new.teller.json ≡ self.old.teller.json }
         ensures start { self.new.start ≡ self.old.start }
     {
         match self.table.take_oldest() {
@@ -114,6 +117,7 @@ impl Run {
         ensures goes { (start now : TargetSeen) (came : List Arrival) → Follows start now came self.old.table self.old
             → Goes start now came self.new.table self.new result }
         ensures pieces { self.new.pieces ≡ self.old.pieces }
+        ensures json { self.new.teller.json ≡ self.old.teller.json }
         ensures start { self.new.start ≡ self.old.start }
     {
         'oldest: while self.bytes > BYTES && self.table.len() > 0 {
@@ -134,6 +138,7 @@ impl Run {
         ensures goes { (start now : TargetSeen) (came : List Arrival) → Follows start now came ((pair, connection) ∷ self.old.table) self.old
             → Goes start now came self.new.table self.new result }
         ensures pieces { self.new.pieces ≡ self.old.pieces }
+        ensures json { self.new.teller.json ≡ self.old.teller.json }
         ensures start { self.new.start ≡ self.old.start }
     {
         self.bytes = self.bytes.saturating_add(connection.size());
@@ -149,6 +154,7 @@ impl Run {
             → Follows start now came es self.old → Finds start now came (arrived segment.now when) p es self.new result }
         ensures table { self.new.table ≡ self.old.table }
         ensures pieces { self.new.pieces ≡ self.old.pieces }
+        ensures json { self.new.teller.json ≡ self.old.teller.json }
         ensures start { self.new.start ≡ self.old.start }
     {
         let connection = Connection::new(self.alloc, self.begun, segment, self.pieces);
@@ -172,6 +178,7 @@ impl Run {
             → Follows start now came ((p, connection) ∷ es) self.old → Finds start now came (arrived segment.now when) p es self.new result }
         ensures table { self.new.table ≡ self.old.table }
         ensures pieces { self.new.pieces ≡ self.old.pieces }
+        ensures json { self.new.teller.json ≡ self.old.teller.json }
         ensures start { self.new.start ≡ self.old.start }
     {
         if !connection.talk.is_over(when.nanos) && !connection.talk.opens_again(segment) {
@@ -194,6 +201,7 @@ impl Run {
             → Finds start now came (arrived segment.now when) pair self.new.table self.new result }
         ensures absent { lookup (same_pair pair) self.new.table ≡ None }
         ensures pieces { self.new.pieces ≡ self.old.pieces }
+        ensures json { self.new.teller.json ≡ self.old.teller.json }
         ensures start { self.new.start ≡ self.old.start }
     {
         match self.table.take_out(pair) {
@@ -210,6 +218,7 @@ impl Run {
         ensures goes { (start now : TargetSeen) (came : List Arrival) → Follows start now came self.old.table self.old
             → Goes start now (came ++ arrived segment.now when ∷ []) self.new.table self.new result }
         ensures pieces { self.new.pieces ≡ self.old.pieces }
+        ensures json { self.new.teller.json ≡ self.old.teller.json }
         ensures start { self.new.start ≡ self.old.start }
     {
         let pair = Pair::of(segment.source, segment.target);
@@ -234,6 +243,7 @@ impl Run {
         ensures goes { (start now : TargetSeen) (came : List Arrival) → Follows start now came self.old.table self.old
             → Goes start now (came ++ arrivals_in when.packet when.nanos (seen sight.now)) self.new.table self.new result }
         ensures pieces { self.new.pieces ≡ self.old.pieces }
+        ensures json { self.new.teller.json ≡ self.old.teller.json }
         ensures start { self.new.start ≡ self.old.start }
     {
         match sight {
@@ -258,6 +268,7 @@ impl Run {
             → self.old.start ≡ first_time packets → Follows start now (arrivals packets) self.old.table self.old
             → Goes start now (arrivals (packets ++ captured packet.now ∷ [])) self.new.table self.new result }
         ensures pieces { self.new.pieces ≡ self.old.pieces }
+        ensures json { self.new.teller.json ≡ self.old.teller.json }
         ensures start { (packets : List Captured) → self.old.start ≡ first_time packets → self.new.start ≡ first_time (packets ++ captured packet.now ∷ []) }
     {
         self.start = self.start.or(Some(packet.nanos));

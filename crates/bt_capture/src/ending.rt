@@ -7,6 +7,8 @@ use thiserror::Error;
 pub struct CaptureJob {
     /// The piece count of all connections, if it is known.
     pub pieces: Option<u32>,
+    /// Whether reports are JSON objects, each on a line; else they are text.
+    pub json: bool,
 }
 
 /// What a capture had.

@@ -1,4 +1,4 @@
-//! The text of reports, which is written in large pieces.
+//! The text of reports, or their JSON objects, which are written in large pieces.
 ghost use Rattle.std.specs.Prelude.{◌≡◌, ◌∷◌, ◌++◌, [], ℕ, List, OnOk, OnErr};
 ghost use Rattle.bt_io.specs.Counts.{counted as counted_by};
 ghost use Rattle.bt_io.specs.Seen.{TargetSeen, WriteFailed};
@@ -6,13 +6,13 @@ ghost use Rattle.bt_told.specs.declared.report.Report.{Report};
 ghost use Rattle.bt_talk.specs.Pasts.{Past};
 ghost use Rattle.bt_talk.specs.Talks.{IsTalk};
 ghost use Rattle.bt_capture.specs.Reportings.{IsReportOf};
-ghost use Rattle.bt_capture.specs.Tellings.{is_told_with, is_refused_with};
+ghost use Rattle.bt_capture.specs.Tellings.{is_told_with, is_refused_with, text_by};
 
 use crate::reporting::body_of;
 use bt_io::{Target, WriteFault};
 use bt_jobs::output::write_out;
 use bt_talk::Talk;
-use bt_told::{Finding, Report, put_report};
+use bt_told::{Finding, Report, put_report, put_report_object};
 use std::alloc::{AllocError, Global};
 
 /// How many bytes of text are kept before they are written.
@@ -51,10 +51,23 @@ fn counted(torrents: u64, finding: Finding) -> u64
     }
 }
 
+/// Appends a report as text or, with `json`, as a JSON object.
+fn put_by(json: bool, report: &Report, text: &mut Vec<u8>) -> Result<(), AllocError>
+    ensures ok { OnOk result (text.new.items ≡ text.old.items ++ text_by json report.now) }
+    ensures err { OnErr result (text.new.items ≡ text.old.items) }
+{
+    if json {
+        put_report_object(report, text)
+    } else {
+        put_report(report, text)
+    }
+}
+
 /// Tells reports: their text is kept, and written in large pieces.
 #[derive(Drop)]
 pub struct Teller {
     text: Vec<u8>,
+    json: bool,
     /// How many reports are on BitTorrent connections.
     torrents: u64,
     is_refused: bool,
@@ -63,12 +76,14 @@ pub struct Teller {
 impl Teller {
     ghost use Rattle.bt_capture.specs.Tellings.{Tells, IsStopped, count_torrents, is_one_refused, IsEmpty};
 
-    /// Starts with no report.
-    pub fn new(alloc: Global) -> Teller
-        ensures { (start : TargetSeen) → Tells start start result [] }
+    /// Starts with no report. With `json` each is told as a JSON object.
+    pub fn new(alloc: Global, json: bool) -> Teller
+        ensures tells { (start : TargetSeen) → Tells start start result [] }
+        ensures json { result.json ≡ json }
     {
         Teller {
             text: Vec::new(alloc),
+            json,
             torrents: 0,
             is_refused: false,
         }
@@ -83,8 +98,9 @@ impl Teller {
             → Tells start now self.new (reports ++ report.now ∷ [])) }
         ensures same { OnErr result ((start now : TargetSeen) (reports : List Report) → Tells start now self.old reports
             → Tells start now self.new reports) }
+        ensures json { self.new.json ≡ self.old.json }
     {
-        put_report(report, &mut self.text)?;
+        put_by(self.json, report, &mut self.text)?;
         let finding = report.finding();
         self.torrents = counted(self.torrents, finding);
         self.is_refused |= is_refused(finding);
@@ -100,6 +116,7 @@ impl Teller {
             × ((start now : TargetSeen) (reports : List Report) → Tells start now self.old reports → Tells start now self.new (reports ++ r ∷ []))) }
         ensures same { OnErr result ((start now : TargetSeen) (reports : List Report) → Tells start now self.old reports
             → Tells start now self.new reports) }
+        ensures json { self.new.json ≡ self.old.json }
     {
         let ends = talk.ends();
         let body = body_of(talk, from);
@@ -128,8 +145,9 @@ impl Teller {
             → Tells start (W.seen writer.new) self.new reports) }
         ensures empty { OnOk result (IsEmpty self.new) }
         ensures stopped { OnErr result ((start : TargetSeen) (reports : List Report) → Tells start (W.seen writer.old) self.old reports
-            → IsStopped start (W.seen writer.new) reports) }
+            → IsStopped self.old.json start (W.seen writer.new) reports) }
         ensures failed { OnErr result (WriteFailed (W.seen writer.old) (W.seen writer.new)) }
+        ensures json { self.new.json ≡ self.old.json }
     {
         match write_out(writer, self.text.as_slice(), ()) {
             Ok(()) => {

@@ -38,7 +38,10 @@ fn run(
 ) -> (Result<CaptureEnd, CaptureFault>, MemTarget) {
     let mut reader = MemSource::new(file, most.max(1), None);
     let mut writer = MemTarget::new(Vec::new(rt.alloc()), 4_096, None);
-    let job = CaptureJob { pieces: Some(4) };
+    let job = CaptureJob {
+        pieces: Some(4),
+        json: false,
+    };
     let end = run_capture(rt.alloc(), &mut reader, &mut writer, &job);
     (end, writer)
 }

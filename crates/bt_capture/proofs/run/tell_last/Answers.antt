@@ -10,6 +10,7 @@ returns-in-Ok-clause-after g c o left p es r absent i =
       packets = i.packets;
       read = i.read;
       pieces = c.in-Ok.ensures.pieces ∙ i.pieces;
+      json = c.in-Ok.ensures.json ∙ i.json;
       time = c.in-Ok.ensures.start ∙ i.time;
       follows = c.in-Ok.ensures.goes o.target now (arrivals i.packets) p es absent i.follows;
     })
@@ -17,5 +18,5 @@ returns-in-Ok-clause-after g c o left p es r absent i =
 pub returns-in-Err-clause-after : goal.returns-in-Err-clause-after
 returns-in-Err-clause-after g c o left p es r absent i =
     let now = g.W.Target.seen c.args.writer.now in
-    given_up o left now i.packets c.report.new.self r i.read (c.in-Err.ensures.pieces ∙ i.pieces) (c.in-Err.ensures.start ∙ i.time)
+    given_up o left now i.packets c.report.new.self r i.read (c.in-Err.ensures.pieces ∙ i.pieces) (c.in-Err.ensures.json ∙ i.json) (c.in-Err.ensures.start ∙ i.time)
     (c.in-Err.ensures.goes o.target now (arrivals i.packets) p es absent i.follows)
