@@ -5,6 +5,7 @@ usage: tests/capture.py [PROGRAM]
 
 PROGRAM is the built bt_tool, or else the script at the top of the repository. The expected reports are those that tests/btcap.py
 states, without the lines that only btcap has: requests that got no answer, sentences on reasons, and uTP.
+The objects of `--json` say what these lines say, and nothing else.
 The sentences on reasons that bt_told defines have the words of tools/reasons.json.
 """
 import importlib.machinery
@@ -43,6 +44,108 @@ def fault_of(words):
     return words if b"BitTorrent" in words or b"inside a packet" in words else words and b"fault: capture: "
 
 
+def unique(pairs):
+    """An object's members, of which no two have one name."""
+    assert len(dict(pairs)) == len(pairs), pairs
+    return dict(pairs)
+
+
+def item_of(item):
+    """An item's offset and words."""
+    offset, name, *values = item.values()
+    if name == "ext-handshake":
+        values = values[:2] + ["size=%s" % item.get("metadata_size", "-"), "ut_metadata=%s" % item.get("ut_metadata", "-")]
+    return " ".join(map(str, [offset, name, *values]))
+
+
+def verdict_of(found):
+    """A verdict, taken out of its object."""
+    if found.pop("verdict") == "ok":
+        return "ok messages=%d bytes=%d" % (found.pop("messages"), found.pop("bytes"))
+    return "refused message=%d at=%d %s" % (found.pop("message"), found.pop("offset"), found.pop("reason"))
+
+
+def judged_lines(found):
+    """The lines on a direction's verdicts and on its receiver."""
+    verdicts = {rules: verdict_of(found[rules]) for rules in ("free", "bep")}
+    for rules, words in verdicts.items():
+        rest = found.pop(rules)
+        note, why = rest.pop("note", None), rest.pop("why", None)
+        yield "    %-4s %s%s\n" % (rules, words, " (%s)" % note if note else "")
+        if why and (rules == "bep" or words != verdicts["bep"]):
+            yield "    why  %s.\n" % why
+        assert not rest, rest
+    receiver = found.pop("receiver")
+    names = ["%s %s" % (name, receiver.pop(key)) for name, key in ((" --donthave-id", "donthave_id"), (" --pieces", "pieces")) if key in receiver]
+    guess = " (guessed: its receiver's handshake isn't there)" if receiver.pop("guessed", False) else ""
+    yield "    options --reserved %s --metadata-id %d%s%s\n" % (receiver.pop("reserved"), receiver.pop("metadata_id", 0), "".join(names), guess)
+    assert not receiver, receiver
+
+
+def direction_lines(side, found):
+    """The lines on a direction, whose members are taken out; its remarks are left."""
+    yield "  %s %s\n" % (side, found.pop("name") if "name" in found else "sent %d bytes and no whole handshake" % found.pop("sent"))
+    if "exchange" in found:
+        yield "    handshake after %d bytes of a key exchange; offsets count from it\n" % found.pop("exchange")
+    if "conflicts" in found:
+        yield "    repeated with other bytes: %d; the first ones count\n" % found.pop("conflicts")
+    if "gap" in found:
+        gaps, missing = found.pop("gaps"), found.pop("missing")
+        more = "; %d gaps, %d bytes in all" % (gaps, missing) if gaps > 1 else ""
+        yield "    gap at %(offset)d: %(bytes)d bytes aren't in the capture" % found.pop("gap") + more + "\n"
+    if "free" in found:
+        yield from judged_lines(found)
+
+
+def closing_lines(closed):
+    """The lines on how a connection was closed, and on what each side had sent."""
+    if closed is None:
+        return ["  still open at the capture's end\n"]
+    lines = ["  %(side)s closed first, by %(by)s, at %(time)s s\n" % closed]
+    for side in "BA" if closed["side"] == "A" else "AB":
+        before = closed.pop(side.lower(), None)
+        if before:
+            last = before.get("last", {})
+            words = "nothing" if not last else item_of(last) if "item" in last else verdict_of(last)
+            lines.append("    %s had sent %d bytes, last: %s\n" % (side, before["sent"], words))
+    assert set(closed) == {"side", "by", "time"}, closed
+    return lines
+
+
+REMARKS = {
+    "unasked": ("an answer that nobody asked for", "answers that nobody asked for"),
+    "choked": ("a request while it was choked", "requests while it was choked"),
+    "again": ("a request again before its answer", "requests again before their answers"),
+    "unanswered": ("a request that got no answer", "requests that got no answer"),
+    "elsewhere": ("a have of a piece that never came here", "haves of pieces that never came here"),
+}
+
+
+def remark_lines(side, found):
+    """The lines of the remarks, which are the members that are left."""
+    for key, (one, many) in REMARKS.items():
+        if key in found:
+            noted = found.pop(key)
+            what = one if noted["count"] < 2 else "%d %s, the first" % (noted["count"], many)
+            yield "  %s sent %s: %s\n" % (side, what, item_of(noted["first"]))
+    assert not found, found
+
+
+def lines_of(line):
+    """The text that says what an object says."""
+    found = json.loads(line, parse_float=str, object_pairs_hook=unique)
+    text = "connection %d  A %s > B %s" % (found.pop("connection"), found.pop("a"), found.pop("b"))
+    if not found.pop("bittorrent"):
+        assert not found, found
+        return text + "  no BitTorrent handshake: encrypted, another protocol, or begun before the capture\n"
+    sides = [(side, found.pop("from_" + side.lower())) for side in "AB"]
+    lines = [line for side, way in sides for line in direction_lines(side, way)]
+    lines += closing_lines(found.pop("closed", None))
+    lines += [line for side, way in sides for line in remark_lines(side, way)]
+    assert not found, found
+    return text + "\n" + "".join(lines)
+
+
 def read(*names):
     with open(os.path.join(ROOT, *names), encoding="utf8") as file:
         return file.read()
@@ -79,14 +182,16 @@ def main():
             with open(path, "wb") as file:
                 file.write(capture)
             wanted = reported(out), FAULT.get(status, status)
-            for given, data in (([path], None), (["-"], capture)):
+            for given, data in (([path], None), (["-"], capture), (["--json", path], None)):
                 done = subprocess.run([program, "capture", *words, *given], input=data, capture_output=True, timeout=100)
                 found = done.stdout.decode(), done.returncode
+                if "--json" in given:
+                    found = "".join(map(lines_of, found[0].splitlines(True))), found[1]
                 said = fault_of(errors)
                 tried += 1
                 if found != wanted or (said not in done.stderr if said else done.stderr):
                     failed += 1
-                    print("capture: %s, from %s: got\n%s\nexpected\n%s\nstandard error: %s" % (name, given[0][-7:], found, wanted, done.stderr))
+                    print("capture: %s, %s: got\n%s\nexpected\n%s\nstandard error: %s" % (name, given[0][-7:], found, wanted, done.stderr))
     print("capture: %d of %d as expected" % (tried - failed, tried))
     return int(failed > 0 or tried == 1)
 

@@ -417,7 +417,7 @@ COMMANDS = {
     "unpack": ("bt_tool unpack [OPTIONS] [FILE]", RECEIVER, ["--torrent", "--hints no"]),
     "pack": ("bt_tool pack [OPTIONS] [FILE]", RECEIVER, ["--window 1", "--info-hash 00"]),
     "link": ("bt_tool link [FILE]", "", ["--limit 32768", "--hints always", "a b"]),
-    "capture": ("bt_tool capture [OPTIONS] [FILE]", "pieces", ["--limit 1", "--pieces", "--pieces x", "--pieces 4294967296", "a b"]),
+    "capture": ("bt_tool capture [OPTIONS] [FILE]", "pieces json", ["--limit 1", "--json a b", "--pieces", "--pieces x", "--pieces 4294967296", "a b"]),
     "loop": ("bt_tool loop [OPTIONS]", "rules limit", ["--hints always", "--limit 32767", "--rules", "more"]),
     "fetch": ("bt_tool fetch [OPTIONS] MAGNET|INFOHASH [ADDRESS]..", "peers at-once rules limit timeout window max-size torrent json",
               ["", HASH, HASH + " 127.0.0.1:9 --max-connections 1", HASH + " 127.0.0.1:9 --window 9", HASH + " a", "0 127.0.0.1:9",
@@ -588,6 +588,17 @@ ROWS += [
 # A capture of one connection: A names piece 38.
 with open(os.path.join(ROOT, "examples", "refused.pcap"), "rb") as file:
     REFUSED = file.read()
+REFUSED_38 = b'"free":{%s},"bep":{%s}' % (2 * (b'"verdict":"refused","message":2,"offset":78,"reason":"BadIndex"',))
+BITS_38 = b'"receiver":{"reserved":"0000000000100005","pieces":38}'
+# The object of --json for it, if the torrent has 38 pieces.
+REPORT_38 = (b'{"connection":0,"a":"10.0.0.1:51413","b":"10.0.0.2:6881","bittorrent":true,'
+             b'"from_a":{"name":"-AA0001-000000000000",' + REFUSED_38 + b"," + BITS_38 + b'},'
+             b'"from_b":{"name":"-BB0001-000000000000","free":{"verdict":"ok","messages":0,"bytes":68},'
+             b'"bep":{"verdict":"ok","messages":0,"bytes":68},' + BITS_38 + b'},'
+             b'"closed":{"side":"B","by":"FIN","time":0.009000,'
+             b'"a":{"sent":87,"last":{"verdict":"refused","message":2,"offset":78,"reason":"BadIndex"}},'
+             b'"b":{"sent":68,"last":{"offset":0,"item":"handshake","reserved":"0000000000100005",'
+             b'"info_hash":"a9993e364706816aba3e25717850c26c9cd0d89d","peer_id":"2d4242303030312d303030303030303030303030"}}}}\n')
 CUT_IN_PACKET = b"capture: ends inside a packet, which is left out\n"
 
 # Words, files, standard input, standard output, standard error, exit status. The words are run where the files are.
@@ -639,6 +650,8 @@ FILES = [
     ("capture a", {"a": REFUSED}, b"", TEXT, b"", 0),
     ("capture --pieces 38 a", {"a": REFUSED}, b"", TEXT, b"", 1),
     ("capture --pieces=39", {}, REFUSED, TEXT, b"", 0),
+    ("capture --json --pieces 38 a", {"a": REFUSED}, b"", REPORT_38, b"", 1),
+    ("capture --json", {}, REFUSED[:24], b"", b"no BitTorrent connection in 0 packets; 0 of them aren't TCP\n", 3),
     ("capture a", {"a": HAND}, b"", b"", b"a: fault: capture: neither a pcap nor a pcapng file\n", 3),
     # the other direction: its reserved bits
     other_row(hand(NO_FAST), HAVE_ALL, [b"refused message=1 at=72 NotNegotiated"], status=1),

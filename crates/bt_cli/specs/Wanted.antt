@@ -92,3 +92,4 @@ pub record IsServeAsked (f : Found) (job : ServeJob) : Type 0 where
 
 pub record IsCaptureAsked (f : Found) (job : CaptureJob) : Type 0 where
   pub pieces : capture_pieces_in (first_value f (codes "pieces")) ≡ Some job.pieces
+  pub json : job.json ≡ flag_in f (codes "json")

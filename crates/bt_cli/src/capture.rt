@@ -6,6 +6,7 @@ ghost use Rattle.bt_cli.specs.Captures.{IsCaptureSaid, IsEndSaid, capture_fault_
 ghost use Rattle.bt_cli.specs.declared.capture.Outcome.TheVariants.{Nothing};
 ghost use Rattle.bt_cli.specs.Wanted.{IsCaptureAsked, capture_pieces_in};
 
+use crate::fetch::is_given;
 use bt_capture::{CaptureEnd, CaptureFault, CaptureJob};
 use bt_feed::Target;
 use bt_link::text::push_number;
@@ -48,7 +49,10 @@ pub fn capture_in(options: &ArgMatches<'_>) -> Result<CaptureJob, &'static str>
     ensures { IfOk result (IsCaptureAsked (found_of options.now)) }
 {
     match pieces_in(options.get_str("pieces")) {
-        Some(pieces) => Ok(CaptureJob { pieces }),
+        Some(pieces) => Ok(CaptureJob {
+            pieces,
+            json: is_given(options, "json"),
+        }),
         None => Err("'--pieces' takes a number from 0 to 4294967295"),
     }
 }

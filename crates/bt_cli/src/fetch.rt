@@ -115,7 +115,7 @@ fn window_in(text: Option<&str>) -> Option<Option<Window>>
 }
 
 /// Returns whether a flag is given.
-fn is_given(options: &ArgMatches<'_>, name: &str) -> bool
+pub(crate) fn is_given(options: &ArgMatches<'_>, name: &str) -> bool
     ensures { result ≡ flag_in (found_of options.now) name.now }
 {
     match options.get_str(name) {

@@ -188,6 +188,13 @@ const JSON_OF_FETCH: OptionText = OptionText {
     help: "Writes a JSON object a line on standard error: one for each connection's end, and one for the summary",
 };
 
+const JSON_OF_CAPTURE: OptionText = OptionText {
+    name: "json",
+    alias: "",
+    value: "",
+    help: "Prints a JSON object a line: one for each connection",
+};
+
 const STREAM: OperandText = OperandText {
     name: "FILE",
     is_required: false,
@@ -383,7 +390,7 @@ pub(crate) const CAPTURE: CommandText = CommandText {
     name: "capture",
     usage: CAPTURE_USAGE,
     about: "Prints a report on each BitTorrent connection of a packet capture",
-    options: &[PIECES],
+    options: &[PIECES, JSON_OF_CAPTURE],
     operands: &[PACKETS],
     after: "\
 Example:
