@@ -12,6 +12,7 @@ import importlib.machinery
 import importlib.util
 import os
 import random
+import re
 import struct
 import subprocess
 import sys
@@ -449,13 +450,17 @@ def rows():
             yield ("%r cut after %d bytes" % (form, cut), file[:cut], *wanted[whole])
 
 
+# What the model doesn't have: remarks, and what a side had sent at the close. tests/capture.py compares these.
+UNKNOWN = re.compile(r"^(?:    [AB] had sent |  [AB] sent (?!\d+ bytes and no whole handshake)).*\n", re.M)
+
+
 def main():
     program = sys.argv[1] if len(sys.argv) > 1 else os.path.join(ROOT, "bt_tool")
     tried = failed = 0
     for name, file, out, status in rows():
         done = subprocess.run([program, "capture", "-"], input=file, capture_output=True, timeout=100)
         tried += 1
-        if (done.stdout.decode(), done.returncode) != (out, status):
+        if (UNKNOWN.sub("", done.stdout.decode()), done.returncode) != (out, status):
             failed += 1
             print("captures: %s: got %d\n%s\nexpected %d\n%s" % (name, done.returncode, done.stdout.decode(), status, out))
     print("captures: %d of %d as expected" % (tried - failed, tried))

@@ -53,6 +53,7 @@ complete -c bt_tool -n '__fish_seen_subcommand_from pack' -l hints -x -a 'always
 complete -c bt_tool -n '__fish_seen_subcommand_from pack' -l help -s h -d 'Print help'
 complete -c bt_tool -n '__fish_seen_subcommand_from link' -l help -s h -d 'Print help'
 complete -c bt_tool -n '__fish_seen_subcommand_from capture' -l pieces -x -d 'Number of pieces of the torrent: 0 to 4294967295'
+complete -c bt_tool -n '__fish_seen_subcommand_from capture' -l json -d 'Prints a JSON object a line: one for each connection'
 complete -c bt_tool -n '__fish_seen_subcommand_from capture' -l help -s h -d 'Print help'
 complete -c bt_tool -n '__fish_seen_subcommand_from loop' -l rules -x -a 'free bep' -d 'Rules: \'free\' (lenient) or \'bep\' (strict)'
 complete -c bt_tool -n '__fish_seen_subcommand_from loop' -l limit -x -d 'Greatest length of a message, without its prefix: 32768 to 1048576'
