@@ -69,15 +69,17 @@ start_within p later start e first =
 -- The bytes that follow are judged.
 pub judged_more : (own : Own) (p q : Past) (later more taken : List ℕ) (free bep : List (ℕ × Item)) (old new : Judge) → p.out ≡ p.front ++ later
     → q.front ≡ p.front → q.out ≡ p.out ++ more → taken ≡ more → (j : IsJudgedBy own p old)
-    → AreJudged own (drop j.start p.out ++ taken) (j.free ++ free) (j.bep ++ bep) new → IsJudgedBy own q new
+    → AreJudged own (drop j.start p.out ++ taken) (j.free ++ free) (j.bep ++ bep) new → (k : IsJudgedBy own q new) × (k.free ≡ j.free ++ free)
 judged_more own p q later more taken free bep old new parts front out same j judged =
     let e : drop j.start (p.out ++ more) ≡ drop j.start p.out ++ more = drop-append-le j.start p.out more (start_within p later j.start parts j.first) in
     let f : drop j.start p.out ++ taken ≡ drop j.start q.out =
-    ap (λ (l : List ℕ). drop j.start p.out ++ l) same ∙ sym e ∙ ap (λ (l : List ℕ). drop j.start l) (sym out) in
-    record {
-      start = j.start;
-      first = subst (λ (l : List ℕ). IsFirstHello l j.start) (sym front) j.first;
-      free = j.free ++ free;
-      bep = j.bep ++ bep;
-      judged = subst (λ (l : List ℕ). AreJudged own l (j.free ++ free) (j.bep ++ bep) new) f judged;
-    }
+    ap (λ (l : List ℕ). drop j.start p.out ++ l) same ∙ sym e ∙ ap (λ (l : List ℕ). drop j.start l) (sym out) in (
+      record {
+        start = j.start;
+        first = subst (λ (l : List ℕ). IsFirstHello l j.start) (sym front) j.first;
+        free = j.free ++ free;
+        bep = j.bep ++ bep;
+        judged = subst (λ (l : List ℕ). AreJudged own l (j.free ++ free) (j.bep ++ bep) new) f judged;
+      },
+      refl,
+    )

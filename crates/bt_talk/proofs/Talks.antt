@@ -10,9 +10,10 @@ use Rattle.bt_packet.specs.declared.tcp.Segment.{Segment}
 use Rattle.bt_flow.specs.declared.flow.Flow.{Flow}
 use Rattle.bt_flow.specs.declared.flow.Given.{Given}
 use Rattle.bt_talk.specs.declared.direction.Direction.{Direction}
+use Rattle.bt_talk.specs.declared.stage.Stage.{Stage}
 use Rattle.bt_talk.specs.declared.talk.Talk.{Talk}
 use Rattle.bt_talk.specs.Pasts.{Past, Adds, IsAcked, IsAckedBy, HasSent, HasSentBy, given_of}
-use Rattle.bt_talk.specs.Stages.{IsDirection, is_opening}
+use Rattle.bt_talk.specs.Stages.{IsDirection, IsStage, IsHeard, is_opening}
 use Rattle.bt_talk.specs.Talks.{IsTalk, IsEnd, IsSender, direction_of, flow_of, of_side, is_in_opening, is_over}
 
 direction_is : (side : Side) (a b : Past) (t : Talk) → IsTalk a b t
@@ -87,3 +88,27 @@ sender_same s t A A i j = refl
 sender_same s t B B i j = refl
 sender_same s t A B i j = sym (j.1 (i.0 refl))
 sender_same s t B A i j = i.1 (j.0 refl)
+
+acked_by : (reset : Bool) (o : Option ℕ) (opens : Bool) (q q' : Past) → IsAckedBy reset o opens q q' → (q'.front ≡ q.front) × (q'.out ≡ q.out)
+acked_by true o opens q q' e = (ap (λ (p : Past). p.front) e, ap (λ (p : Past). p.out) e)
+acked_by false None opens q q' e = (ap (λ (p : Past). p.front) e, ap (λ (p : Past). p.out) e)
+acked_by false (Some n) opens q q' e = (ap (λ (p : Past). p.front) e.1, ap (λ (p : Past). p.out) e.1)
+
+-- An acknowledgement adds no byte.
+pub acked_same : (s : Segment) (q q' : Past) → IsAcked s q q' → (q'.front ≡ q.front) × (q'.out ≡ q.out)
+acked_same s q q' i = acked_by s.flags.rst s.acked s.flags.syn q q' i
+
+-- The opening ended: the stages of both sides are other ones.
+pub opened : (a b : Past) (t u : Talk) (s s' : Stage) → u.pieces ≡ t.pieces → u.a ≡ record t.a { stage = s } → u.b ≡ record t.b { stage = s' }
+    → is_opening s ≡ false → is_opening s' ≡ false → IsStage t.pieces a b s → IsStage t.pieces b a s' → IsHeard a b s s' u.watch → IsTalk a b t → IsTalk a b u
+opened a b t u s s' ep ea eb x y i j said k =
+    let da : Direction = record t.a { stage = s } in
+    let db : Direction = record t.b { stage = s' } in
+    let ia : IsDirection t.pieces a b da = record { flow = k.a_is.flow; intro = k.a_is.intro; later = k.a_is.later; front = k.a_is.front; stage = i } in
+    let ib : IsDirection t.pieces b a db = record { flow = k.b_is.flow; intro = k.b_is.intro; later = k.b_is.later; front = k.b_is.front; stage = j } in
+    record {
+      a_is = subst (λ (d : Direction). IsDirection u.pieces a b d) (sym ea) (subst (λ (n : Option ℕ). IsDirection n a b da) (sym ep) ia);
+      b_is = subst (λ (d : Direction). IsDirection u.pieces b a d) (sym eb) (subst (λ (n : Option ℕ). IsDirection n b a db) (sym ep) ib);
+      stages = ap (λ (d : Direction). is_opening d.stage) ea ∙ x ∙ sym y ∙ sym (ap (λ (d : Direction). is_opening d.stage) eb);
+      said = subst (λ (d : Direction). IsHeard a b d.stage u.b.stage u.watch) (sym ea) (subst (λ (d : Direction). IsHeard a b s d.stage u.watch) (sym eb) said);
+    }

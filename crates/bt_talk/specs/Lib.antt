@@ -1,6 +1,9 @@
 pub mod Pasts
 pub mod Receivers
+pub mod Events
+pub mod Watching
 pub mod Stages
+pub mod Replays
 pub mod Ends
 pub mod Closing
 pub mod Talks

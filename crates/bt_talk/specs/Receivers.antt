@@ -1,12 +1,13 @@
 -- By which receiver a side's stream is judged, and the verdicts of it.
 use Rattle.std.specs.Prelude.{◌≡◌, ℕ, Bool, true, false, List, drop, Option, Some, None}
+use Rattle.bt_ext.specs.declared.ids.Rules.TheVariants.{Free}
 use Rattle.bt_wire.specs.declared.context.Own.{Own}
 use Rattle.bt_wire.specs.declared.item.Item.{Item}
-use Rattle.bt_wire.specs.Streams.{Outcome}
+use Rattle.bt_wire.specs.Streams.{Outcome, IsVerdict}
 use Rattle.bt_jobs.specs.Others.{own_of_other}
 use Rattle.bt_judge.specs.declared.judge.Judge.{Judge}
 use Rattle.bt_judge.specs.declared.judge.Verdicts.{Verdicts}
-use Rattle.bt_judge.specs.Judges.{AreJudged, AreTold}
+use Rattle.bt_judge.specs.Judges.{AreJudged, AreTold, under}
 use Rattle.bt_intro.specs.declared.settling.Receiver.{Receiver}
 use Rattle.bt_intro.specs.Hellos.{IsFirstHello}
 use Rattle.bt_intro.specs.Hearing.{IsSaid}
@@ -28,6 +29,14 @@ pub record IsJudgedBy (own : Own) (p : Past) (judge : Judge) : Type 0 where
   pub free : List (ℕ × Item)
   pub bep : List (ℕ × Item)
   pub judged : AreJudged own (drop start p.out) free bep judge
+
+-- These are the items of what the side sent from its handshake on, by this receiver under the lenient rules.
+pub record AreItems (own : Own) (p : Past) (xs : List (ℕ × Item)) : Type 0 where
+  pub start : ℕ
+  pub first : IsFirstHello p.front start
+  pub verdict : Outcome
+  pub is : IsVerdict (under Free own) (drop start p.out) verdict
+  pub items : verdict.items ≡ xs
 
 -- These are the verdicts of what the side sent from its handshake on.
 pub record IsToldBy (own : Own) (p : Past) (v : Verdicts) : Type 0 where

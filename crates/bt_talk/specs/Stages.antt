@@ -1,11 +1,18 @@
 -- How far one direction is: in the opening its bytes are kept, after that they are judged.
-use Rattle.std.specs.Prelude.{◌≡◌, ℕ, Bool, true, false, List, ◌++◌, Option, Some, None}
+use Rattle.std.specs.Prelude.{◌≡◌, ℕ, Bool, true, false, List, [], ◌++◌, Option, Some, None}
+use Rattle.bt_feed.specs.Pumps.{Took}
 use Rattle.bt_intro.specs.Hearing.{IsHeardOf}
+use Rattle.bt_remarks.specs.declared.events.Side.{Side}
+use Rattle.bt_remarks.specs.declared.events.Side.TheVariants.{A, B}
+use Rattle.bt_remarks.specs.Said.{Told}
+use Rattle.bt_wire.specs.declared.item.Item.{Item}
 use Rattle.bt_talk.specs.declared.stage.Stage.{Stage}
 use Rattle.bt_talk.specs.declared.stage.Stage.TheVariants.{Opening, Open, Stranger}
 use Rattle.bt_talk.specs.declared.direction.Direction.{Direction}
 use Rattle.bt_talk.specs.Pasts.{Past, IsFlowOf}
-use Rattle.bt_talk.specs.Receivers.{IsReceiver, IsJudgedBy}
+use Rattle.bt_talk.specs.Receivers.{IsReceiver, IsJudgedBy, AreItems}
+use Rattle.bt_talk.specs.declared.watch.Watch.{Watch}
+use Rattle.bt_talk.specs.Watching.{IsWatched, Watches, GoesOn}
 
 abbrev pub is_opening : Stage → Bool
 is_opening (Opening front) = true
@@ -25,3 +32,25 @@ pub record IsDirection (pieces : Option ℕ) (p other : Past) (d : Direction) : 
   pub later : List ℕ
   pub front : p.out ≡ p.front ++ later
   pub stage : IsStage pieces p other d.stage
+
+-- the items that were judged of a side: none in the opening, and none without a receiver
+abbrev pub AreItemsIn : Stage → Past → List (ℕ × Item) → Type 0
+AreItemsIn (Opening front) p xs = xs ≡ []
+AreItemsIn (Open judged) p xs = AreItems judged.receiver.own p xs
+AreItemsIn Stranger p xs = xs ≡ []
+
+-- Further items of a side came, and the watch took them.
+abbrev pub Speaks : Stage → Past → Watch → Stage → Past → Watch → Type 0
+Speaks s p w s' q w' = (xs : List (ℕ × Item)) → AreItemsIn s p xs → (more : List (ℕ × Item)) × AreItemsIn s' q (xs ++ more) × Took Watches w more w'
+
+-- as before, in a turn of that side
+abbrev pub SpeaksAs : Side → Stage → Past → Watch → Stage → Past → Watch → Type 0
+SpeaksAs side s p w s' q w' = (xs : List (ℕ × Item)) → AreItemsIn s p xs → (more : List (ℕ × Item)) × AreItemsIn s' q (xs ++ more) × GoesOn side more w w'
+
+-- What was judged of both sides, and what is kept of it.
+pub record IsHeard (p q : Past) (s s' : Stage) (w : Watch) : Type 0 where
+  pub events : List Told
+  pub items : Side → List (ℕ × Item)
+  pub a_items : AreItemsIn s p (items A)
+  pub b_items : AreItemsIn s' q (items B)
+  pub watched : IsWatched events items w

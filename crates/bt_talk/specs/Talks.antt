@@ -13,7 +13,7 @@ use Rattle.bt_talk.specs.declared.ends.Ends.{Ends}
 use Rattle.bt_talk.specs.declared.closing.Closing.{Closing}
 use Rattle.bt_talk.specs.declared.closing.When.{When}
 use Rattle.bt_talk.specs.Closing.{Closes}
-use Rattle.bt_talk.specs.Stages.{IsDirection, is_opening}
+use Rattle.bt_talk.specs.Stages.{IsDirection, IsHeard, is_opening}
 
 abbrev pub direction_of : Side → Talk → Direction
 direction_of A t = t.a
@@ -49,6 +49,7 @@ pub record IsTalk (a b : Past) (t : Talk) : Type 0 where
   pub a_is : IsDirection t.pieces a b t.a
   pub b_is : IsDirection t.pieces b a t.b
   pub stages : is_opening t.a.stage ≡ is_opening t.b.stage
+  pub said : IsHeard a b t.a.stage t.b.stage t.watch
 
 -- ---- the opening's end
 

@@ -1,14 +1,20 @@
 //! One direction of a captured connection.
-ghost use Rattle.std.specs.Prelude.{◌≡◌, ◌<◌, ◌++◌, ◌∷◌, ℕ, List, [], Bool, false, true, length, OnOk, IfSome, Option};
+ghost use Rattle.std.specs.Prelude.{◌≡◌, ◌<◌, ◌++◌, ◌∷◌, ℕ, List, [], Bool, false, true, length, OnOk, IfOk, IfSome, Option};
 ghost use Rattle.bt_flow.specs.declared.flow.Flow.{Flow};
 ghost use Rattle.bt_intro.specs.Hearing.{IsHeardOf};
+ghost use Rattle.bt_feed.specs.Pumps.{Took};
 ghost use Rattle.bt_tcp.specs.Heard.{Acked};
 ghost use Rattle.bt_wire.specs.declared.context.Own.{Own};
+ghost use Rattle.bt_wire.specs.declared.item.Item.{Item};
 ghost use Rattle.bt_talk.specs.Pasts.{Past, no_past, IsFlowOf, Adds};
-ghost use Rattle.bt_talk.specs.Receivers.{IsReceiver, IsJudgedBy, IsReceiverNow, AreVerdicts};
-ghost use Rattle.bt_talk.specs.Stages.{IsDirection, is_opening};
+ghost use Rattle.bt_talk.specs.Receivers.{IsReceiver, IsJudgedBy, IsReceiverNow, AreItems, AreVerdicts};
+ghost use Rattle.bt_talk.specs.Replays.{IsReplay};
+ghost use Rattle.bt_talk.specs.Stages.{IsDirection, Speaks, is_opening};
+ghost use Rattle.bt_talk.specs.Watching.{Watches};
 
-use crate::stage::{Stage, judge_bytes, open};
+use crate::replay::Replay;
+use crate::stage::{Stage, judge_bytes};
+use crate::watch::Watch;
 use bt_flow::{Flow, Given};
 use bt_intro::{Introduction, Receiver};
 use bt_judge::{Judge, Verdicts};
@@ -43,16 +49,18 @@ fn take_judged(
     flow: &mut Flow,
     judge: &mut Judge,
     given: &Given,
+    watch: &mut Watch,
     out: &mut Vec<u8>,
     buffer: &mut [u8],
 ) -> Result<(), AllocError>
     requires { 0 < length buffer.old }
-    ensures { OnOk result ((own : Own) → (p : Past) → (later : List ℕ) → IsFlowOf p flow.old → p.out ≡ p.front ++ later → IsJudgedBy own p judge.old
-        → (q : Past) × IsFlowOf q flow.new × IsJudgedBy own q judge.new × Adds given.now false p flow.old q flow.new) }
+    ensures { OnOk result ((own : Own) (p : Past) (later : List ℕ) → IsFlowOf p flow.old → p.out ≡ p.front ++ later → IsJudgedBy own p judge.old
+        → (q : Past) × IsFlowOf q flow.new × IsJudgedBy own q judge.new × Adds given.now false p flow.old q flow.new
+        × ((xs : List (ℕ × Item)) → AreItems own p xs → (more : List (ℕ × Item)) × AreItems own q (xs ++ more) × Took Watches watch.old more watch.new)) }
 {
     out.clear();
     flow.take(given, out)?;
-    judge_bytes(judge, out, buffer);
+    judge_bytes(judge, out, watch, buffer)?;
     Ok(())
 }
 
@@ -114,12 +122,14 @@ impl Direction {
         &mut self,
         alloc: Global,
         given: &Given,
+        watch: &mut Watch,
         out: &mut Vec<u8>,
         buffer: &mut [u8],
     ) -> Result<(), AllocError>
         requires { 0 < length buffer.old }
         ensures taken { OnOk result ((pieces : Option ℕ) (p other : Past) → IsDirection pieces p other self.old
-            → (q : Past) × IsDirection pieces q other self.new × Adds given.now (is_opening self.old.stage) p self.old.flow q self.new.flow) }
+            → (q : Past) × IsDirection pieces q other self.new × Adds given.now (is_opening self.old.stage) p self.old.flow q self.new.flow
+            × Speaks self.old.stage p watch.old self.new.stage q watch.new) }
         ensures stage { OnOk result (is_opening self.new.stage ≡ is_opening self.old.stage) }
     {
         match &mut self.stage {
@@ -128,7 +138,7 @@ impl Direction {
                 Ok(())
             }
             Stage::Open(judged) => {
-                take_judged(&mut self.flow, &mut judged.judge, given, out, buffer)?;
+                take_judged(&mut self.flow, &mut judged.judge, given, watch, out, buffer)?;
                 Ok(())
             }
             Stage::Stranger => {
@@ -138,28 +148,35 @@ impl Direction {
         }
     }
 
-    /// Ends the opening: what came in it is judged by this receiver.
-    pub(crate) fn open(
-        &mut self,
+    /// Returns the bytes of the opening, before one is judged by this receiver.
+    ///
+    /// # Errors
+    /// `AllocError` when out of memory.
+    pub(crate) fn replay(
+        &self,
         alloc: Global,
         receiver: Option<Receiver>,
-        buffer: &mut [u8],
-    ) -> Result<(), AllocError>
-        requires buffer { 0 < length buffer.old }
-        requires limit { IfSome receiver (λ r. r.own.limit ≡ 262144) }
-        ensures open { OnOk result (is_opening self.new.stage ≡ false) }
-        ensures kept { OnOk result ((pieces : Option ℕ) (p other : Past) → IsDirection pieces p other self.old → IsReceiver pieces p other receiver
-            → IsDirection pieces p other self.new) }
-        ensures flow { self.new.flow ≡ self.old.flow }
-        ensures intro { self.new.intro ≡ self.old.intro }
+    ) -> Result<Replay<'_>, AllocError>
+        requires { IfSome receiver (λ r. r.own.limit ≡ 262144) }
+        ensures { IfOk result (λ replay. (pieces : Option ℕ) (p other : Past) → is_opening self.now.stage ≡ true → IsDirection pieces p other self.now
+            → IsReceiver pieces p other receiver → IsReplay p receiver [] replay) }
     {
         match &self.stage {
             Stage::Opening(front) => {
-                self.stage = open(alloc, front, self.intro.start(), receiver, buffer)?;
-                Ok(())
+                let replay = Replay::new(alloc, front, self.intro.start(), receiver)?;
+                Ok(replay)
             }
-            Stage::Open(_) => Ok(()),
-            Stage::Stranger => Ok(()),
+            Stage::Open(_) => Ok(Replay::none()),
+            Stage::Stranger => Ok(Replay::none()),
+        }
+    }
+
+    /// Tells whether all that this side has said up to here is known.
+    pub(crate) fn is_known(&self) -> bool {
+        match &self.stage {
+            Stage::Opening(_) => false,
+            Stage::Open(judged) => judged.is_known() && !self.flow.has_hole(),
+            Stage::Stranger => false,
         }
     }
 

@@ -6,9 +6,11 @@
 mod closing;
 mod direction;
 mod ends;
+mod replay;
 mod room;
 mod stage;
 mod talk;
+mod watch;
 
 pub use bt_remarks::Side;
 pub use closing::{Closed, When};

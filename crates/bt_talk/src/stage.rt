@@ -1,15 +1,15 @@
 //! What is done with the bytes of one direction: in the opening they are kept, after that they are judged.
-ghost use Rattle.std.specs.Prelude.{◌≡◌, ◌<◌, ◌++◌, ℕ, List, false, length, IfOk, OnOk, IfSome, Option};
-ghost use Rattle.bt_intro.specs.Hellos.{IsStartOf};
+ghost use Rattle.std.specs.Prelude.{◌≡◌, ◌<◌, ◌++◌, ℕ, List, length, OnOk, IfSome, Option};
+ghost use Rattle.bt_feed.specs.Pumps.{Took};
 ghost use Rattle.bt_intro.specs.Hearing.{IsHeardOf};
 ghost use Rattle.bt_judge.specs.Judges.{AreJudged};
 ghost use Rattle.bt_wire.specs.declared.context.Own.{Own};
 ghost use Rattle.bt_wire.specs.declared.item.Item.{Item};
 ghost use Rattle.bt_talk.specs.Pasts.{Past};
 ghost use Rattle.bt_talk.specs.Receivers.{IsReceiver};
-ghost use Rattle.bt_talk.specs.Stages.{IsStage, is_opening};
+ghost use Rattle.bt_talk.specs.Watching.{Watches};
 
-use bt_feed::Discard;
+use crate::watch::Watch;
 use bt_intro::{Introduction, Receiver, receiver_of};
 use bt_judge::Judge;
 use bt_wire::Own;
@@ -23,6 +23,13 @@ const LIMIT: u32 = 262_144;
 pub(crate) struct Judged {
     pub(crate) receiver: Receiver,
     pub(crate) judge: Judge,
+}
+
+impl Judged {
+    /// Tells whether the stream isn't refused under the lenient rules.
+    pub(crate) fn is_known(&self) -> bool {
+        self.judge.free.refusal().is_none()
+    }
 }
 
 /// What is done with the bytes of one direction.
@@ -56,42 +63,19 @@ pub(crate) fn receiver_between(
     })
 }
 
-/// Judges bytes.
-pub(crate) fn judge_bytes(judge: &mut Judge, bytes: &[u8], buffer: &mut [u8])
-    requires { 0 < length buffer.old }
-    ensures { (own : Own) (b : List ℕ) (xs ys : List (ℕ × Item)) → AreJudged own b xs ys judge.old
-        → (more strict : List (ℕ × Item)) × AreJudged own (b ++ bytes.now) (xs ++ more) (ys ++ strict) judge.new }
-{
-    match judge.take(bytes, &mut Discard::new(), buffer) {
-        Ok(()) => {}
-        Err(_) => unreachable!(),
-    }
-}
-
-/// Returns the stage after the opening, in which these bytes came.
-pub(crate) fn open(
-    alloc: Global,
-    front: &[u8],
-    start: Option<usize>,
-    receiver: Option<Receiver>,
+/// Judges bytes, and tells the watch their items.
+pub(crate) fn judge_bytes(
+    judge: &mut Judge,
+    bytes: &[u8],
+    watch: &mut Watch,
     buffer: &mut [u8],
-) -> Result<Stage, AllocError>
-    requires buffer { 0 < length buffer.old }
-    requires limit { IfSome receiver (λ r. r.own.limit ≡ 262144) }
-    ensures open { IfOk result (λ stage. is_opening stage ≡ false) }
-    ensures stage { IfOk result (λ stage. (pieces : Option ℕ) (p q : Past) → front.now ≡ p.out → p.front ≡ p.out → IsStartOf p.front start
-        → IsReceiver pieces p q receiver → IsStage pieces p q stage) }
+) -> Result<(), AllocError>
+    requires { 0 < length buffer.old }
+    ensures { OnOk result ((own : Own) (b : List ℕ) (xs ys : List (ℕ × Item)) → AreJudged own b xs ys judge.old
+        → (more strict : List (ℕ × Item)) × AreJudged own (b ++ bytes.now) (xs ++ more) (ys ++ strict) judge.new × Took Watches watch.old more watch.new) }
 {
-    let Some(receiver) = receiver else {
-        return Ok(Stage::Stranger);
-    };
-    let Some(start) = start else {
-        return Ok(Stage::Stranger);
-    };
-    let Some(bytes) = front.get(start..) else {
-        return Ok(Stage::Stranger);
-    };
-    let mut judge = Judge::new(alloc, receiver.own)?;
-    judge_bytes(&mut judge, bytes, buffer);
-    Ok(Stage::Open(Judged { receiver, judge }))
+    match judge.take(bytes, watch, buffer) {
+        Ok(()) => Ok(()),
+        Err(_) => Err(AllocError),
+    }
 }

@@ -1,15 +1,17 @@
 //! One captured connection.
-ghost use Rattle.std.specs.Prelude.{◌≡◌, ◌<◌, ◌+◌, ◌^◌, ◌-◌, ℕ, List, Bool, true, false, length, not, min, OnOk, OnErr, Option, alloc_error};
+ghost use Rattle.std.specs.Prelude.{◌≡◌, ◌<◌, ◌+◌, ◌^◌, ◌-◌, ℕ, List, Bool, true, false, length, not, min, IfOk, OnOk, OnErr, Option, alloc_error};
 ghost use Rattle.bt_talk.specs.Pasts.{Past, no_past, IsAcked, given_of as given_by};
 ghost use Rattle.bt_remarks.specs.declared.events.Side.{Side};
-ghost use Rattle.bt_talk.specs.Stages.{IsDirection, is_opening};
+ghost use Rattle.bt_talk.specs.Stages.{IsDirection, SpeaksAs, is_opening};
 ghost use Rattle.bt_talk.specs.Talks.{is_over as is_over_by, IsEnd, Turns};
 
 use crate::closing::{Closed, Closing, When, is_end, opens};
 use crate::direction::Direction;
 use crate::ends::Ends;
+use crate::replay::{Mark, judge_both};
 use crate::room::Room;
-use crate::stage::receiver_between;
+use crate::stage::{Stage, receiver_between};
+use crate::watch::Watch;
 use bt_flow::Given;
 use bt_intro::{Receiver, is_settled};
 use bt_jobs::Announced;
@@ -17,6 +19,7 @@ use bt_judge::Verdicts;
 use bt_packet::Segment;
 use bt_remarks::Side;
 use bt_tcp::Gaps;
+use bt_told::Remarked;
 use bt_wire::Handshake;
 use std::alloc::{AllocError, Global};
 
@@ -55,21 +58,31 @@ fn hear(to: &mut Direction, segment: &Segment)
 /// What it acknowledges comes first: an answer often acknowledges what it answers.
 fn turn(
     alloc: Global,
+    side: Side,
     from: &mut Direction,
     to: &mut Direction,
     segment: &Segment,
+    watch: &mut Watch,
     room: &mut Room,
 ) -> Result<(), AllocError>
     ensures taken { OnOk result ((pieces : Option ℕ) (p q : Past) → IsDirection pieces p q from.old → IsDirection pieces q p to.old
-        → is_opening from.old.stage ≡ is_opening to.old.stage → Turns segment.now pieces p q from.old to.old from.new to.new) }
+        → is_opening from.old.stage ≡ is_opening to.old.stage → (t : Turns segment.now pieces p q from.old to.old from.new to.new)
+        × SpeaksAs side from.old.stage p watch.old from.new.stage t.p' watch.new) }
     ensures from { OnOk result (is_opening from.new.stage ≡ is_opening from.old.stage) }
-    ensures to { OnOk result (is_opening to.new.stage ≡ is_opening to.old.stage) }
+    ensures to { OnOk result (to.new.stage ≡ to.old.stage) }
 {
     if segment.flags.rst {
         return Ok(());
     }
     hear(to, segment);
-    from.take(alloc, &given_of(segment), &mut room.out, &mut room.buffer)?;
+    watch.turn_to(side, to.is_known());
+    from.take(
+        alloc,
+        &given_of(segment),
+        watch,
+        &mut room.out,
+        &mut room.buffer,
+    )?;
     Ok(())
 }
 
@@ -102,6 +115,8 @@ pub struct Talk {
     b: Direction,
     /// How many segments came in the opening.
     segments: u32,
+    marks: Vec<Mark>,
+    watch: Watch,
     closing: Closing,
     is_lost: bool,
 }
@@ -121,6 +136,8 @@ impl Talk {
     ghost use Rattle.bt_talk.specs.Ends.{ends_by};
     ghost use Rattle.bt_talk.specs.Talks.{IsTalk, Exchanges, Takes, Settles, ends_of, pieces_of, closing_of, IsSender, is_in_opening, is_lost, flow_of, direction_of, of_side};
     ghost use Rattle.bt_talk.specs.Receivers.{AreVerdicts, IsReceiverNow};
+    ghost use Rattle.bt_talk.specs.Stages.{IsStage, IsHeard};
+    ghost use Rattle.bt_talk.specs.Watching.{AreRemarked};
 
     /// Returns the connection that begins with a segment, of which nothing was taken yet.
     ///
@@ -140,6 +157,8 @@ impl Talk {
             a: Direction::new(alloc),
             b: Direction::new(alloc),
             segments: 0,
+            marks: Vec::new(alloc),
+            watch: Watch::new(alloc),
             closing: Closing::new(),
             is_lost: false,
         }
@@ -157,14 +176,73 @@ impl Talk {
     {
         match self.ends.sender(segment) {
             Side::A => {
-                turn(self.alloc, &mut self.a, &mut self.b, segment, room)?;
+                turn(
+                    self.alloc,
+                    Side::A,
+                    &mut self.a,
+                    &mut self.b,
+                    segment,
+                    &mut self.watch,
+                    room,
+                )?;
                 Ok(())
             }
             Side::B => {
-                turn(self.alloc, &mut self.b, &mut self.a, segment, room)?;
+                turn(
+                    self.alloc,
+                    Side::B,
+                    &mut self.b,
+                    &mut self.a,
+                    segment,
+                    &mut self.watch,
+                    room,
+                )?;
                 Ok(())
             }
         }
+    }
+
+    /// Returns how far a side's stream is put together now.
+    fn mark(&self, side: Side) -> Mark {
+        match side {
+            Side::A => Mark {
+                side,
+                length: self.a.flow.next(),
+                is_whole: !self.b.flow.has_hole(),
+            },
+            Side::B => Mark {
+                side,
+                length: self.b.flow.next(),
+                is_whole: !self.a.flow.has_hole(),
+            },
+        }
+    }
+
+    /// Marks in the opening where a segment's bytes end.
+    fn keep_mark(&mut self, segment: &Segment) -> Result<(), AllocError>
+        ensures { self.new ≡ record self.old { marks = self.new.marks } }
+    {
+        if segment.payload.is_empty() || !self.a.is_opening() {
+            return Ok(());
+        }
+        let mark = self.mark(self.ends.sender(segment));
+        self.marks.push(mark)?;
+        Ok(())
+    }
+
+    /// Judges what came in the opening, each side by its receiver.
+    fn judge_opening(&mut self, room: &mut Room) -> Result<(Stage, Stage), AllocError>
+        ensures open { IfOk result (λ stages. (is_opening stages.0 ≡ false) × (is_opening stages.1 ≡ false)) }
+        ensures judged { IfOk result (λ stages. (a b : Past) → IsTalk a b self.old → is_in_opening self.old ≡ true
+            → IsStage self.old.pieces a b stages.0 × IsStage self.old.pieces b a stages.1 × IsHeard a b stages.0 stages.1 self.new.watch) }
+        ensures rest { self.new ≡ record self.old { watch = self.new.watch } }
+    {
+        let of_a = receiver_between(&self.b.intro, &self.a.intro, self.pieces);
+        let of_b = receiver_between(&self.a.intro, &self.b.intro, self.pieces);
+        let a = self.a.replay(self.alloc, of_a)?;
+        let b = self.b.replay(self.alloc, of_b)?;
+        let stages = judge_both(a, b, &self.marks, &mut self.watch, &mut room.buffer)?;
+        Ok(stages)
     }
 
     /// Gives each side its receiver, and judges what came in the opening.
@@ -177,10 +255,13 @@ impl Talk {
         ensures closing { self.new.closing ≡ self.old.closing }
         ensures is_lost { self.new.is_lost ≡ self.old.is_lost }
     {
-        let of_a = receiver_between(&self.b.intro, &self.a.intro, self.pieces);
-        let of_b = receiver_between(&self.a.intro, &self.b.intro, self.pieces);
-        self.a.open(self.alloc, of_a, &mut room.buffer)?;
-        self.b.open(self.alloc, of_b, &mut room.buffer)?;
+        if !self.a.is_opening() {
+            return Ok(());
+        }
+        let (of_a, of_b) = self.judge_opening(room)?;
+        self.a.stage = of_a;
+        self.b.stage = of_b;
+        self.marks = Vec::new(self.alloc);
         Ok(())
     }
 
@@ -246,6 +327,7 @@ impl Talk {
         }
         self.is_lost = true;
         self.exchange(segment, room)?;
+        self.keep_mark(segment)?;
         self.note(segment, when);
         self.settle(room)?;
         self.is_lost = false;
@@ -325,6 +407,15 @@ impl Talk {
             → IsReceiverNow (is_in_opening self.now) (pieces_of self.now) (of_side side a b) (of_side (other side) a b) result }
     {
         self.direction(side).receiver()
+    }
+
+    /// Returns the remarks on what a side sent, without requests that got no answer.
+    ///
+    /// There are none in the opening.
+    pub fn remarked(&self, side: Side) -> Remarked
+        ensures { (a b : Past) (i : IsTalk a b self.now) → AreRemarked side i.said.events (i.said.items side) result }
+    {
+        self.watch.remarked(side)
     }
 
     /// Returns the handshake of a side, once all of it came in the opening.

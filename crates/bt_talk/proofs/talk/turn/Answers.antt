@@ -1,20 +1,29 @@
-use Rattle.std.proofs.Common.{◌∙◌, sym, ap, subst}
+use Rattle.std.proofs.Common.{◌∙◌, ℕ, List, [], append-nil, sym, ap, subst}
 use Rattle.bt_flow.specs.declared.flow.Given.{Given}
 use Rattle.bt_talk.specs.Pasts.{Adds, given_of}
 use Rattle.bt_talk.proofs.Stages.{beside}
 use Rattle.bt_talk.proofs.Talks.{acked_reset, sent_reset, sent_by, front_kept}
-use Rattle.bt_talk.specs.Stages.{is_opening}
+use Rattle.bt_talk.proofs.Watching.{goes_by, goes_nowhere}
+use Rattle.bt_talk.specs.Stages.{AreItemsIn, is_opening}
+use Rattle.bt_wire.specs.declared.item.Item.{Item}
 use Rattle.bt_talk.proofs.talk.turn.Goals as goal
 
 pub returns-then-segment-clause-taken : goal.returns-then-segment-clause-taken
-returns-then-segment-clause-taken c = λ pieces p q d e same. record {
-  p' = p;
-  q' = q;
-  p_is = d;
-  q_is = e;
-  sent = sent_reset c.args.segment.now (is_opening c.args.from.now.stage) p c.args.from.now.flow c.if-segment.true;
-  acked = acked_reset c.args.segment.now q c.if-segment.true;
-}
+returns-then-segment-clause-taken c = λ pieces p q d e same. (
+  record {
+    p' = p;
+    q' = q;
+    p_is = d;
+    q_is = e;
+    sent = sent_reset c.args.segment.now (is_opening c.args.from.now.stage) p c.args.from.now.flow c.if-segment.true;
+    acked = acked_reset c.args.segment.now q c.if-segment.true;
+  },
+  λ xs i. (
+    [],
+    subst (λ (l : List (ℕ × Item)). AreItemsIn c.args.from.now.stage p l) (sym (append-nil xs)) i,
+    goes_nowhere c.args.side c.args.watch.now,
+  ),
+)
 
 pub returns-clause-taken : goal.returns-clause-taken
 returns-clause-taken c = λ pieces p q d e same.
@@ -22,14 +31,18 @@ returns-clause-taken c = λ pieces p q d e same.
     let h = c.hear.ensures.heard pieces q p c.if-segment.false e in
     let t = c.in_ok-take.ensures.taken pieces p q d in
     let adds : Adds (given_of c.args.segment.now) (is_opening from.stage) p from.flow t.0 c.take.new.self.flow =
-    subst (λ (g : Given). Adds g (is_opening from.stage) p from.flow t.0 c.take.new.self.flow) c.given_of.ensures t.2 in
-    record {
-      p' = t.0;
-      q' = h.0;
-      p_is = beside pieces t.0 q h.0 c.take.new.self (λ _. h.3) t.1;
-      q_is = beside pieces h.0 p t.0 c.hear.new.to
-          (λ closed. front_kept (given_of c.args.segment.now) (is_opening from.stage) p from.flow t.0 c.take.new.self.flow adds
-          (same ∙ sym (ap is_opening c.hear.ensures.stage) ∙ closed)) h.1;
-      sent = sent_by c.args.segment.now (is_opening from.stage) p from.flow t.0 c.take.new.self.flow c.if-segment.false adds;
-      acked = h.2;
-    }
+    subst (λ (g : Given). Adds g (is_opening from.stage) p from.flow t.0 c.take.new.self.flow) c.given_of.ensures t.2 in (
+      record {
+        p' = t.0;
+        q' = h.0;
+        p_is = beside pieces t.0 q h.0 c.take.new.self (λ _. h.3) t.1;
+        q_is = beside pieces h.0 p t.0 c.hear.new.to
+            (λ closed. front_kept (given_of c.args.segment.now) (is_opening from.stage) p from.flow t.0 c.take.new.self.flow adds
+            (same ∙ sym (ap is_opening c.hear.ensures.stage) ∙ closed)) h.1;
+        sent = sent_by c.args.segment.now (is_opening from.stage) p from.flow t.0 c.take.new.self.flow c.if-segment.false adds;
+        acked = h.2;
+      },
+      λ xs i.
+          let m = t.3 xs i in
+          (m.0, m.1, goes_by c.args.side _ m.0 c.args.watch.now c.turn_to.new.self c.take.new.watch c.turn_to.ensures m.2),
+    )

@@ -1,7 +1,8 @@
-use Rattle.std.proofs.Common.{◌≡◌, Bool, Some, refl, sym, ap, subst}
+use Rattle.std.proofs.Common.{◌≡◌, Bool, [], ◌++◌, Some, refl, sym, ap, subst}
 use Rattle.bt_talk.specs.declared.stage.Stage.{Stage}
 use Rattle.bt_talk.specs.Pasts.{Adds}
-use Rattle.bt_talk.specs.Stages.{IsStage, is_opening}
+use Rattle.bt_talk.specs.Stages.{IsStage, AreItemsIn, is_opening}
+use Rattle.bt_talk.proofs.Items.{nothing_more}
 use Rattle.bt_talk.proofs.Receivers.{receiver_same}
 use Rattle.bt_talk.proofs.Stages.{goes_on, in_opening}
 use Rattle.bt_talk.proofs.direction.Direction.take.Goals as goal
@@ -13,6 +14,7 @@ returns-in_ok-take_opening-in-Opening-clause-taken c = λ pieces p other d.
       r.0,
       in_opening pieces r.0 other _ r.1 r.2 r.4.front (r.3, r.4.front),
       subst (λ (o : Bool). Adds c.args.given.now o p c.args.self.now.flow r.0 c.take_opening.new.flow) (sym (ap is_opening c.in-Opening.is)) r.4,
+      λ xs i. ([], nothing_more xs (subst (λ (s : Stage). AreItemsIn s p xs) c.in-Opening.is i), refl),
     )
 
 pub returns-in_ok-take_judged-in-Open-clause-taken : goal.returns-in_ok-take_judged-in-Open-clause-taken
@@ -23,6 +25,7 @@ returns-in_ok-take_judged-in-Open-clause-taken c = λ pieces p other d.
       goes_on c.args.given.now pieces p other r.0 c.args.self.now _ refl d r.1 r.3
           (receiver_same pieces p other r.0 other (Some c.in-Open.judged.receiver) r.3.front refl s.0, r.2),
       subst (λ (o : Bool). Adds c.args.given.now o p c.args.self.now.flow r.0 c.take_judged.new.flow) (sym (ap is_opening c.in-Open.is)) r.3,
+      λ xs i. r.4 xs (subst (λ (s : Stage). AreItemsIn s p xs) c.in-Open.is i),
     )
 
 pub returns-in_ok-take_only-in-Stranger-clause-taken : goal.returns-in_ok-take_only-in-Stranger-clause-taken
@@ -33,4 +36,10 @@ returns-in_ok-take_only-in-Stranger-clause-taken c = λ pieces p other d.
       goes_on c.args.given.now pieces p other r.0 c.args.self.now _ refl d r.1 r.2
           (subst (λ (s : Stage). IsStage pieces r.0 other s) (sym c.in-Stranger.is) (receiver_same pieces p other r.0 other _ r.2.front refl s)),
       subst (λ (o : Bool). Adds c.args.given.now o p c.args.self.now.flow r.0 c.take_only.new.flow) (sym (ap is_opening c.in-Stranger.is)) r.2,
+      λ xs i. (
+        [],
+        subst (λ (s : Stage). AreItemsIn s r.0 (xs ++ [])) (sym c.in-Stranger.is)
+            (nothing_more xs (subst (λ (s : Stage). AreItemsIn s p xs) c.in-Stranger.is i)),
+        refl,
+      ),
     )

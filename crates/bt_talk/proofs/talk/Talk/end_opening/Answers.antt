@@ -2,5 +2,5 @@ use Rattle.bt_talk.proofs.talk.Talk.end_opening.Goals as goal
 
 pub returns-clause-kept : goal.returns-clause-kept
 returns-clause-kept c = λ a b t.
-    let k = c.in_ok-open.ensures.kept a b (record { a_is = t.a_is; b_is = t.b_is; stages = t.stages }) in
-    record { a_is = k.a_is; b_is = k.b_is; stages = k.stages }
+    let k = c.in_ok-open.ensures.kept a b (record { a_is = t.a_is; b_is = t.b_is; stages = t.stages; said = t.said }) in
+    record { a_is = k.a_is; b_is = k.b_is; stages = k.stages; said = k.said }

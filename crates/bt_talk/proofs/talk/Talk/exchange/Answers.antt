@@ -1,20 +1,42 @@
-use Rattle.std.proofs.Common.{◌≡◌, ◌∙◌, Bool, sym, subst, refl}
+use Rattle.std.proofs.Common.{◌≡◌, ◌∙◌, Bool, sym, ap, subst, refl}
 use Rattle.bt_remarks.specs.declared.events.Side.{Side}
 use Rattle.bt_remarks.specs.declared.events.Side.TheVariants.{A, B}
+use Rattle.bt_talk.specs.declared.stage.Stage.{Stage}
 use Rattle.bt_talk.specs.Pasts.{HasSent}
-use Rattle.bt_talk.specs.Stages.{is_opening}
+use Rattle.bt_talk.specs.Stages.{is_opening, AreItemsIn}
 use Rattle.bt_talk.specs.Talks.{IsSender}
+use Rattle.bt_talk.specs.Watching.{tell, with_items}
+use Rattle.bt_talk.proofs.Items.{items_stay}
+use Rattle.bt_talk.proofs.Talks.{acked_same}
 use Rattle.bt_talk.proofs.talk.Talk.exchange.Goals as goal
 
 pub returns-in_ok-turn-in-A-clause-taken : goal.returns-in_ok-turn-in-A-clause-taken
 returns-in_ok-turn-in-A-clause-taken c = λ a b t.
-    let r = c.in_ok-turn-in-A.ensures.taken c.args.self.now.pieces a b t.a_is t.b_is t.stages in
+    let self = c.args.self.now in
+    let x = c.in_ok-turn-in-A.ensures.taken self.pieces a b t.a_is t.b_is t.stages in
+    let r = x.0 in
+    let s = x.1 (t.said.items A) t.said.a_items in
+    let g = s.2 t.said.events t.said.items t.said.watched in
+    let same = acked_same c.args.segment.now b r.q' r.acked in
+    let to = c.in_ok-turn-in-A.ensures.to in
     record {
       side = A;
-      is_side = subst (λ (s : Side). IsSender c.args.segment.now c.args.self.now s) c.in-A.is c.sender.ensures;
+      is_side = subst (λ (s : Side). IsSender c.args.segment.now self s) c.in-A.is c.sender.ensures;
       a' = r.p';
       b' = r.q';
-      is = record { a_is = r.p_is; b_is = r.q_is; stages = c.in_ok-turn-in-A.ensures.from ∙ t.stages ∙ sym c.in_ok-turn-in-A.ensures.to };
+      is = record {
+        a_is = r.p_is;
+        b_is = r.q_is;
+        stages = c.in_ok-turn-in-A.ensures.from ∙ t.stages ∙ sym (ap is_opening to);
+        said = record {
+          events = tell A g.0 s.0 t.said.events;
+          items = with_items A s.0 t.said.items;
+          a_items = s.1;
+          b_items = subst (λ (k : Stage). AreItemsIn k r.q' (t.said.items B)) (sym to)
+              (items_stay self.b.stage b r.q' (t.said.items B) same.0 same.1 t.said.b_items);
+          watched = g.1;
+        };
+      };
       sent = r.sent;
       acked = r.acked;
     }
@@ -22,13 +44,30 @@ returns-in_ok-turn-in-A-clause-taken c = λ a b t.
 pub returns-in_ok-turn-in-B-clause-taken : goal.returns-in_ok-turn-in-B-clause-taken
 returns-in_ok-turn-in-B-clause-taken c = λ a b t.
     let self = c.args.self.now in
-    let r = c.in_ok-turn-in-B.ensures.taken self.pieces b a t.b_is t.a_is (sym t.stages) in
+    let x = c.in_ok-turn-in-B.ensures.taken self.pieces b a t.b_is t.a_is (sym t.stages) in
+    let r = x.0 in
+    let s = x.1 (t.said.items B) t.said.b_items in
+    let g = s.2 t.said.events t.said.items t.said.watched in
+    let same = acked_same c.args.segment.now a r.q' r.acked in
+    let to = c.in_ok-turn-in-B.ensures.to in
     record {
       side = B;
       is_side = subst (λ (s : Side). IsSender c.args.segment.now self s) c.in-B.is c.sender.ensures;
       a' = r.q';
       b' = r.p';
-      is = record { a_is = r.q_is; b_is = r.p_is; stages = c.in_ok-turn-in-B.ensures.to ∙ t.stages ∙ sym c.in_ok-turn-in-B.ensures.from };
+      is = record {
+        a_is = r.q_is;
+        b_is = r.p_is;
+        stages = ap is_opening to ∙ t.stages ∙ sym c.in_ok-turn-in-B.ensures.from;
+        said = record {
+          events = tell B g.0 s.0 t.said.events;
+          items = with_items B s.0 t.said.items;
+          a_items = subst (λ (k : Stage). AreItemsIn k r.q' (t.said.items A)) (sym to)
+              (items_stay self.a.stage a r.q' (t.said.items A) same.0 same.1 t.said.a_items);
+          b_items = s.1;
+          watched = g.1;
+        };
+      };
       sent = subst (λ (o : Bool). HasSent c.args.segment.now o b self.b.flow r.p' c.turn-in-B.new.from.flow) (sym t.stages) r.sent;
       acked = r.acked;
     }

@@ -1,5 +1,6 @@
-use Rattle.std.proofs.Common.{◌∙◌, sym}
+use Rattle.std.proofs.Common.{◌∙◌, [], sym}
 use Rattle.bt_talk.specs.Pasts.{no_past}
+use Rattle.bt_talk.proofs.Items.{no_items}
 use Rattle.bt_talk.proofs.talk.Talk.new.Goals as goal
 
 pub returns-clause-is : goal.returns-clause-is
@@ -7,4 +8,11 @@ returns-clause-is c = record {
   a_is = c.new.ensures.is c.args.pieces no_past;
   b_is = c.new-2.ensures.is c.args.pieces no_past;
   stages = c.new.ensures.opening ∙ sym c.new-2.ensures.opening;
+  said = record {
+    events = [];
+    items = λ _. [];
+    a_items = no_items c.new.result.stage no_past c.new.ensures.opening;
+    b_items = no_items c.new-2.result.stage no_past c.new-2.ensures.opening;
+    watched = c.new-4.ensures;
+  };
 }

@@ -1,12 +1,15 @@
-use Rattle.std.proofs.Common.{◌∙◌, sym}
+use Rattle.std.proofs.Common.{◌∙◌, sym, ap}
+use Rattle.bt_talk.specs.declared.talk.Talk.{Talk}
+use Rattle.bt_talk.proofs.Talks.{opened}
 use Rattle.bt_talk.proofs.talk.Talk.open.Goals as goal
 
 pub returns-clause-kept : goal.returns-clause-kept
 returns-clause-kept c = λ a b t.
-    let ra = c.receiver_between-of_a.ensures.is a b t.a_is.intro t.b_is.intro in
-    let rb = c.receiver_between-of_b.ensures.is b a t.b_is.intro t.a_is.intro in
-    record {
-      a_is = c.in_ok-open.ensures.kept c.args.self.now.pieces a b t.a_is ra;
-      b_is = c.in_ok-open-2.ensures.kept c.args.self.now.pieces b a t.b_is rb;
-      stages = c.in_ok-open.ensures.open ∙ sym c.in_ok-open-2.ensures.open;
-    }
+    let self = c.args.self.now in
+    let of_a = c.in_ok-of_a.of_a in
+    let of_b = c.in_ok-of_a.of_b in
+    let rest = c.judge_opening.ensures.rest in
+    let ended = c.in_ok-of_a.ensures.open in
+    let j = c.in_ok-of_a.ensures.judged a b t (sym c.is_opening.ensures ∙ c.if-not-is_opening.false) in
+    opened a b self _ of_a of_b (ap (λ (k : Talk). k.pieces) rest) (ap (λ (k : Talk). record k.a { stage = of_a }) rest)
+    (ap (λ (k : Talk). record k.b { stage = of_b }) rest) ended.0 ended.1 j.0 j.1 j.2 t

@@ -10,7 +10,7 @@ returns-then-not-is_opening-clause-settles c = λ a b t. record {
 
 pub returns-then-not-is_over-clause-settles : goal.returns-then-not-is_over-clause-settles
 returns-then-not-is_over-clause-settles c = λ a b t. record {
-  is = record { a_is = t.a_is; b_is = t.b_is; stages = t.stages };
+  is = record { a_is = t.a_is; b_is = t.b_is; stages = t.stages; said = t.said };
   opening = λ o.
       let i = c.is_over.ensures c.args.self.now.pieces a b t.a_is t.b_is o (sym t.stages ∙ o) in
       let n : c.saturating_add-self.result ≡ min (c.args.self.now.segments + 1) (2 ^ 32 - 1) = omega (arith, c.saturating_add-self.ensures) in
@@ -19,7 +19,7 @@ returns-then-not-is_over-clause-settles c = λ a b t. record {
 
 pub returns-clause-settles : goal.returns-clause-settles
 returns-clause-settles c = λ a b t. record {
-  is = c.in_ok-open.ensures.kept a b (record { a_is = t.a_is; b_is = t.b_is; stages = t.stages });
+  is = c.in_ok-open.ensures.kept a b (record { a_is = t.a_is; b_is = t.b_is; stages = t.stages; said = t.said });
   opening = λ o.
       let i = c.is_over.ensures c.args.self.now.pieces a b t.a_is t.b_is o (sym t.stages ∙ o) in
       let n : c.saturating_add-self.result ≡ min (c.args.self.now.segments + 1) (2 ^ 32 - 1) = omega (arith, c.saturating_add-self.ensures) in

@@ -12,27 +12,35 @@ use Rattle.bt_talk.proofs.talk.Talk.take.Goals as goal
 pub returns-clause-taken : goal.returns-clause-taken
 returns-clause-taken c = λ a b t.
     let self = c.args.self.now in
-    let x = c.in_ok-exchange.ensures.taken a b (record { a_is = t.a_is; b_is = t.b_is; stages = t.stages }) in
-    let sends = subst (λ (e : Ends). (x.side ≡ A) ↔ (c.args.segment.now.source ≡ e.a)) (sym c.in_ok-exchange.ensures.ends) x.is_side in
-    let n = c.note.ensures.closes x.a' x.b' x.side x.is sends in
-    let noted = subst (λ (k : Talk). IsTalk x.a' x.b' k) (sym c.note.ensures.rest) (record { a_is = x.is.a_is; b_is = x.is.b_is; stages = x.is.stages }) in
+    let x = c.in_ok-exchange.ensures.taken a b (record { a_is = t.a_is; b_is = t.b_is; stages = t.stages; said = t.said }) in
+    let same = c.keep_mark.ensures in
+    let marked = subst (λ (k : Talk). IsTalk x.a' x.b' k) (sym same)
+    (record { a_is = x.is.a_is; b_is = x.is.b_is; stages = x.is.stages; said = x.is.said }) in
+    let sends = subst (λ (e : Ends). (x.side ≡ A) ↔ (c.args.segment.now.source ≡ e.a))
+    (sym (ap (λ (k : Talk). k.ends) same ∙ c.in_ok-exchange.ensures.ends)) x.is_side in
+    let n = c.note.ensures.closes x.a' x.b' x.side marked sends in
+    let noted = subst (λ (k : Talk). IsTalk x.a' x.b' k) (sym c.note.ensures.rest)
+    (record { a_is = marked.a_is; b_is = marked.b_is; stages = marked.stages; said = marked.said }) in
     let s = c.in_ok-settle.ensures.settles x.a' x.b' noted in
-    let was = ap is_in_opening c.note.ensures.rest ∙ c.in_ok-exchange.ensures.opening in
-    let segments = ap (λ (k : Talk). k.segments) c.note.ensures.rest ∙ c.in_ok-exchange.ensures.segments in
-    let flows : (side : Side) → flow_of side c.exchange.new.self ≡ flow_of side c.settle.new.self =
-    λ side. sym (c.in_ok-settle.ensures.flows side ∙ flow_same side c.exchange.new.self c.note.new.self
+    let was = ap is_in_opening c.note.ensures.rest ∙ ap is_in_opening same ∙ c.in_ok-exchange.ensures.opening in
+    let segments = ap (λ (k : Talk). k.segments) c.note.ensures.rest ∙ ap (λ (k : Talk). k.segments) same ∙ c.in_ok-exchange.ensures.segments in
+    let flows : (side : Side) → flow_of side c.keep_mark.new.self ≡ flow_of side c.settle.new.self =
+    λ side. sym (c.in_ok-settle.ensures.flows side ∙ flow_same side c.keep_mark.new.self c.note.new.self
     (ap (λ (k : Talk). k.a) c.note.ensures.rest) (ap (λ (k : Talk). k.b) c.note.ensures.rest)) in
+    let kept : (side : Side) → flow_of side c.exchange.new.self ≡ flow_of side c.keep_mark.new.self =
+    λ side. sym (flow_same side c.exchange.new.self c.keep_mark.new.self (ap (λ (k : Talk). k.a) same) (ap (λ (k : Talk). k.b) same)) in
     record {
       side = x.side;
       is_side = x.is_side;
       a' = x.a';
       b' = x.b';
-      is = record { a_is = s.is.a_is; b_is = s.is.b_is; stages = s.is.stages };
+      is = record { a_is = s.is.a_is; b_is = s.is.b_is; stages = s.is.stages; said = s.is.said };
       sent = sent_same c.args.segment.now (is_in_opening self) (of_side x.side a b) _ _ (of_side x.side x.a' x.b') _ _
-          (flow_same x.side self _ refl refl) (flows x.side ∙ flow_same x.side _ c.settle.new.self refl refl) x.sent;
+          (flow_same x.side self _ refl refl) (kept x.side ∙ flows x.side ∙ flow_same x.side _ c.settle.new.self refl refl) x.sent;
       acked = x.acked;
       opening = λ o. end_same x.a' x.b' _ _ _ _ (ap (λ (n : ℕ). min (n + 1) (2 ^ 32 - 1)) segments) refl (s.opening (was ∙ o));
       after = λ o. c.in_ok-settle.ensures.after (was ∙ o);
-      closes = closes_same c.args.segment.now c.args.when x.side x.a' x.b' _ _ _ _ _ _ _ _ (flows A) (flows B) c.in_ok-exchange.ensures.closing
+      closes = closes_same c.args.segment.now c.args.when x.side x.a' x.b' _ _ _ _ _ _ _ _ (flows A) (flows B)
+          (ap (λ (k : Talk). k.closing) same ∙ c.in_ok-exchange.ensures.closing)
           (sym c.in_ok-settle.ensures.closing) n;
     }

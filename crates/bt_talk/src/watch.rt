@@ -1,0 +1,264 @@
+//! What the items of both sides show together, as they come.
+ghost use Rattle.std.specs.Prelude.{◌≡◌, [], ℕ, List};
+ghost use Rattle.bt_bencode.specs.Trees.{dictionary};
+ghost use Rattle.bt_ext.specs.Metadata.{kind_of};
+ghost use Rattle.bt_ext.specs.Payloads.{seen as seen_ext};
+ghost use Rattle.bt_feed.specs.Views.{item_of};
+ghost use Rattle.bt_remarks.specs.declared.events.Side.{Side};
+ghost use Rattle.bt_remarks.specs.Said.{Told, message_of as said_in};
+ghost use Rattle.bt_wire.specs.declared.item.Item.{Item};
+ghost use Rattle.bt_wire.specs.Messages.{message_of};
+ghost use Rattle.bt_talk.specs.Events.{block_of, metadata_event, extended_event, message_event, event_of as event_by};
+ghost use Rattle.bt_talk.specs.Watching.{IsItemAt, IsNoted, first_said, noted as noted_by};
+
+use bt_bencode::DictRef;
+use bt_ext::{ExtView, Kind};
+use bt_feed::{Sink, SinkFault, View};
+use bt_remarks::{Block, Event, Found, Heard, Matcher, Remarks, Side};
+use bt_text::words::Dictionary;
+use bt_told::{Noted, Remarked, Said, Words};
+use bt_wire::MessageView;
+use std::alloc::Global;
+
+/// The greatest length of a message, which has 32 bits.
+const MOST: usize = u32::MAX as usize;
+
+/// Returns a block.
+fn block_of(index: u32, begin: u32, length: u32) -> Block
+    ensures { result ≡ block_of index begin length }
+{
+    Block {
+        index,
+        begin,
+        length,
+    }
+}
+
+/// Returns a metadata message as an event (BEP 9).
+fn metadata_event<'a>(dict: &DictRef) -> Event<'a>
+    ensures { said_in result ≡ metadata_event (kind_of (dictionary dict.now.tree.0)) }
+{
+    match dict.kind() {
+        Kind::Request(piece) => Event::MetadataRequest(piece),
+        Kind::Data { piece, .. } => Event::MetadataAnswer(piece),
+        Kind::Reject(piece) => Event::MetadataAnswer(piece),
+        Kind::Other => Event::Other,
+        Kind::Malformed => Event::Other,
+    }
+}
+
+/// Returns an extended message as an event.
+fn extended_event<'a>(payload: &ExtView) -> Event<'a>
+    ensures { said_in result ≡ extended_event (seen_ext payload.now) }
+{
+    match payload {
+        ExtView::Handshake { .. } => Event::Other,
+        ExtView::Metadata { dict, .. } => metadata_event(dict),
+        ExtView::DontHave(_) => Event::Other,
+        ExtView::Raw { .. } => Event::Other,
+    }
+}
+
+/// Returns a message as an event.
+fn message_event<'a>(message: &MessageView<'a>) -> Event<'a>
+    ensures { said_in result ≡ message_event (message_of message.now) }
+{
+    match message {
+        MessageView::Choke => Event::Choke,
+        MessageView::Unchoke => Event::Unchoke,
+        MessageView::Have(index) => Event::Have(*index),
+        MessageView::Bitfield(bits) => Event::Bitfield(bits),
+        MessageView::Request {
+            index,
+            begin,
+            length,
+        } => Event::Request(block_of(*index, *begin, *length)),
+        MessageView::Piece {
+            index,
+            begin,
+            block,
+        } => Event::Piece(block_of(*index, *begin, block.len().min(MOST) as u32)),
+        MessageView::HaveAll => Event::HaveAll,
+        MessageView::Reject {
+            index,
+            begin,
+            length,
+        } => Event::Reject(block_of(*index, *begin, *length)),
+        MessageView::AllowedFast(index) => Event::AllowedFast(*index),
+        MessageView::Extended(payload) => extended_event(payload),
+        _ => Event::Other,
+    }
+}
+
+/// Returns an item as an event.
+fn event_of<'a>(view: &View<'a>) -> Event<'a>
+    ensures { said_in result ≡ event_by (item_of view.now) }
+{
+    match view {
+        View::Handshake(_) => Event::Other,
+        View::Message(message) => message_event(message),
+    }
+}
+
+/// Keeps the first item that has a remark.
+fn keep_first(first: &mut Option<Said>, has: bool, said: &Said)
+    ensures { first.new ≡ first_said has said.now first.old }
+{
+    if has && first.is_none() {
+        *first = Some(*said);
+    }
+}
+
+/// What is kept of a side's items.
+#[derive(Clone, Copy)]
+pub(crate) struct Notes {
+    pub(crate) last: Option<Said>,
+    // The first one with each remark.
+    pub(crate) unasked: Option<Said>,
+    pub(crate) choked: Option<Said>,
+    pub(crate) again: Option<Said>,
+    pub(crate) elsewhere: Option<Said>,
+}
+
+/// Those of no item.
+const NO_NOTES: Notes = Notes {
+    last: None,
+    unasked: None,
+    choked: None,
+    again: None,
+    elsewhere: None,
+};
+
+impl Notes {
+    /// Keeps an item with its remarks.
+    fn note(&mut self, said: Said, remarks: Remarks)
+        ensures { self.new ≡ noted_by remarks said self.old }
+    {
+        keep_first(&mut self.unasked, remarks.unasked, &said);
+        keep_first(&mut self.choked, remarks.choked, &said);
+        keep_first(&mut self.again, remarks.again, &said);
+        keep_first(&mut self.elsewhere, remarks.elsewhere, &said);
+        self.last = Some(said);
+    }
+}
+
+/// Returns how many items have a remark, with the first one.
+fn noted(found: Found, first: &Option<Said>) -> Option<Noted>
+    ensures { (xs : List (ℕ × Item)) → IsItemAt xs found.first first.now → IsNoted found xs result }
+{
+    match first {
+        Some(first) => Some(Noted {
+            count: found.count,
+            first: *first,
+        }),
+        None => None,
+    }
+}
+
+/// A sink for the items of both sides, which keeps what they show together.
+#[derive(Drop)]
+pub(crate) struct Watch {
+    pub(crate) matcher: Matcher,
+    pub(crate) a: Notes,
+    pub(crate) b: Notes,
+    /// The side whose bytes are read.
+    side: Side,
+    /// Whether all that the other side has said up to here is known.
+    known: bool,
+    calls: u64,
+    failed: u64,
+}
+
+impl Watch {
+    ghost use Rattle.bt_talk.specs.Watching.{IsWatched, AreRemarked, notes_of};
+
+    /// Returns that of no item.
+    pub(crate) fn new(alloc: Global) -> Watch
+        ensures { IsWatched [] (λ _. []) result }
+    {
+        Watch {
+            matcher: Matcher::new(alloc),
+            a: NO_NOTES,
+            b: NO_NOTES,
+            side: Side::A,
+            known: false,
+            calls: 0,
+            failed: 0,
+        }
+    }
+
+    /// Returns what is kept of a side's items.
+    pub(crate) fn notes(&self, side: Side) -> &Notes
+        ensures { result.now ≡ notes_of side self.now }
+    {
+        match side {
+            Side::A => &self.a,
+            Side::B => &self.b,
+        }
+    }
+
+    /// Returns the items of a side with a remark.
+    pub(crate) fn remarked(&self, side: Side) -> Remarked
+        ensures { (events : List Told) (items : Side → List (ℕ × Item)) → IsWatched events items self.now
+            → AreRemarked side events (items side) result }
+    {
+        let tally = self.matcher.tally(side);
+        let notes = self.notes(side);
+        Remarked {
+            unasked: noted(tally.unasked, &notes.unasked),
+            choked: noted(tally.choked, &notes.choked),
+            again: noted(tally.again, &notes.again),
+            unanswered: None,
+            elsewhere: noted(tally.elsewhere, &notes.elsewhere),
+        }
+    }
+
+    /// Turns to a side, whose items follow.
+    pub(crate) fn turn_to(&mut self, side: Side, known: bool)
+        ensures { self.new ≡ record self.old { side = side; known = known } }
+    {
+        self.side = side;
+        self.known = known;
+    }
+}
+
+impl Sink for Watch {
+    ghost use Rattle.bt_feed.specs.declared.sink.SinkFault.TheVariants as faults;
+    ghost use Rattle.bt_talk.specs.Watching.{Watches};
+
+    ghost takes = { Watches };
+
+    ghost misses = { λ _ _ fault _. fault ≡ faults.Memory };
+
+    ghost calls = { λ w. w.calls };
+
+    ghost failed = { λ w. w.failed };
+
+    #[inline(always)]
+    fn item(&mut self, at: u64, view: &View<'_>) -> Result<(), SinkFault> {
+        self.calls = self.calls.saturating_add(1);
+        let said = Said {
+            offset: at,
+            words: Words::of(view),
+        };
+        let heard = Heard {
+            side: self.side,
+            event: event_of(view),
+            known: self.known,
+            mark: at,
+        };
+        match self.matcher.take(&heard) {
+            Ok(remarks) => {
+                match self.side {
+                    Side::A => self.a.note(said, remarks),
+                    Side::B => self.b.note(said, remarks),
+                }
+                Ok(())
+            }
+            Err(_) => {
+                self.failed = self.failed.saturating_add(1);
+                Err(SinkFault::Memory)
+            }
+        }
+    }
+}
