@@ -18,7 +18,7 @@ use Rattle.bt_talk.specs.Receivers.{IsJudgedBy, AreItems}
 use Rattle.bt_talk.specs.Stages.{is_opening, AreItemsIn}
 use Rattle.bt_talk.specs.Watching.{Watches}
 
-first_only : (front : List ℕ) (k n : ℕ) → IsFirstHello front k → IsFirstHello front n → k ≡ n
+pub first_only : (front : List ℕ) (k n : ℕ) → IsFirstHello front k → IsFirstHello front n → k ≡ n
 first_only front k n i j =
     elim (cases_lt k n) [
       | inl lt ↦ absurd (j.first k lt i.here)

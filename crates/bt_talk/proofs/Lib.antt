@@ -3,6 +3,7 @@ pub mod Receivers
 pub mod Stages
 pub mod Watching
 pub mod Items
+pub mod Cuts
 pub mod Replays
 pub mod Talks
 pub mod Closes

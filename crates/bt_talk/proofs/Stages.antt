@@ -6,9 +6,12 @@ use Rattle.bt_intro.specs.Hearing.{IsHeardOf}
 use Rattle.bt_talk.specs.declared.stage.Stage.{Stage}
 use Rattle.bt_talk.specs.declared.stage.Stage.TheVariants.{Opening, Open, Stranger}
 use Rattle.bt_talk.specs.declared.direction.Direction.{Direction}
+use Rattle.bt_talk.specs.declared.stage.Cut.{Cut}
+use Rattle.bt_talk.specs.Cuts.{IsCutNow, IsWithin, cut_length}
 use Rattle.bt_talk.specs.Pasts.{Past, IsFlowOf, Adds}
 use Rattle.bt_talk.specs.Receivers.{IsReceiver, IsJudgedBy}
-use Rattle.bt_talk.specs.Stages.{is_opening, IsStage, IsDirection}
+use Rattle.bt_talk.specs.Stages.{is_opening, receiver_in, IsStage, IsDirection}
+use Rattle.bt_talk.proofs.Cuts.{cut_more, cut_none, within_more}
 use Rattle.bt_talk.proofs.Receivers.{receiver_same, judged_same}
 
 pub stage_same : (pieces : Option ℕ) (p q p' q' : Past) (s : Stage) → p'.out ≡ p.out → p'.front ≡ p.front → q'.front ≡ q.front → IsStage pieces p q s
@@ -32,6 +35,8 @@ beside pieces p q q' d f i = record {
   later = i.later;
   front = i.front;
   stage = stage_beside pieces p q q' d.stage f i.stage;
+  within = i.within;
+  cut = i.cut;
 }
 
 -- In the opening all bytes belong to it.
@@ -41,23 +46,29 @@ opening_front pieces p q (Open j) e i = absurd (cc)
 opening_front pieces p q Stranger e i = absurd (cc)
 
 -- After the opening a segment adds to what follows it.
-pub goes_on : (g : Given) (pieces : Option ℕ) (p other q : Past) (d d' : Direction) → d'.intro ≡ d.intro → IsDirection pieces p other d
-    → IsFlowOf q d'.flow → Adds g false p d.flow q d'.flow → IsStage pieces q other d'.stage → IsDirection pieces q other d'
-goes_on g pieces p other q d d' e i f a s = record {
+pub goes_on : (g : Given) (pieces : Option ℕ) (p other q : Past) (d d' : Direction) → d'.intro ≡ d.intro → receiver_in d'.stage ≡ receiver_in d.stage
+    → d'.cut ≡ d.cut → IsDirection pieces p other d → IsFlowOf q d'.flow → Adds g false p d.flow q d'.flow → IsStage pieces q other d'.stage
+    → IsDirection pieces q other d'
+goes_on g pieces p other q d d' e r k i f a s = record {
   flow = f;
   intro = subst (λ (x : Introduction). IsHeardOf q.front x) (sym e) (subst (λ (l : List ℕ). IsHeardOf l d.intro) (sym a.front) i.intro);
   later = i.later ++ a.more;
   front = a.out ∙ ap (λ (l : List ℕ). l ++ a.more) i.front ∙ append_assoc p.front i.later a.more
       ∙ ap (λ (l : List ℕ). l ++ (i.later ++ a.more)) (sym a.front);
   stage = s;
+  within = subst (λ (c : Option Cut). IsWithin (cut_length c) q.out) (sym k) (within_more (cut_length d.cut) p.out a.more q.out a.out i.within);
+  cut = subst (λ (c : Option Cut). IsCutNow (receiver_in d'.stage) q.front q.out c) (sym k)
+      (cut_more (receiver_in d.stage) (receiver_in d'.stage) p.front q.front p.out a.more q.out d.cut r a.front a.out i.within i.cut);
 }
 
 pub in_opening : (pieces : Option ℕ) (p other : Past) (d : Direction) → IsFlowOf p d.flow → IsHeardOf p.front d.intro → p.front ≡ p.out
-    → IsStage pieces p other d.stage → IsDirection pieces p other d
-in_opening pieces p other d f h all s = record {
+    → receiver_in d.stage ≡ None → IsWithin (cut_length d.cut) p.out → IsStage pieces p other d.stage → IsDirection pieces p other d
+in_opening pieces p other d f h all r le s = record {
   flow = f;
   intro = h;
   later = [];
   front = sym all ∙ sym (append-nil p.front);
   stage = s;
+  within = le;
+  cut = cut_none (receiver_in d.stage) p.front p.out d.cut r;
 }

@@ -1,5 +1,5 @@
 -- What is known of a side of a connection, and of both after a segment.
-use Rattle.std.proofs.Common.{◌≡◌, ◌∙◌, ℕ, true, false, Bool, ◌∷◌, [], ◌++◌, Option, Some, None, refl, sym, ap, subst, arith, min, ◌-◌, ◌^◌}
+use Rattle.std.proofs.Common.{◌≡◌, ◌∙◌, ℕ, true, false, Bool, ◌∷◌, [], ◌++◌, Option, length, Some, None, refl, sym, ap, subst, arith, min, ◌-◌, ◌^◌}
 use Rattle.std.specs.Prelude.{nat_le, if◌then◌else◌, ◌||◌}
 use Rattle.std.proofs.lemmas.Bool.Decides.{nat_tests}
 use Rattle.bt_tcp.specs.Heard.{Acked}
@@ -10,11 +10,16 @@ use Rattle.bt_packet.specs.declared.tcp.Segment.{Segment}
 use Rattle.bt_flow.specs.declared.flow.Flow.{Flow}
 use Rattle.bt_flow.specs.declared.flow.Given.{Given}
 use Rattle.bt_talk.specs.declared.direction.Direction.{Direction}
+use Rattle.bt_talk.specs.declared.replay.Opened.{Opened}
+use Rattle.bt_talk.specs.Cuts.{IsWithin, cut_length, closes_first, cut_after}
+use Rattle.bt_talk.specs.Replays.{IsOpened}
+use Rattle.bt_packet.specs.declared.tcp.Flags.{Flags}
 use Rattle.bt_talk.specs.declared.stage.Stage.{Stage}
+use Rattle.bt_talk.specs.declared.watch.Watch.{Watch}
 use Rattle.bt_talk.specs.declared.talk.Talk.{Talk}
 use Rattle.bt_talk.specs.Pasts.{Past, Adds, IsAcked, IsAckedBy, HasSent, HasSentBy, given_of}
-use Rattle.bt_talk.specs.Stages.{IsDirection, IsStage, IsHeard, is_opening}
-use Rattle.bt_talk.specs.Talks.{IsTalk, IsEnd, IsSender, direction_of, flow_of, of_side, is_in_opening, is_over}
+use Rattle.bt_talk.specs.Stages.{IsDirection, IsHeard, is_opening}
+use Rattle.bt_talk.specs.Talks.{IsTalk, IsEnd, IsSender, direction_of, cut_of, flow_of, of_side, is_in_opening, is_over}
 
 direction_is : (side : Side) (a b : Past) (t : Talk) → IsTalk a b t
     → IsDirection t.pieces (of_side side a b) (of_side (other side) a b) (direction_of side t)
@@ -98,17 +103,65 @@ acked_by false (Some n) opens q q' e = (ap (λ (p : Past). p.front) e.1, ap (λ 
 pub acked_same : (s : Segment) (q q' : Past) → IsAcked s q q' → (q'.front ≡ q.front) × (q'.out ≡ q.out)
 acked_same s q q' i = acked_by s.flags.rst s.acked s.flags.syn q q' i
 
--- The opening ended: the stages of both sides are other ones.
-pub opened : (a b : Past) (t u : Talk) (s s' : Stage) → u.pieces ≡ t.pieces → u.a ≡ record t.a { stage = s } → u.b ≡ record t.b { stage = s' }
-    → is_opening s ≡ false → is_opening s' ≡ false → IsStage t.pieces a b s → IsStage t.pieces b a s' → IsHeard a b s s' u.watch → IsTalk a b t → IsTalk a b u
-opened a b t u s s' ep ea eb x y i j said k =
-    let da : Direction = record t.a { stage = s } in
-    let db : Direction = record t.b { stage = s' } in
-    let ia : IsDirection t.pieces a b da = record { flow = k.a_is.flow; intro = k.a_is.intro; later = k.a_is.later; front = k.a_is.front; stage = i } in
-    let ib : IsDirection t.pieces b a db = record { flow = k.b_is.flow; intro = k.b_is.intro; later = k.b_is.later; front = k.b_is.front; stage = j } in
+after_opening : (pieces : Option ℕ) (p q : Past) (d : Direction) (o : Opened) → IsDirection pieces p q d → IsOpened pieces p q (cut_length d.cut) o
+    → IsDirection pieces p q (record d { stage = o.stage; cut = o.cut })
+after_opening pieces p q d o i k = record {
+  flow = i.flow;
+  intro = i.intro;
+  later = i.later;
+  front = i.front;
+  stage = k.stage;
+  within = subst (λ (n : Option ℕ). IsWithin n p.out) (sym k.length) i.within;
+  cut = k.last;
+}
+
+-- The opening ended: both sides have another stage.
+pub ended : (a b : Past) (t u : Talk) (o o' : Opened) → u.pieces ≡ t.pieces → u.a ≡ record t.a { stage = o.stage; cut = o.cut }
+    → u.b ≡ record t.b { stage = o'.stage; cut = o'.cut } → is_opening o.stage ≡ false → is_opening o'.stage ≡ false
+    → IsOpened t.pieces a b (cut_of A t) o → IsOpened t.pieces b a (cut_of B t) o' → IsHeard a b o.stage o'.stage u.watch → IsTalk a b t → IsTalk a b u
+ended a b t u o o' ep ea eb x y i j said k =
+    let da : Direction = record t.a { stage = o.stage; cut = o.cut } in
+    let db : Direction = record t.b { stage = o'.stage; cut = o'.cut } in
+    let ia : IsDirection t.pieces a b da = after_opening t.pieces a b t.a o k.a_is i in
+    let ib : IsDirection t.pieces b a db = after_opening t.pieces b a t.b o' k.b_is j in
     record {
       a_is = subst (λ (d : Direction). IsDirection u.pieces a b d) (sym ea) (subst (λ (n : Option ℕ). IsDirection n a b da) (sym ep) ia);
       b_is = subst (λ (d : Direction). IsDirection u.pieces b a d) (sym eb) (subst (λ (n : Option ℕ). IsDirection n b a db) (sym ep) ib);
       stages = ap (λ (d : Direction). is_opening d.stage) ea ∙ x ∙ sym y ∙ sym (ap (λ (d : Direction). is_opening d.stage) eb);
-      said = subst (λ (d : Direction). IsHeard a b d.stage u.b.stage u.watch) (sym ea) (subst (λ (d : Direction). IsHeard a b s d.stage u.watch) (sym eb) said);
+      said = subst (λ (d : Direction). IsHeard a b d.stage u.b.stage u.watch) (sym ea)
+          (subst (λ (d : Direction). IsHeard a b o.stage d.stage u.watch) (sym eb) said);
     }
+
+pub cuts_same : (side : Side) (t u : Talk) → cut_length u.a.cut ≡ cut_length t.a.cut → cut_length u.b.cut ≡ cut_length t.b.cut → cut_of side u ≡ cut_of side t
+cuts_same A t u e f = e
+cuts_same B t u e f = f
+
+pub both_same : (side : Side) (t u : Talk) → u.a ≡ t.a → u.b ≡ t.b → cut_of side u ≡ cut_of side t
+both_same A t u e f = ap (λ (d : Direction). cut_length d.cut) e
+both_same B t u e f = ap (λ (d : Direction). cut_length d.cut) f
+
+-- The first FIN or RST notes how many bytes there are.
+pub cut_noted : (side : Side) (a b : Past) (t u : Talk) (flags : Flags) → closes_first flags t.closing.closed ≡ true
+    → cut_length u.a.cut ≡ Some (length a.out) → cut_length u.b.cut ≡ Some (length b.out)
+    → cut_of side u ≡ cut_after flags t.closing.closed (length (of_side side a b).out) (cut_of side t)
+cut_noted A a b t u flags is e f = e ∙ sym (ap (λ (k : Bool). if k then Some (length a.out) else cut_of A t) is)
+cut_noted B a b t u flags is e f = f ∙ sym (ap (λ (k : Bool). if k then Some (length b.out) else cut_of B t) is)
+
+pub cut_kept : (side : Side) (n : ℕ) (t : Talk) (flags : Flags) → closes_first flags t.closing.closed ≡ false
+    → cut_of side t ≡ cut_after flags t.closing.closed n (cut_of side t)
+cut_kept side n t flags is = sym (ap (λ (k : Bool). if k then Some n else cut_of side t) is)
+
+pub flows_same : (side : Side) (t u : Talk) → u.a.flow ≡ t.a.flow → u.b.flow ≡ t.b.flow → flow_of side u ≡ flow_of side t
+flows_same A t u e f = e
+flows_same B t u e f = f
+
+-- Both sides have noted the close.
+pub closed_both : (a b : Past) (t u : Talk) → u.pieces ≡ t.pieces → u.watch ≡ t.watch → u.a.stage ≡ t.a.stage → u.b.stage ≡ t.b.stage
+    → IsDirection u.pieces a b u.a → IsDirection u.pieces b a u.b → IsTalk a b t → IsTalk a b u
+closed_both a b t u ep ew ea eb i j k = record {
+  a_is = i;
+  b_is = j;
+  stages = ap is_opening ea ∙ k.stages ∙ sym (ap is_opening eb);
+  said = subst (λ (w : Watch). IsHeard a b u.a.stage u.b.stage w) (sym ew)
+      (subst (λ (s : Stage). IsHeard a b s u.b.stage t.watch) (sym ea) (subst (λ (s : Stage). IsHeard a b t.a.stage s t.watch) (sym eb) k.said));
+}

@@ -141,7 +141,7 @@ one_more : (b : Bool) (xs : List (ℕ × Item)) (x : ℕ × Item) (ys : List (�
 one_more true xs x ys = append_assoc xs (x ∷ []) ys
 one_more false xs x ys = refl
 
-watched_more : (more : List (ℕ × Item)) (events : List Told) (items : Side → List (ℕ × Item)) (w w' : Watch) → Took Watches w more w'
+pub watched_more : (more : List (ℕ × Item)) (events : List Told) (items : Side → List (ℕ × Item)) (w w' : Watch) → Took Watches w more w'
     → IsWatched events items w → IsWatched (tell w.side w.known more events) (with_items w.side more items) w'
 watched_more [] events items w w' took i =
     subst (λ (v : Watch). IsWatched events (with_items w.side [] items) v) (sym took)
@@ -160,7 +160,7 @@ notes_same : (s side : Side) (known : Bool) (w : Watch) → notes_of s w ≡ not
 notes_same A side known w = refl
 notes_same B side known w = refl
 
-turned : (side : Side) (known : Bool) (events : List Told) (items : Side → List (ℕ × Item)) (w : Watch) → IsWatched events items w
+pub turned : (side : Side) (known : Bool) (events : List Told) (items : Side → List (ℕ × Item)) (w : Watch) → IsWatched events items w
     → IsWatched events items (record w { side = side; known = known })
 turned side known events items w i = record {
   matched = i.matched;

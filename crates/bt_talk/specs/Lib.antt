@@ -2,6 +2,7 @@ pub mod Pasts
 pub mod Receivers
 pub mod Events
 pub mod Watching
+pub mod Cuts
 pub mod Stages
 pub mod Replays
 pub mod Ends

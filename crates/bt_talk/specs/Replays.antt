@@ -1,5 +1,5 @@
 -- How far the bytes of the opening are judged, at its end.
-use Rattle.std.specs.Prelude.{◌≡◌, ℕ, List, [], ◌++◌, drop, Option, Some, None}
+use Rattle.std.specs.Prelude.{◌≡◌, ℕ, Bool, true, false, List, [], ◌++◌, drop, take, Option, Some, None}
 use Rattle.bt_intro.specs.declared.settling.Receiver.{Receiver}
 use Rattle.bt_intro.specs.Hellos.{IsFirstHello}
 use Rattle.bt_judge.specs.Judges.{AreJudged}
@@ -7,7 +7,13 @@ use Rattle.bt_remarks.specs.declared.events.Side.{Side}
 use Rattle.bt_remarks.specs.declared.events.Side.TheVariants.{A, B}
 use Rattle.bt_remarks.specs.Said.{Told}
 use Rattle.bt_wire.specs.declared.item.Item.{Item}
+use Rattle.bt_remarks.specs.Said.{other}
+use Rattle.bt_talk.specs.declared.replay.Close.{Close}
+use Rattle.bt_talk.specs.declared.replay.Close.TheVariants.{Passed, Ahead}
+use Rattle.bt_talk.specs.declared.replay.Opened.{Opened}
 use Rattle.bt_talk.specs.declared.replay.Replay.{Replay}
+use Rattle.bt_talk.specs.Cuts.{IsCutBy, IsCutNow, cut_length}
+use Rattle.bt_talk.specs.Stages.{IsStage, AreItemsIn, receiver_in}
 use Rattle.bt_talk.specs.declared.stage.Judged.{Judged}
 use Rattle.bt_talk.specs.declared.watch.Watch.{Watch}
 use Rattle.bt_talk.specs.Pasts.{Past}
@@ -26,14 +32,84 @@ abbrev pub IsReplayBy : Past → Option Receiver → List (ℕ × Item) → List
 IsReplayBy p receiver xs left None = (receiver ≡ None) × (xs ≡ [])
 IsReplayBy p receiver xs left (Some j) = (receiver ≡ Some j.receiver) × IsJudgedTo p xs left j
 
+-- ---- up to the close
+
+-- the first bytes that the side sent
+abbrev pub upto : ℕ → Past → Past
+upto n p = record p { out = take n p.out }
+
+abbrev pub close_length : Close → Option ℕ
+close_length (Passed cut) = cut_length cut
+close_length (Ahead n after) = Some n
+
+abbrev pub is_passed : Close → Bool
+is_passed (Passed cut) = true
+is_passed (Ahead n after) = false
+
+-- The bytes from a place on are these up to the close, and others.
+abbrev pub IsParted : ℕ → List ℕ → List ℕ → Close → Type 0
+IsParted start out left (Passed cut) = (cut ≡ None) × (left ≡ drop start out)
+IsParted start out left (Ahead n after) = (left ≡ drop start (take n out)) × (drop start out ≡ left ++ after.now)
+
+-- After the first n bytes these follow.
+abbrev pub IsFollowed : Past → ℕ → List ℕ → Type 0
+IsFollowed p n after = (start : ℕ) → IsFirstHello p.front start → drop start p.out ≡ drop start (take n p.out) ++ after
+
+-- The connection was closed after so many bytes of the side: up to there its bytes are judged first, or the last of them is known.
+abbrev pub IsReplayOf : Past → Option Receiver → Option ℕ → List (ℕ × Item) → List ℕ → Option Judged → Close → Type 0
+IsReplayOf p receiver cut xs left judged (Passed None) = (cut ≡ None) × IsReplayBy p receiver xs left judged
+IsReplayOf p receiver cut xs left judged (Passed (Some c)) =
+    (cut ≡ Some c.length) × IsReplayBy p receiver xs left judged × IsCutBy receiver p.front (take c.length p.out) c.last
+IsReplayOf p receiver cut xs left judged (Ahead n after) =
+    (cut ≡ Some n) × IsReplayBy (upto n p) receiver xs left judged × IsFollowed p n after.now
+
 -- These items of a side's opening are judged by its receiver, if there is one.
-abbrev pub IsReplay : Past → Option Receiver → List (ℕ × Item) → Replay → Type 0
-IsReplay p receiver xs r = IsReplayBy p receiver xs r.rest.now r.judged
+abbrev pub IsReplay : Past → Option Receiver → Option ℕ → List (ℕ × Item) → Replay → Type 0
+IsReplay p receiver cut xs r = IsReplayOf p receiver cut xs r.rest.now r.judged r.close
+
+-- Further items of a side were judged, and none of the other one.
+pub record IsReplayed (side : Side) (p : Past) (receiver : Option Receiver) (cut : Option ℕ) (items : Side → List (ℕ × Item)) (r : Replay) (w : Watch)
+    : Type 0 where
+  pub events : List Told
+  pub now : Side → List (ℕ × Item)
+  pub others : now (other side) ≡ items (other side)
+  pub is : IsReplay p receiver cut (now side) r
+  pub turn : w.side ≡ side
+  pub watched : IsWatched events now w
+
+abbrev pub Replays : Side → Replay → Watch → Replay → Watch → Type 0
+Replays side r w r' w' = (p : Past) (receiver : Option Receiver) (cut : Option ℕ) (events : List Told) (items : Side → List (ℕ × Item))
+    → IsReplay p receiver cut (items side) r → IsWatched events items w → IsReplayed side p receiver cut items r' w'
+
+-- ---- both sides
+
+-- by whom a side's stream is judged, and after how many bytes the connection was closed
+pub record Aim : Type 0 where
+  pub receiver : Option Receiver
+  pub cut : Option ℕ
 
 -- The openings of both sides are judged as far as these items.
-pub record AreReplayed (p q : Past) (of_a of_b : Option Receiver) (a b : Replay) (w : Watch) : Type 0 where
+pub record AreReplayed (p q : Past) (x y : Aim) (a b : Replay) (w : Watch) : Type 0 where
   pub events : List Told
   pub items : Side → List (ℕ × Item)
-  pub a_is : IsReplay p of_a (items A) a
-  pub b_is : IsReplay q of_b (items B) b
+  pub a_is : IsReplay p x.receiver x.cut (items A) a
+  pub b_is : IsReplay q y.receiver y.cut (items B) b
   pub watched : IsWatched events items w
+
+abbrev pub AreReplays : Replay → Replay → Watch → Replay → Replay → Watch → Type 0
+AreReplays a b w a' b' w' = (p q : Past) (x y : Aim) → AreReplayed p q x y a b w → AreReplayed p q x y a' b' w'
+
+-- ---- after the opening
+
+pub record IsOpened (pieces : Option ℕ) (p q : Past) (cut : Option ℕ) (o : Opened) : Type 0 where
+  pub stage : IsStage pieces p q o.stage
+  pub length : cut_length o.cut ≡ cut
+  pub last : IsCutNow (receiver_in o.stage) p.front p.out o.cut
+
+pub record IsFinished (pieces : Option ℕ) (p q : Past) (cut : Option ℕ) (side : Side) (items : Side → List (ℕ × Item)) (o : Opened) (w : Watch) : Type 0 where
+  pub events : List Told
+  pub now : Side → List (ℕ × Item)
+  pub others : now (other side) ≡ items (other side)
+  pub is : IsOpened pieces p q cut o
+  pub items_are : AreItemsIn o.stage p (now side)
+  pub watched : IsWatched events now w

@@ -9,6 +9,8 @@ use Rattle.bt_wire.specs.declared.item.Item.{Item}
 use Rattle.bt_talk.specs.declared.stage.Stage.{Stage}
 use Rattle.bt_talk.specs.declared.stage.Stage.TheVariants.{Opening, Open, Stranger}
 use Rattle.bt_talk.specs.declared.direction.Direction.{Direction}
+use Rattle.bt_intro.specs.declared.settling.Receiver.{Receiver}
+use Rattle.bt_talk.specs.Cuts.{IsCutNow, IsWithin, cut_length}
 use Rattle.bt_talk.specs.Pasts.{Past, IsFlowOf}
 use Rattle.bt_talk.specs.Receivers.{IsReceiver, IsJudgedBy, AreItems}
 use Rattle.bt_talk.specs.declared.watch.Watch.{Watch}
@@ -18,6 +20,12 @@ abbrev pub is_opening : Stage → Bool
 is_opening (Opening front) = true
 is_opening (Open judged) = false
 is_opening Stranger = false
+
+-- by whom the stream is judged
+abbrev pub receiver_in : Stage → Option Receiver
+receiver_in (Opening front) = None
+receiver_in (Open judged) = Some judged.receiver
+receiver_in Stranger = None
 
 -- In the opening all bytes belong to it, and are kept; then they are judged by the receiver, if there is one.
 abbrev pub IsStage : Option ℕ → Past → Past → Stage → Type 0
@@ -32,6 +40,8 @@ pub record IsDirection (pieces : Option ℕ) (p other : Past) (d : Direction) : 
   pub later : List ℕ
   pub front : p.out ≡ p.front ++ later
   pub stage : IsStage pieces p other d.stage
+  pub within : IsWithin (cut_length d.cut) p.out
+  pub cut : IsCutNow (receiver_in d.stage) p.front p.out d.cut
 
 -- the items that were judged of a side: none in the opening, and none without a receiver
 abbrev pub AreItemsIn : Stage → Past → List (ℕ × Item) → Type 0

@@ -13,6 +13,7 @@ use Rattle.bt_talk.specs.declared.ends.Ends.{Ends}
 use Rattle.bt_talk.specs.declared.closing.Closing.{Closing}
 use Rattle.bt_talk.specs.declared.closing.When.{When}
 use Rattle.bt_talk.specs.Closing.{Closes}
+use Rattle.bt_talk.specs.Cuts.{cut_length, cut_after}
 use Rattle.bt_talk.specs.Stages.{IsDirection, IsHeard, is_opening}
 
 abbrev pub direction_of : Side → Talk → Direction
@@ -22,6 +23,10 @@ direction_of B t = t.b
 -- the stream of a side
 abbrev pub flow_of : Side → Talk → Flow
 flow_of side t = (direction_of side t).flow
+
+-- how many bytes of a side were put together at the first FIN or RST
+abbrev pub cut_of : Side → Talk → Option ℕ
+cut_of side t = cut_length (direction_of side t).cut
 
 -- what belongs to a side
 abbrev pub of_side : Side → Past → Past → Past
@@ -109,3 +114,4 @@ pub record Takes (s : Segment) (when : When) (a b : Past) (t t' : Talk) : Type 0
   pub opening : is_in_opening t ≡ true → IsEnd a' b' (min (t.segments + 1) (2 ^ 32 - 1)) (not (is_in_opening t'))
   pub after : is_in_opening t ≡ false → is_in_opening t' ≡ false
   pub closes : Closes s when side a' b' (flow_of A t') (flow_of B t') (closing_of t) (closing_of t')
+  pub cut : (k : Side) → cut_of k t' ≡ cut_after s.flags (closing_of t).closed (length (of_side k a' b').out) (cut_of k t)

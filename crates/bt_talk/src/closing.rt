@@ -1,5 +1,6 @@
 //! How a connection was closed.
 ghost use Rattle.std.specs.Prelude.{◌≡◌, ◌||◌, ◌&&◌};
+ghost use Rattle.bt_talk.specs.Cuts.{closes_first};
 ghost use Rattle.bt_talk.specs.Closing.{still_open, closed_after, over_after, is_quiet, high_at, opens_by};
 
 use bt_packet::Flags;
@@ -56,6 +57,16 @@ impl Closing {
         Closing {
             closed: None,
             over: None,
+        }
+    }
+
+    /// Tells whether a segment with these flags is the first one that closes.
+    pub(crate) fn closes_first(&self, flags: Flags) -> bool
+        ensures { result ≡ closes_first flags self.now.closed }
+    {
+        match &self.closed {
+            Some(_) => false,
+            None => flags.fin || flags.rst,
         }
     }
 

@@ -1,5 +1,5 @@
 //! One direction of a captured connection.
-ghost use Rattle.std.specs.Prelude.{◌≡◌, ◌<◌, ◌++◌, ◌∷◌, ℕ, List, [], Bool, false, true, length, OnOk, IfOk, IfSome, Option};
+ghost use Rattle.std.specs.Prelude.{◌≡◌, ◌<◌, ◌++◌, ◌∷◌, ℕ, List, [], Bool, false, true, length, OnOk, IfOk, IfSome, Option, Some};
 ghost use Rattle.bt_flow.specs.declared.flow.Flow.{Flow};
 ghost use Rattle.bt_intro.specs.Hearing.{IsHeardOf};
 ghost use Rattle.bt_feed.specs.Pumps.{Took};
@@ -9,15 +9,17 @@ ghost use Rattle.bt_wire.specs.declared.item.Item.{Item};
 ghost use Rattle.bt_talk.specs.Pasts.{Past, no_past, IsFlowOf, Adds};
 ghost use Rattle.bt_talk.specs.Receivers.{IsReceiver, IsJudgedBy, IsReceiverNow, AreItems, AreVerdicts};
 ghost use Rattle.bt_talk.specs.Replays.{IsReplay};
-ghost use Rattle.bt_talk.specs.Stages.{IsDirection, Speaks, is_opening};
-ghost use Rattle.bt_talk.specs.Watching.{Watches};
+ghost use Rattle.bt_talk.specs.Stages.{IsDirection, IsStage, AreItemsIn, Speaks, is_opening, receiver_in};
+ghost use Rattle.bt_talk.specs.Cuts.{IsCutBy, IsLastBefore, cut_length};
+ghost use Rattle.bt_talk.specs.Watching.{IsLast, Watches};
 
-use crate::replay::Replay;
-use crate::stage::{Stage, judge_bytes};
+use crate::replay::{Opened, Replay};
+use crate::stage::{Cut, Stage, judge_bytes};
 use crate::watch::Watch;
 use bt_flow::{Flow, Given};
 use bt_intro::{Introduction, Receiver};
 use bt_judge::{Judge, Verdicts};
+use bt_told::{Last, Said};
 use std::alloc::{AllocError, Global};
 
 /// One direction of a captured connection: its stream, what its sender announces, and what is done with its bytes.
@@ -26,6 +28,7 @@ pub(crate) struct Direction {
     pub(crate) flow: Flow,
     pub(crate) intro: Introduction,
     pub(crate) stage: Stage,
+    pub(crate) cut: Option<Cut>,
 }
 
 /// Takes a segment of the opening.
@@ -73,6 +76,18 @@ fn take_only(flow: &mut Flow, given: &Given, out: &mut Vec<u8>) -> Result<(), Al
     Ok(())
 }
 
+/// Returns the last of a stream up to here, if it is judged; `item` is its last item.
+fn last_in(stage: &Stage, item: &Option<Said>) -> Last
+    ensures { (pieces : Option ℕ) (p other : Past) (xs : List (ℕ × Item)) → IsStage pieces p other stage.now → AreItemsIn stage.now p xs
+        → IsLast xs item.now → IsCutBy (receiver_in stage.now) p.front p.out result }
+{
+    match stage {
+        Stage::Opening(_) => Last::Nothing,
+        Stage::Open(judged) => judged.last(item),
+        Stage::Stranger => Last::Nothing,
+    }
+}
+
 impl Direction {
     /// Returns a direction of which nothing was captured.
     pub(crate) fn new(alloc: Global) -> Direction
@@ -83,6 +98,7 @@ impl Direction {
             flow: Flow::new(alloc),
             intro: Introduction::new(),
             stage: Stage::Opening(Vec::new(alloc)),
+            cut: None,
         }
     }
 
@@ -113,6 +129,7 @@ impl Direction {
         ensures heard { (pieces : Option ℕ) (p other : Past) → IsDirection pieces p other self.old
             → (at : ℕ) × IsDirection pieces (record p { heard = p.heard ++ Acked (record { number = acked; opens = opens; place = at }) ∷ [] }) other self.new }
         ensures stage { self.new.stage ≡ self.old.stage }
+        ensures cut { self.new.cut ≡ self.old.cut }
     {
         self.flow.hear(acked, opens);
     }
@@ -131,6 +148,7 @@ impl Direction {
             → (q : Past) × IsDirection pieces q other self.new × Adds given.now (is_opening self.old.stage) p self.old.flow q self.new.flow
             × Speaks self.old.stage p watch.old self.new.stage q watch.new) }
         ensures stage { OnOk result (is_opening self.new.stage ≡ is_opening self.old.stage) }
+        ensures cut { OnOk result (self.new.cut ≡ self.old.cut) }
     {
         match &mut self.stage {
             Stage::Opening(front) => {
@@ -159,16 +177,24 @@ impl Direction {
     ) -> Result<Replay<'_>, AllocError>
         requires { IfSome receiver (λ r. r.own.limit ≡ 262144) }
         ensures { IfOk result (λ replay. (pieces : Option ℕ) (p other : Past) → is_opening self.now.stage ≡ true → IsDirection pieces p other self.now
-            → IsReceiver pieces p other receiver → IsReplay p receiver [] replay) }
+            → IsReceiver pieces p other receiver → IsReplay p receiver (cut_length self.now.cut) [] replay) }
     {
         match &self.stage {
             Stage::Opening(front) => {
-                let replay = Replay::new(alloc, front, self.intro.start(), receiver)?;
+                let replay = Replay::new(alloc, front, self.intro.start(), receiver, &self.cut)?;
                 Ok(replay)
             }
-            Stage::Open(_) => Ok(Replay::none()),
-            Stage::Stranger => Ok(Replay::none()),
+            Stage::Open(_) => Ok(Replay::none(self.cut)),
+            Stage::Stranger => Ok(Replay::none(self.cut)),
         }
+    }
+
+    /// Ends the opening.
+    pub(crate) fn open(&mut self, opened: Opened)
+        ensures { self.new ≡ record self.old { stage = opened.stage; cut = opened.cut } }
+    {
+        self.stage = opened.stage;
+        self.cut = opened.cut;
     }
 
     /// Tells whether all that this side has said up to here is known.
@@ -177,6 +203,31 @@ impl Direction {
             Stage::Opening(_) => false,
             Stage::Open(judged) => judged.is_known() && !self.flow.has_hole(),
             Stage::Stranger => false,
+        }
+    }
+
+    /// Notes what this side has sent, since the connection is closed; `item` is the last item that was judged.
+    pub(crate) fn close(&mut self, item: &Option<Said>)
+        ensures cut { (pieces : Option ℕ) (p other : Past) (xs : List (ℕ × Item)) → IsDirection pieces p other self.old → AreItemsIn self.old.stage p xs
+            → IsLast xs item.now → IsDirection pieces p other self.new }
+        ensures upto { (pieces : Option ℕ) (p other : Past) → IsDirection pieces p other self.old → cut_length self.new.cut ≡ Some (length p.out) }
+        ensures rest { self.new ≡ record self.old { cut = self.new.cut } }
+    {
+        self.cut = Some(Cut {
+            length: self.flow.next(),
+            last: last_in(&self.stage, item),
+        });
+    }
+
+    /// Returns the last that this side had sent when the connection was closed.
+    pub(crate) fn last_before(&self) -> Option<Last>
+        ensures { (pieces : Option ℕ) (p other : Past) → IsDirection pieces p other self.now
+            → IsLastBefore (is_opening self.now.stage) pieces p other (cut_length self.now.cut) result }
+    {
+        match (&self.stage, &self.cut) {
+            (Stage::Opening(_), _) => None,
+            (_, Some(cut)) => Some(cut.last),
+            (_, None) => None,
         }
     }
 

@@ -1,20 +1,24 @@
 //! The bytes of the opening, which are judged at its end in the order of the packets.
-ghost use Rattle.std.specs.Prelude.{◌≡◌, ◌<◌, ◌++◌, ℕ, List, [], false, length, IfOk, OnOk, IfSome, Option};
+ghost use Rattle.std.specs.Prelude.{◌≡◌, ◌<◌, ◌++◌, ℕ, List, [], true, false, drop, length, IfOk, OnOk, IfSome, Option};
 ghost use Rattle.bt_intro.specs.declared.settling.Receiver.{Receiver};
 ghost use Rattle.bt_intro.specs.Hellos.{IsStartOf};
 ghost use Rattle.bt_feed.specs.Pumps.{Took};
+ghost use Rattle.bt_remarks.specs.declared.events.Side.{Side};
+ghost use Rattle.bt_remarks.specs.Said.{Told};
 ghost use Rattle.bt_wire.specs.declared.item.Item.{Item};
+ghost use Rattle.bt_talk.specs.Cuts.{IsCutBy, cut_length};
 ghost use Rattle.bt_talk.specs.Pasts.{Past};
 ghost use Rattle.bt_talk.specs.Receivers.{IsReceiver};
-ghost use Rattle.bt_talk.specs.Stages.{IsStage, AreItemsIn, IsHeard, is_opening};
-ghost use Rattle.bt_talk.specs.Replays.{IsReplay, IsReplayBy, AreReplayed};
-ghost use Rattle.bt_talk.specs.Watching.{GoesOn, Watches};
+ghost use Rattle.bt_talk.specs.Stages.{AreItemsIn, IsHeard, is_opening};
+ghost use Rattle.bt_talk.specs.Replays.{Aim, IsReplay, IsReplayBy, IsReplayOf, IsParted, IsOpened, IsFinished, Replays, AreReplayed, AreReplays, close_length, is_passed};
+ghost use Rattle.bt_talk.specs.Watching.{IsLast, IsWatched, Watches};
 
-use crate::stage::{Judged, Stage, judge_bytes};
+use crate::stage::{Cut, Judged, Stage, judge_bytes};
 use crate::watch::Watch;
 use bt_intro::Receiver;
 use bt_judge::Judge;
 use bt_remarks::Side;
+use bt_told::{Last, Said};
 use std::alloc::{AllocError, Global};
 
 /// A segment of the opening that made bytes of its sender ready.
@@ -28,13 +32,57 @@ pub(crate) struct Mark {
     pub(crate) is_whole: bool,
 }
 
+/// Where the connection was closed in what a side sent.
+#[derive(Clone, Copy)]
+pub(crate) enum Close<'a> {
+    /// It wasn't closed in the opening, or what came before that is judged.
+    Passed(Option<Cut>),
+    /// After so many bytes, which are judged next; these follow.
+    Ahead(u64, &'a [u8]),
+}
+
 /// The bytes of a side's opening from its handshake on, of which the first ones are judged.
 #[derive(Drop)]
 pub(crate) struct Replay<'a> {
+    /// What is judged next, at most up to the close.
     rest: &'a [u8],
     /// How many bytes of the side's stream come before them.
     at: u64,
     judged: Option<Judged>,
+    close: Close<'a>,
+}
+
+/// Returns where the connection is closed, and what comes before that of the bytes that start at this place.
+fn part_at<'a>(bytes: &'a [u8], start: u64, cut: &Option<Cut>) -> (&'a [u8], Close<'a>)
+    ensures parted { (out : List ℕ) → bytes.now ≡ drop start out → IsParted start out result.0.now result.1 }
+    ensures cut { close_length result.1 ≡ cut_length cut.now }
+{
+    match cut {
+        None => (bytes, Close::Passed(None)),
+        Some(cut) => {
+            let count = (cut.length.saturating_sub(start) as usize).min(bytes.len());
+            let (before, after) = bytes.split_at(count);
+            (before, Close::Ahead(cut.length, after))
+        }
+    }
+}
+
+/// What is done with the bytes of one direction after its opening.
+#[derive(Drop)]
+pub(crate) struct Opened {
+    pub(crate) stage: Stage,
+    pub(crate) cut: Option<Cut>,
+}
+
+/// Returns the last of a stream up to here, if it is judged; `item` is its last item.
+fn last_of(judged: &Option<Judged>, item: &Option<Said>) -> Last
+    ensures { (p : Past) (receiver : Option Receiver) (xs : List (ℕ × Item)) → IsReplayBy p receiver xs [] judged.now → IsLast xs item.now
+        → IsCutBy receiver p.front p.out result }
+{
+    match judged {
+        Some(judged) => judged.last(item),
+        None => Last::Nothing,
+    }
 }
 
 /// Judges the next bytes, if the stream is judged.
@@ -60,13 +108,14 @@ fn judge_more(
 
 impl<'a> Replay<'a> {
     /// Returns that of a side without a handshake.
-    pub(crate) fn none() -> Replay<'a>
-        ensures { (p : Past) → IsReplay p None [] result }
+    pub(crate) fn none(cut: Option<Cut>) -> Replay<'a>
+        ensures { (p : Past) → IsReplay p None (cut_length cut) [] result }
     {
         Replay {
             rest: &[],
             at: 0,
             judged: None,
+            close: Close::Passed(cut),
         }
     }
 
@@ -79,25 +128,28 @@ impl<'a> Replay<'a> {
         front: &'a [u8],
         start: Option<usize>,
         receiver: Option<Receiver>,
+        cut: &Option<Cut>,
     ) -> Result<Replay<'a>, AllocError>
         requires { IfSome receiver (λ r. r.own.limit ≡ 262144) }
         ensures { IfOk result (λ replay. (pieces : Option ℕ) (p q : Past) → front.now ≡ p.out → p.front ≡ p.out → IsStartOf p.front start
-            → IsReceiver pieces p q receiver → IsReplay p receiver [] replay) }
+            → IsReceiver pieces p q receiver → IsReplay p receiver (cut_length cut.now) [] replay) }
     {
         let Some(receiver) = receiver else {
-            return Ok(Replay::none());
+            return Ok(Replay::none(*cut));
         };
         let Some(start) = start else {
-            return Ok(Replay::none());
+            return Ok(Replay::none(*cut));
         };
-        let Some(rest) = front.get(start..) else {
-            return Ok(Replay::none());
+        let Some(bytes) = front.get(start..) else {
+            return Ok(Replay::none(*cut));
         };
         let judge = Judge::new(alloc, receiver.own)?;
+        let (rest, close) = part_at(bytes, start as u64, cut);
         Ok(Replay {
             rest,
             at: start as u64,
             judged: Some(Judged { receiver, judge }),
+            close,
         })
     }
 
@@ -117,8 +169,8 @@ impl<'a> Replay<'a> {
         buffer: &mut [u8],
     ) -> Result<(), AllocError>
         requires { 0 < length buffer.old }
-        ensures { OnOk result ((p : Past) (receiver : Option Receiver) (xs : List (ℕ × Item)) → IsReplay p receiver xs self.old
-            → (more : List (ℕ × Item)) × IsReplay p receiver (xs ++ more) self.new × Took Watches watch.old more watch.new) }
+        ensures { OnOk result ((p : Past) (receiver : Option Receiver) (cut : Option ℕ) (xs : List (ℕ × Item)) → IsReplay p receiver cut xs self.old
+            → (more : List (ℕ × Item)) × IsReplay p receiver cut (xs ++ more) self.new × Took Watches watch.old more watch.new) }
     {
         let count = (upto.saturating_sub(self.at) as usize).min(self.rest.len());
         let (bytes, rest) = self.rest.split_at(count);
@@ -128,29 +180,93 @@ impl<'a> Replay<'a> {
         Ok(())
     }
 
-    /// Judges the bytes that are left, and returns what is done with those that follow.
-    pub(crate) fn finish(
-        self,
-        side: Side,
-        watch: &mut Watch,
-        buffer: &mut [u8],
-    ) -> Result<Stage, AllocError>
-        requires { 0 < length buffer.old }
-        ensures open { IfOk result (λ stage. is_opening stage ≡ false) }
-        ensures stage { IfOk result (λ stage. (pieces : Option ℕ) (p q : Past) (receiver : Option Receiver) (xs : List (ℕ × Item)) → IsReceiver pieces p q receiver
-            → IsReplay p receiver xs self.entry → (more : List (ℕ × Item)) × IsStage pieces p q stage × AreItemsIn stage p (xs ++ more)
-            × GoesOn side more watch.old watch.new) }
-    {
-        let Replay { rest, judged, .. } = self;
-        watch.turn_to(side, false);
-        match judged {
-            Some(mut judged) => {
-                judge_bytes(&mut judged.judge, rest, watch, buffer)?;
-                Ok(Stage::Open(judged))
-            }
-            None => Ok(Stage::Stranger),
+    /// Tells whether the close is awaited, and before this length of the side's stream.
+    fn closes_by(&self, upto: u64) -> bool {
+        match self.close {
+            Close::Passed(_) => false,
+            Close::Ahead(count, _) => count <= upto,
         }
     }
+
+    /// Judges the bytes up to the close, if it is awaited.
+    fn pass_close(&mut self, watch: &mut Watch, buffer: &mut [u8]) -> Result<(), AllocError>
+        requires { 0 < length buffer.old }
+        ensures passed { OnOk result (is_passed self.new.close ≡ true) }
+        ensures goes_on { OnOk result ((side : Side) → watch.old.side ≡ side → Replays side self.old watch.old self.new watch.new) }
+    {
+        let Close::Ahead(count, after) = self.close else {
+            return Ok(());
+        };
+        judge_more(&mut self.judged, self.rest, watch, buffer)?;
+        let last = last_of(&self.judged, watch.last());
+        self.rest = after;
+        self.close = Close::Passed(Some(Cut {
+            length: count,
+            last,
+        }));
+        Ok(())
+    }
+
+    /// Judges the bytes up to the close, if it comes before this length of the side's stream.
+    fn pass_to(&mut self, upto: u64, watch: &mut Watch, buffer: &mut [u8]) -> Result<(), AllocError>
+        requires { 0 < length buffer.old }
+        ensures { OnOk result ((side : Side) → watch.old.side ≡ side → Replays side self.old watch.old self.new watch.new) }
+    {
+        if !self.closes_by(upto) {
+            return Ok(());
+        }
+        self.pass_close(watch, buffer)?;
+        Ok(())
+    }
+}
+
+/// Returns where the connection was closed, once that is passed.
+fn cut_in(close: Close) -> Option<Cut>
+    ensures { is_passed close.entry ≡ true → close.entry ≡ Close.Passed result }
+{
+    match close {
+        Close::Passed(cut) => cut,
+        Close::Ahead(_, _) => None,
+    }
+}
+
+/// Returns what is done with the bytes that follow, once all are judged.
+fn after_opening(judged: Option<Judged>, close: Close) -> Opened
+    ensures open { is_opening result.stage ≡ false }
+    ensures opened { (pieces : Option ℕ) (p q : Past) (receiver : Option Receiver) (cut : Option ℕ) (xs : List (ℕ × Item)) → IsReceiver pieces p q receiver
+        → IsReplayOf p receiver cut xs [] judged close.entry → is_passed close.entry ≡ true → IsOpened pieces p q cut result × AreItemsIn result.stage p xs }
+{
+    let cut = cut_in(close);
+    match judged {
+        Some(judged) => Opened {
+            stage: Stage::Open(judged),
+            cut,
+        },
+        None => Opened {
+            stage: Stage::Stranger,
+            cut,
+        },
+    }
+}
+
+/// Judges the bytes that are left, and returns what is done with those that follow.
+fn finish(
+    mut replay: Replay,
+    side: Side,
+    watch: &mut Watch,
+    buffer: &mut [u8],
+) -> Result<Opened, AllocError>
+    requires { 0 < length buffer.old }
+    ensures open { IfOk result (λ opened. is_opening opened.stage ≡ false) }
+    ensures opened { IfOk result (λ opened. (pieces : Option ℕ) (p q : Past) (receiver : Option Receiver) (cut : Option ℕ) (events : List Told)
+        (items : Side → List (ℕ × Item)) → IsReceiver pieces p q receiver → IsReplay p receiver cut (items side) replay.entry
+        → IsWatched events items watch.old → IsFinished pieces p q cut side items opened watch.new) }
+{
+    watch.turn_to(side, false);
+    replay.pass_close(watch, buffer)?;
+    let rest = replay.rest;
+    judge_more(&mut replay.judged, rest, watch, buffer)?;
+    Ok(after_opening(replay.judged, replay.close))
 }
 
 /// Judges what a segment of the first side made ready.
@@ -162,10 +278,10 @@ fn go_to(
     buffer: &mut [u8],
 ) -> Result<(), AllocError>
     requires { 0 < length buffer.old }
-    ensures { OnOk result ((p : Past) (receiver : Option Receiver) (xs : List (ℕ × Item)) → IsReplay p receiver xs mine.old
-        → (more : List (ℕ × Item)) × IsReplay p receiver (xs ++ more) mine.new × GoesOn mark.now.side more watch.old watch.new) }
+    ensures { OnOk result (Replays mark.now.side mine.old watch.old mine.new watch.new) }
 {
     watch.turn_to(mark.side, mark.is_whole && theirs.is_known());
+    mine.pass_to(mark.length, watch, buffer)?;
     mine.judge_to(mark.length, watch, buffer)?;
     Ok(())
 }
@@ -179,8 +295,7 @@ fn step(
     buffer: &mut [u8],
 ) -> Result<(), AllocError>
     requires { 0 < length buffer.old }
-    ensures { OnOk result ((p q : Past) (of_a of_b : Option Receiver) → AreReplayed p q of_a of_b a.old b.old watch.old
-        → AreReplayed p q of_a of_b a.new b.new watch.new) }
+    ensures { OnOk result (AreReplays a.old b.old watch.old a.new b.new watch.new) }
 {
     match mark.side {
         Side::A => {
@@ -195,9 +310,6 @@ fn step(
 }
 
 /// Judges what the segments of the opening made ready, in their order.
-///
-/// # Errors
-/// `AllocError` when out of memory.
 fn go_through(
     marks: &[Mark],
     a: &mut Replay,
@@ -206,8 +318,7 @@ fn go_through(
     buffer: &mut [u8],
 ) -> Result<(), AllocError>
     requires { 0 < length buffer.old }
-    ensures { OnOk result ((p q : Past) (of_a of_b : Option Receiver) → AreReplayed p q of_a of_b a.old b.old watch.old
-        → AreReplayed p q of_a of_b a.new b.new watch.new) }
+    ensures { OnOk result (AreReplays a.old b.old watch.old a.new b.new watch.new) }
 {
     for mark in marks {
         step(mark, a, b, watch, buffer)?;
@@ -225,15 +336,15 @@ pub(crate) fn judge_both(
     marks: &[Mark],
     watch: &mut Watch,
     buffer: &mut [u8],
-) -> Result<(Stage, Stage), AllocError>
+) -> Result<(Opened, Opened), AllocError>
     requires { 0 < length buffer.old }
-    ensures open { IfOk result (λ stages. (is_opening stages.0 ≡ false) × (is_opening stages.1 ≡ false)) }
-    ensures judged { IfOk result (λ stages. (pieces : Option ℕ) (p q : Past) (of_a of_b : Option Receiver) → IsReceiver pieces p q of_a → IsReceiver pieces q p of_b
-        → AreReplayed p q of_a of_b a.entry b.entry watch.old
-        → IsStage pieces p q stages.0 × IsStage pieces q p stages.1 × IsHeard p q stages.0 stages.1 watch.new) }
+    ensures open { IfOk result (λ both. (is_opening both.0.stage ≡ false) × (is_opening both.1.stage ≡ false)) }
+    ensures judged { IfOk result (λ both. (pieces : Option ℕ) (p q : Past) (x y : Aim) → IsReceiver pieces p q x.receiver → IsReceiver pieces q p y.receiver
+        → AreReplayed p q x y a.entry b.entry watch.old
+        → IsOpened pieces p q x.cut both.0 × IsOpened pieces q p y.cut both.1 × IsHeard p q both.0.stage both.1.stage watch.new) }
 {
     go_through(marks, &mut a, &mut b, watch, buffer)?;
-    let of_a = a.finish(Side::A, watch, buffer)?;
-    let of_b = b.finish(Side::B, watch, buffer)?;
+    let of_a = finish(a, Side::A, watch, buffer)?;
+    let of_b = finish(b, Side::B, watch, buffer)?;
     Ok((of_a, of_b))
 }

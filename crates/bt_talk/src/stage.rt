@@ -7,11 +7,13 @@ ghost use Rattle.bt_wire.specs.declared.context.Own.{Own};
 ghost use Rattle.bt_wire.specs.declared.item.Item.{Item};
 ghost use Rattle.bt_talk.specs.Pasts.{Past};
 ghost use Rattle.bt_talk.specs.Receivers.{IsReceiver};
-ghost use Rattle.bt_talk.specs.Watching.{Watches};
+ghost use Rattle.bt_talk.specs.Cuts.{IsLastIn};
+ghost use Rattle.bt_talk.specs.Watching.{IsLast, Watches};
 
 use crate::watch::Watch;
 use bt_intro::{Introduction, Receiver, receiver_of};
 use bt_judge::Judge;
+use bt_told::{Last, Said};
 use bt_wire::Own;
 use std::alloc::{AllocError, Global};
 
@@ -30,6 +32,28 @@ impl Judged {
     pub(crate) fn is_known(&self) -> bool {
         self.judge.free.refusal().is_none()
     }
+
+    /// Returns the last of the stream up to here: the refusal under the lenient rules, or else its last item, which is this one.
+    pub(crate) fn last(&self, item: &Option<Said>) -> Last
+        ensures { (own : Own) (b : List ℕ) (xs ys : List (ℕ × Item)) → AreJudged own b xs ys self.now.judge → IsLast xs item.now → IsLastIn own b result }
+    {
+        if let Some(refusal) = self.judge.free.refusal() {
+            return Last::Refused(refusal);
+        }
+        match item {
+            Some(said) => Last::Item(*said),
+            None => Last::Nothing,
+        }
+    }
+}
+
+/// What a side had sent when the connection was closed.
+#[derive(Clone, Copy)]
+pub(crate) struct Cut {
+    /// How many bytes of its stream were put together.
+    pub(crate) length: u64,
+    /// The last of these, once they are judged.
+    pub(crate) last: Last,
 }
 
 /// What is done with the bytes of one direction.

@@ -2,24 +2,25 @@
 ghost use Rattle.std.specs.Prelude.{◌≡◌, ◌<◌, ◌+◌, ◌^◌, ◌-◌, ℕ, List, Bool, true, false, length, not, min, IfOk, OnOk, OnErr, Option, alloc_error};
 ghost use Rattle.bt_talk.specs.Pasts.{Past, no_past, IsAcked, given_of as given_by};
 ghost use Rattle.bt_remarks.specs.declared.events.Side.{Side};
+ghost use Rattle.bt_remarks.specs.declared.events.Side.TheVariants.{A, B};
 ghost use Rattle.bt_talk.specs.Stages.{IsDirection, SpeaksAs, is_opening};
 ghost use Rattle.bt_talk.specs.Talks.{is_over as is_over_by, IsEnd, Turns};
 
 use crate::closing::{Closed, Closing, When, is_end, opens};
 use crate::direction::Direction;
 use crate::ends::Ends;
-use crate::replay::{Mark, judge_both};
+use crate::replay::{Mark, Opened, judge_both};
 use crate::room::Room;
-use crate::stage::{Stage, receiver_between};
+use crate::stage::receiver_between;
 use crate::watch::Watch;
 use bt_flow::Given;
 use bt_intro::{Receiver, is_settled};
 use bt_jobs::Announced;
 use bt_judge::Verdicts;
-use bt_packet::Segment;
+use bt_packet::{Flags, Segment};
 use bt_remarks::Side;
 use bt_tcp::Gaps;
-use bt_told::Remarked;
+use bt_told::{Last, Remarked};
 use bt_wire::Handshake;
 use std::alloc::{AllocError, Global};
 
@@ -47,6 +48,7 @@ fn hear(to: &mut Direction, segment: &Segment)
     ensures heard { (pieces : Option ℕ) (p other : Past) → segment.now.flags.rst ≡ false → IsDirection pieces p other to.old
         → (q : Past) × IsDirection pieces q other to.new × IsAcked segment.now p q × (q.front ≡ p.front) }
     ensures stage { to.new.stage ≡ to.old.stage }
+    ensures cut { to.new.cut ≡ to.old.cut }
 {
     if let Some(acked) = segment.acked {
         to.hear(acked, segment.flags.syn);
@@ -70,6 +72,8 @@ fn turn(
         × SpeaksAs side from.old.stage p watch.old from.new.stage t.p' watch.new) }
     ensures from { OnOk result (is_opening from.new.stage ≡ is_opening from.old.stage) }
     ensures to { OnOk result (to.new.stage ≡ to.old.stage) }
+    ensures cut { OnOk result (from.new.cut ≡ from.old.cut) }
+    ensures cut_to { OnOk result (to.new.cut ≡ to.old.cut) }
 {
     if segment.flags.rst {
         return Ok(());
@@ -134,9 +138,11 @@ impl Talk {
     ghost use Rattle.bt_tcp.specs.Heard.{opening_of};
     ghost use Rattle.bt_talk.specs.Closing.{Closes, still_open, high_at, is_quiet, opens_by};
     ghost use Rattle.bt_talk.specs.Ends.{ends_by};
-    ghost use Rattle.bt_talk.specs.Talks.{IsTalk, Exchanges, Takes, Settles, ends_of, pieces_of, closing_of, IsSender, is_in_opening, is_lost, flow_of, direction_of, of_side};
+    ghost use Rattle.bt_talk.specs.Talks.{IsTalk, Exchanges, Takes, Settles, ends_of, pieces_of, closing_of, IsSender, is_in_opening, is_lost, flow_of, cut_of, direction_of, of_side};
     ghost use Rattle.bt_talk.specs.Receivers.{AreVerdicts, IsReceiverNow};
-    ghost use Rattle.bt_talk.specs.Stages.{IsStage, IsHeard};
+    ghost use Rattle.bt_talk.specs.Cuts.{IsLastBefore, cut_after};
+    ghost use Rattle.bt_talk.specs.Replays.{IsOpened};
+    ghost use Rattle.bt_talk.specs.Stages.{IsHeard};
     ghost use Rattle.bt_talk.specs.Watching.{AreRemarked};
 
     /// Returns the connection that begins with a segment, of which nothing was taken yet.
@@ -168,6 +174,7 @@ impl Talk {
     fn exchange(&mut self, segment: &Segment, room: &mut Room) -> Result<(), AllocError>
         ensures taken { OnOk result ((a b : Past) → IsTalk a b self.old → Exchanges segment.now a b self.old self.new) }
         ensures opening { OnOk result (is_in_opening self.new ≡ is_in_opening self.old) }
+        ensures cuts { OnOk result ((side : Side) → cut_of side self.new ≡ cut_of side self.old) }
         ensures ends { self.new.ends ≡ self.old.ends }
         ensures pieces { self.new.pieces ≡ self.old.pieces }
         ensures closing { self.new.closing ≡ self.old.closing }
@@ -231,24 +238,26 @@ impl Talk {
     }
 
     /// Judges what came in the opening, each side by its receiver.
-    fn judge_opening(&mut self, room: &mut Room) -> Result<(Stage, Stage), AllocError>
-        ensures open { IfOk result (λ stages. (is_opening stages.0 ≡ false) × (is_opening stages.1 ≡ false)) }
-        ensures judged { IfOk result (λ stages. (a b : Past) → IsTalk a b self.old → is_in_opening self.old ≡ true
-            → IsStage self.old.pieces a b stages.0 × IsStage self.old.pieces b a stages.1 × IsHeard a b stages.0 stages.1 self.new.watch) }
+    fn judge_opening(&mut self, room: &mut Room) -> Result<(Opened, Opened), AllocError>
+        ensures open { IfOk result (λ both. (is_opening both.0.stage ≡ false) × (is_opening both.1.stage ≡ false)) }
+        ensures judged { IfOk result (λ both. (a b : Past) → IsTalk a b self.old → is_in_opening self.old ≡ true
+            → IsOpened self.old.pieces a b (cut_of A self.old) both.0 × IsOpened self.old.pieces b a (cut_of B self.old) both.1
+            × IsHeard a b both.0.stage both.1.stage self.new.watch) }
         ensures rest { self.new ≡ record self.old { watch = self.new.watch } }
     {
         let of_a = receiver_between(&self.b.intro, &self.a.intro, self.pieces);
         let of_b = receiver_between(&self.a.intro, &self.b.intro, self.pieces);
         let a = self.a.replay(self.alloc, of_a)?;
         let b = self.b.replay(self.alloc, of_b)?;
-        let stages = judge_both(a, b, &self.marks, &mut self.watch, &mut room.buffer)?;
-        Ok(stages)
+        let both = judge_both(a, b, &self.marks, &mut self.watch, &mut room.buffer)?;
+        Ok(both)
     }
 
     /// Gives each side its receiver, and judges what came in the opening.
     fn open(&mut self, room: &mut Room) -> Result<(), AllocError>
         ensures open { OnOk result (is_in_opening self.new ≡ false) }
         ensures kept { OnOk result ((a b : Past) → IsTalk a b self.old → IsTalk a b self.new) }
+        ensures cuts { OnOk result ((a b : Past) (side : Side) → IsTalk a b self.old → cut_of side self.new ≡ cut_of side self.old) }
         ensures flows { OnOk result ((side : Side) → flow_of side self.new ≡ flow_of side self.old) }
         ensures ends { self.new.ends ≡ self.old.ends }
         ensures pieces { self.new.pieces ≡ self.old.pieces }
@@ -259,8 +268,8 @@ impl Talk {
             return Ok(());
         }
         let (of_a, of_b) = self.judge_opening(room)?;
-        self.a.stage = of_a;
-        self.b.stage = of_b;
+        self.a.open(of_a);
+        self.b.open(of_b);
         self.marks = Vec::new(self.alloc);
         Ok(())
     }
@@ -269,6 +278,7 @@ impl Talk {
     fn settle(&mut self, room: &mut Room) -> Result<(), AllocError>
         ensures settles { OnOk result ((a b : Past) → IsTalk a b self.old → Settles a b self.old self.new) }
         ensures after { OnOk result (is_in_opening self.old ≡ false → is_in_opening self.new ≡ false) }
+        ensures cuts { OnOk result ((a b : Past) (side : Side) → IsTalk a b self.old → cut_of side self.new ≡ cut_of side self.old) }
         ensures flows { OnOk result ((side : Side) → flow_of side self.new ≡ flow_of side self.old) }
         ensures ends { self.new.ends ≡ self.old.ends }
         ensures pieces { self.new.pieces ≡ self.old.pieces }
@@ -284,6 +294,25 @@ impl Talk {
         }
         self.open(room)?;
         Ok(())
+    }
+
+    /// Notes what both sides had sent, if these flags close the connection first.
+    fn cut(&mut self, flags: Flags)
+        ensures kept { (a b : Past) → IsTalk a b self.old → IsTalk a b self.new }
+        ensures cuts { (a b : Past) (side : Side) → IsTalk a b self.old
+            → cut_of side self.new ≡ cut_after flags self.old.closing.closed (length (of_side side a b).out) (cut_of side self.old) }
+        ensures flows { (side : Side) → flow_of side self.new ≡ flow_of side self.old }
+        ensures opening { is_in_opening self.new ≡ is_in_opening self.old }
+        ensures ends { self.new.ends ≡ self.old.ends }
+        ensures pieces { self.new.pieces ≡ self.old.pieces }
+        ensures closing { self.new.closing ≡ self.old.closing }
+        ensures segments { self.new.segments ≡ self.old.segments }
+        ensures is_lost { self.new.is_lost ≡ self.old.is_lost }
+    {
+        if self.closing.closes_first(flags) {
+            self.a.close(&self.watch.a.last);
+            self.b.close(&self.watch.b.last);
+        }
     }
 
     /// Notes whether a segment closes the connection, and whether that is over.
@@ -328,6 +357,7 @@ impl Talk {
         self.is_lost = true;
         self.exchange(segment, room)?;
         self.keep_mark(segment)?;
+        self.cut(segment.flags);
         self.note(segment, when);
         self.settle(room)?;
         self.is_lost = false;
@@ -340,6 +370,7 @@ impl Talk {
     /// `AllocError` when out of memory. The connection is lost then.
     pub fn end_opening(&mut self, room: &mut Room) -> Result<(), AllocError>
         ensures kept { OnOk result ((a b : Past) → IsTalk a b self.old → IsTalk a b self.new) }
+        ensures cuts { OnOk result ((a b : Past) (side : Side) → IsTalk a b self.old → cut_of side self.new ≡ cut_of side self.old) }
         ensures flows { OnOk result ((side : Side) → flow_of side self.new ≡ flow_of side self.old) }
         ensures over { OnOk result (is_in_opening self.new ≡ false) }
         ensures there { OnOk result (is_lost self.new ≡ false) }
@@ -508,6 +539,16 @@ impl Talk {
             Some(closed) => Some(closed.high(side).saturating_sub(start as u64)),
             None => None,
         }
+    }
+
+    /// Returns the last that a side had sent at the first FIN or RST, from its handshake on.
+    ///
+    /// It is that of the bytes that were put together then. In the opening there is none.
+    pub fn last_before_close(&self, side: Side) -> Option<Last>
+        ensures { (a b : Past) → IsTalk a b self.now → IsLastBefore (is_in_opening self.now) (pieces_of self.now) (of_side side a b) (of_side (other side) a b)
+            (cut_of side self.now) result }
+    {
+        self.direction(side).last_before()
     }
 
     /// Tells whether the connection is over at this time, so that no segment of it is awaited.

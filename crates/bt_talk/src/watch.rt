@@ -197,6 +197,16 @@ impl Watch {
         }
     }
 
+    /// Returns the last item of the side whose bytes are read.
+    pub(crate) fn last(&self) -> &Option<Said>
+        ensures { result.now ≡ (notes_of self.now.side self.now).last }
+    {
+        match self.side {
+            Side::A => &self.a.last,
+            Side::B => &self.b.last,
+        }
+    }
+
     /// Returns the items of a side with a remark.
     pub(crate) fn remarked(&self, side: Side) -> Remarked
         ensures { (events : List Told) (items : Side → List (ℕ × Item)) → IsWatched events items self.now

@@ -12,5 +12,7 @@ returns-clause-heard c = λ pieces p other d.
         later = d.later;
         front = d.front;
         stage = stage_same pieces p other _ other c.args.self.now.stage refl refl refl d.stage;
+        within = d.within;
+        cut = d.cut;
       },
     )

@@ -7,7 +7,8 @@ use Rattle.bt_talk.specs.Stages.{is_opening, AreItemsIn}
 use Rattle.bt_talk.specs.Talks.{IsSender}
 use Rattle.bt_talk.specs.Watching.{tell, with_items}
 use Rattle.bt_talk.proofs.Items.{items_stay}
-use Rattle.bt_talk.proofs.Talks.{acked_same}
+use Rattle.bt_talk.specs.Cuts.{cut_length}
+use Rattle.bt_talk.proofs.Talks.{acked_same, cuts_same}
 use Rattle.bt_talk.proofs.talk.Talk.exchange.Goals as goal
 
 pub returns-in_ok-turn-in-A-clause-taken : goal.returns-in_ok-turn-in-A-clause-taken
@@ -71,3 +72,11 @@ returns-in_ok-turn-in-B-clause-taken c = λ a b t.
       sent = subst (λ (o : Bool). HasSent c.args.segment.now o b self.b.flow r.p' c.turn-in-B.new.from.flow) (sym t.stages) r.sent;
       acked = r.acked;
     }
+
+pub returns-in_ok-turn-in-A-clause-cuts : goal.returns-in_ok-turn-in-A-clause-cuts
+returns-in_ok-turn-in-A-clause-cuts c = λ side.
+    cuts_same side c.args.self.now _ (ap cut_length c.in_ok-turn-in-A.ensures.cut) (ap cut_length c.in_ok-turn-in-A.ensures.cut_to)
+
+pub returns-in_ok-turn-in-B-clause-cuts : goal.returns-in_ok-turn-in-B-clause-cuts
+returns-in_ok-turn-in-B-clause-cuts c = λ side.
+    cuts_same side c.args.self.now _ (ap cut_length c.in_ok-turn-in-B.ensures.cut_to) (ap cut_length c.in_ok-turn-in-B.ensures.cut)

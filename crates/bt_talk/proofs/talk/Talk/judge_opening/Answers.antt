@@ -2,6 +2,7 @@ use Rattle.std.proofs.Common.{◌∙◌, ℕ, List, sym, subst}
 use Rattle.bt_remarks.specs.declared.events.Side.TheVariants.{A, B}
 use Rattle.bt_wire.specs.declared.item.Item.{Item}
 use Rattle.bt_talk.specs.Replays.{IsReplay}
+use Rattle.bt_talk.specs.Talks.{cut_of}
 use Rattle.bt_talk.proofs.Items.{opening_items}
 use Rattle.bt_talk.proofs.talk.Talk.judge_opening.Goals as goal
 
@@ -14,11 +15,12 @@ returns-clause-judged c = λ a b t o.
     let y = c.in_ok-b.ensures self.pieces b a (sym t.stages ∙ o) t.b_is rb in
     let no_a = opening_items self.a.stage a (t.said.items A) o t.said.a_items in
     let no_b = opening_items self.b.stage b (t.said.items B) (sym t.stages ∙ o) t.said.b_items in
-    c.in_ok-stages.ensures.judged self.pieces a b c.receiver_between-of_a.result c.receiver_between-of_b.result ra rb
+    c.in_ok-both.ensures.judged self.pieces a b (record { receiver = c.receiver_between-of_a.result; cut = cut_of A self })
+    (record { receiver = c.receiver_between-of_b.result; cut = cut_of B self }) ra rb
     (record {
       events = t.said.events;
       items = t.said.items;
-      a_is = subst (λ (l : List (ℕ × Item)). IsReplay a c.receiver_between-of_a.result l c.in_ok-a.a) (sym no_a) x;
-      b_is = subst (λ (l : List (ℕ × Item)). IsReplay b c.receiver_between-of_b.result l c.in_ok-b.b) (sym no_b) y;
+      a_is = subst (λ (l : List (ℕ × Item)). IsReplay a c.receiver_between-of_a.result (cut_of A self) l c.in_ok-a.a) (sym no_a) x;
+      b_is = subst (λ (l : List (ℕ × Item)). IsReplay b c.receiver_between-of_b.result (cut_of B self) l c.in_ok-b.b) (sym no_b) y;
       watched = t.said.watched;
     })

@@ -1,5 +1,5 @@
-use Rattle.std.proofs.Common.{◌≡◌, ◌∙◌, ◌+◌, ◌-◌, ◌^◌, min, true, false, not, sym, ap, arith}
-use Rattle.bt_talk.proofs.Talks.{end_same}
+use Rattle.std.proofs.Common.{◌≡◌, ◌∙◌, ◌+◌, ◌-◌, ◌^◌, min, true, false, not, refl, sym, ap, arith}
+use Rattle.bt_talk.proofs.Talks.{end_same, both_same}
 use Rattle.bt_talk.proofs.talk.Talk.settle.Goals as goal
 
 pub returns-then-not-is_opening-clause-settles : goal.returns-then-not-is_opening-clause-settles
@@ -25,3 +25,8 @@ returns-clause-settles c = λ a b t. record {
       let n : c.saturating_add-self.result ≡ min (c.args.self.now.segments + 1) (2 ^ 32 - 1) = omega (arith, c.saturating_add-self.ensures) in
       end_same a b c.saturating_add-self.result _ c.is_over.result _ n (c.if-not-is_over.false ∙ sym (ap not c.in_ok-open.ensures.open)) i;
 }
+
+pub returns-clause-cuts : goal.returns-clause-cuts
+returns-clause-cuts c = λ a b side t.
+    c.in_ok-open.ensures.cuts a b side (record { a_is = t.a_is; b_is = t.b_is; stages = t.stages; said = t.said })
+    ∙ both_same side c.args.self.now _ refl refl
