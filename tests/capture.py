@@ -4,7 +4,7 @@
 usage: tests/capture.py [PROGRAM]
 
 PROGRAM is the built bt_tool, or else the script at the top of the repository. The expected reports are those that tests/btcap.py
-states, without the lines that only btcap has: remarks, what a side had sent when the other closed, sentences on reasons, and uTP.
+states, without the lines that only btcap has: requests that got no answer, sentences on reasons, and uTP.
 """
 import importlib.machinery
 import importlib.util
@@ -18,7 +18,7 @@ sys.dont_write_bytecode = True
 ROOT = os.path.dirname(os.path.dirname(os.path.abspath(__file__)))
 # Options that only btcap has.
 OTHERS = {"--show", "--torrent", "--tool", "--piece"}
-ONLY_BTCAP = re.compile(r"  [AB] sent (?!\d+ bytes and no whole handshake)|    [AB] had sent |    why |uTP ")
+ONLY_BTCAP = re.compile(r"  [AB] sent .* that got no answer|    why |uTP ")
 # The status of a file that is no capture: a fault, as in all commands of bt_tool.
 FAULT = {2: 3}
 

@@ -1,21 +1,28 @@
 -- A report on a connection says what was captured of it.
-use Rattle.std.specs.Prelude.{◌≡◌, ℕ, ◌-◌, ◌⊎◌, Bool, true, false, List, length, Option, Some, None, unwrap_or, ◌==◌, map, take, if◌then◌else◌}
+use Rattle.std.specs.Prelude.{◌≡◌, ℕ, ◌-◌, ◌⊎◌, Bool, true, false, List, length, Option, Some, None, option_map, unwrap_or, ◌==◌, map, take, if◌then◌else◌}
 use Rattle.bt_flow.specs.Flows.{AreGapsOf, conflicts_in}
 use Rattle.bt_intro.specs.Hellos.{IsStartOf, IsFirstHello}
 use Rattle.bt_intro.specs.Hearing.{IsSaid}
 use Rattle.bt_intro.specs.Listening.{handshake_of, last_client}
+use Rattle.bt_intro.specs.declared.settling.Receiver.{Receiver}
 use Rattle.bt_jobs.specs.Others.{first_of}
 use Rattle.bt_remarks.specs.declared.events.Side.{Side}
 use Rattle.bt_remarks.specs.declared.events.Side.TheVariants.{A, B}
 use Rattle.bt_remarks.specs.Said.{other}
 use Rattle.bt_talk.specs.Pasts.{Past}
 use Rattle.bt_talk.specs.Receivers.{AreVerdicts, IsReceiverNow}
-use Rattle.bt_talk.specs.Talks.{of_side, flow_of, is_in_opening, pieces_of, ends_of, closing_of}
+use Rattle.bt_talk.specs.Closing.{high_at}
+use Rattle.bt_talk.specs.Cuts.{IsLastBefore}
+use Rattle.bt_talk.specs.Talks.{IsTalk, of_side, flow_of, cut_of, is_in_opening, pieces_of, ends_of, closing_of}
+use Rattle.bt_talk.specs.Watching.{AreRemarked}
 use Rattle.bt_talk.specs.declared.talk.Talk.{Talk}
 use Rattle.bt_tcp.specs.declared.covered.Gap.{Gap}
 use Rattle.bt_tcp.specs.declared.covered.Gaps.{Gaps}
 use Rattle.bt_talk.specs.declared.closing.Closed.{Closed as FirstClose}
+use Rattle.bt_told.specs.declared.report.Before.{Before}
 use Rattle.bt_told.specs.declared.report.Closed.{Closed}
+use Rattle.bt_told.specs.declared.report.Last.{Last}
+use Rattle.bt_told.specs.declared.report.Remarked.{Remarked}
 use Rattle.bt_told.specs.declared.report.Means.{Means}
 use Rattle.bt_told.specs.declared.report.Means.TheVariants.{Fin, Rst}
 use Rattle.bt_told.specs.declared.report.Body.{Body}
@@ -99,15 +106,54 @@ HasBegun a b false = IsStartOf a None × IsStartOf b None
 abbrev pub means_by : Bool → Means
 means_by reset = if reset then Rst else Fin
 
+-- what is kept of the side's stream
+abbrev pub IsReceiverOf : Side → Past → Past → Talk → Option Receiver → Type 0
+IsReceiverOf side a b t r = IsReceiverNow (is_in_opening t) (pieces_of t) (of_side side a b) (of_side (other side) a b) r
+
+-- how far the side's captured bytes reached at the first FIN or RST, from its handshake on
+abbrev pub IsSentBefore : Side → Past → Past → Talk → Option ℕ → Type 0
+IsSentBefore side a b t sent =
+    (start : Option ℕ) × IsStartOf (of_side side a b).front start
+    × (sent ≡ option_map (λ c. high_at side c - unwrap_or start 0) (closing_of t).closed)
+
+-- the last of what was put together then
+abbrev pub IsLastOfSide : Side → Past → Past → Talk → Option Last → Type 0
+IsLastOfSide side a b t last =
+    IsLastBefore (is_in_opening t) (pieces_of t) (of_side side a b) (of_side (other side) a b) (cut_of side t) last
+
+-- What a side had sent then; nothing is told if it has no whole handshake.
+abbrev pub IsBeforeOf : Side → Past → Past → Talk → Option Before → Type 0
+IsBeforeOf side a b t None = IsReceiverOf side a b t None ⊎ (IsSentBefore side a b t None ⊎ IsLastOfSide side a b t None)
+IsBeforeOf side a b t (Some before) = IsSentBefore side a b t (Some before.sent) × IsLastOfSide side a b t (Some before.last)
+
 -- The first FIN or RST; its time counts from the capture's start.
-abbrev pub closed_by : ℕ → Option FirstClose → Option Closed
-closed_by from None = None
-closed_by from (Some c) = Some (record { first = c.side; by = means_by c.by_reset; at = c.when.nanos - from; a = None; b = None })
+pub record IsClosing (from : ℕ) (a b : Past) (t : Talk) (c : FirstClose) (r : Closed) : Type 0 where
+  pub first : r.first ≡ c.side
+  pub by : r.by ≡ means_by c.by_reset
+  pub at : r.at ≡ c.when.nanos - from
+  pub of_a : IsBeforeOf A a b t r.a
+  pub of_b : IsBeforeOf B a b t r.b
+
+abbrev pub IsClosedBy : ℕ → Past → Past → Talk → Option FirstClose → Option Closed → Type 0
+IsClosedBy from a b t None r = r ≡ None
+IsClosedBy from a b t (Some c) None = ⊥
+IsClosedBy from a b t (Some c) (Some r) = IsClosing from a b t c r
+
+abbrev pub no_remarks : Remarked
+no_remarks = record { unasked = None; choked = None; again = None; unanswered = None; elsewhere = None }
+
+-- The remarks are those on the items of both sides; there are none if a side has no whole handshake.
+abbrev pub AreRemarksOf : Past → Past → Talk → Remarked → Remarked → Type 0
+AreRemarksOf a b t x y =
+    ((i : IsTalk a b t) × AreRemarked A i.said.events (i.said.items A) x × AreRemarked B i.said.events (i.said.items B) y)
+    ⊎ ((x ≡ no_remarks) × (y ≡ no_remarks) × (IsReceiverOf A a b t None ⊎ IsReceiverOf B a b t None))
 
 -- It is a BitTorrent connection if a side has begun a handshake.
 abbrev pub IsBodyOf : ℕ → Past → Past → Talk → Body → Type 0
 IsBodyOf from a b t body.NotBitTorrent = HasBegun a.front b.front false
-IsBodyOf from a b t (body.Told r) = HasBegun a.front b.front true × IsDirectionOf A a b t r.a × IsDirectionOf B a b t r.b × (r.closed ≡ closed_by from (closing_of t).closed)
+IsBodyOf from a b t (body.Told r) =
+    HasBegun a.front b.front true × IsDirectionOf A a b t r.a × IsDirectionOf B a b t r.b × IsClosedBy from a b t (closing_of t).closed r.closed
+    × AreRemarksOf a b t r.remarked_a r.remarked_b
 
 -- The report says of the connection what was captured of both sides.
 pub record IsReportOf (n from : ℕ) (a b : Past) (t : Talk) (r : Report) : Type 0 where

@@ -1,15 +1,18 @@
 //! From a captured connection to its report.
-ghost use Rattle.std.specs.Prelude.{◌≡◌, ℕ, List, unwrap_or};
+ghost use Rattle.std.specs.Prelude.{◌≡◌, ◌&&◌, ℕ, List, is_some, unwrap_or};
 ghost use Rattle.bt_intro.specs.Hellos.{IsStartOf};
 ghost use Rattle.bt_talk.specs.Pasts.{Past};
 ghost use Rattle.bt_talk.specs.Talks.{IsTalk, closing_of};
 ghost use Rattle.bt_told.specs.Names.{title_text};
-ghost use Rattle.bt_capture.specs.Reportings.{IsReportOf, IsSenderOf, IsDirectionOf, IsBodyOf, HasBegun, offset_gap, shifted as shifted_by, title_by, means_by, closed_by};
+ghost use Rattle.bt_capture.specs.Reportings.{IsReportOf, IsSenderOf, IsDirectionOf, IsBodyOf, HasBegun, offset_gap, shifted as shifted_by, title_by, means_by, IsBeforeOf, IsClosedBy, AreRemarksOf};
 
+use bt_intro::Receiver;
 use bt_remarks::Side;
 use bt_talk::Talk;
 use bt_tcp::{Gap, Gaps};
-use bt_told::{Body, Closed, Direction, Judged, Means, Remarked, Report, Sender, Title, Told};
+use bt_told::{
+    Before, Body, Closed, Direction, Judged, Means, Remarked, Report, Sender, Title, Told,
+};
 use bt_wire::Handshake;
 
 /// No remark.
@@ -116,20 +119,49 @@ fn means(by_reset: bool) -> Means
     if by_reset { Means::Rst } else { Means::Fin }
 }
 
+/// Returns what a side had sent before the connection was closed, if it has a whole handshake.
+fn before_of(talk: &Talk, side: Side) -> Option<Before>
+    ensures { (a b : Past) → IsTalk a b talk.now → IsBeforeOf side a b talk.now result }
+{
+    if talk.receiver(side).is_none() {
+        return None;
+    }
+    let sent = talk.had_sent(side)?;
+    let last = talk.last_before_close(side)?;
+    Some(Before { sent, last })
+}
+
 /// Returns how a connection was closed. Its time counts from the capture's start.
 fn closed_of(talk: &Talk, from: u64) -> Option<Closed>
-    ensures { result ≡ closed_by from (closing_of talk.now).closed }
+    ensures { (a b : Past) → IsTalk a b talk.now → IsClosedBy from a b talk.now (closing_of talk.now).closed result }
 {
     match talk.closed() {
         Some(closed) => Some(Closed {
             first: closed.side,
             by: means(closed.by_reset),
             at: closed.when.nanos.saturating_sub(from),
-            a: None,
-            b: None,
+            a: before_of(talk, Side::A),
+            b: before_of(talk, Side::B),
         }),
         None => None,
     }
+}
+
+/// Tells whether both sides have a whole handshake.
+fn are_both_judged(a: &Option<Receiver>, b: &Option<Receiver>) -> bool
+    ensures { result ≡ (is_some a.now && is_some b.now) }
+{
+    a.is_some() && b.is_some()
+}
+
+/// Returns the remarks on what both sides sent. There are none if a side has no whole handshake.
+fn remarks_of(talk: &Talk) -> (Remarked, Remarked)
+    ensures { (a b : Past) → IsTalk a b talk.now → AreRemarksOf a b talk.now result.0 result.1 }
+{
+    if !are_both_judged(&talk.receiver(Side::A), &talk.receiver(Side::B)) {
+        return (UNREMARKED, UNREMARKED);
+    }
+    (talk.remarked(Side::A), talk.remarked(Side::B))
 }
 
 /// Returns what is known of a connection, in a capture that starts at this time.
@@ -138,19 +170,22 @@ pub fn body_of(talk: &Talk, from: u64) -> Body
 {
     match has_begun(talk.start(Side::A), talk.start(Side::B)) {
         false => Body::NotBitTorrent,
-        true => Body::Told(Told {
-            a: direction_of(talk, Side::A),
-            b: direction_of(talk, Side::B),
-            closed: closed_of(talk, from),
-            remarked_a: UNREMARKED,
-            remarked_b: UNREMARKED,
-        }),
+        true => {
+            let (remarked_a, remarked_b) = remarks_of(talk);
+            Body::Told(Told {
+                a: direction_of(talk, Side::A),
+                b: direction_of(talk, Side::B),
+                closed: closed_of(talk, from),
+                remarked_a,
+                remarked_b,
+            })
+        }
     }
 }
 
 /// Returns the report on a connection.
 ///
-/// Its verdicts are those of both streams, as far as they were captured. What was sent before it was closed, and remarks, aren't told.
+/// Its verdicts are those of both streams, as far as they were captured. Requests that got no answer aren't told.
 /// `from` is the time of the capture's first packet.
 pub fn report_of(talk: &Talk, number: u64, from: u64) -> Report
     ensures { (a b : Past) → IsTalk a b talk.now → IsReportOf number from a b talk.now result }
