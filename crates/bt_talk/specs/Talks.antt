@@ -12,6 +12,8 @@ use Rattle.bt_talk.specs.Pasts.{Past, HasSent, IsAcked}
 use Rattle.bt_talk.specs.declared.ends.Ends.{Ends}
 use Rattle.bt_talk.specs.declared.closing.Closing.{Closing}
 use Rattle.bt_talk.specs.declared.closing.When.{When}
+use Rattle.bt_wire.specs.declared.item.Item.{Item}
+use Rattle.bt_talk.specs.Watching.{GoesOn}
 use Rattle.bt_talk.specs.Closing.{Closes}
 use Rattle.bt_talk.specs.Cuts.{cut_length, cut_after}
 use Rattle.bt_talk.specs.Stages.{IsDirection, IsHeard, is_opening}
@@ -86,6 +88,13 @@ pub record Turns (s : Segment) (pieces : Option ℕ) (p q : Past) (d e d' e' : D
 -- This side sent the segment.
 abbrev pub IsSender : Segment → Talk → Side → Type 0
 IsSender s t side = (side ≡ A) ↔ (s.source ≡ t.ends.a)
+
+-- The sender's items that a segment completes follow all events that came before, of both sides.
+pub record HasSaid (s : Segment) (t t' : Talk) : Type 0 where
+  pub side : Side
+  pub is_side : IsSender s t side
+  pub items : List (ℕ × Item)
+  pub follow : GoesOn side items t.watch t'.watch
 
 -- One side sent a segment.
 pub record Exchanges (s : Segment) (a b : Past) (t t' : Talk) : Type 0 where

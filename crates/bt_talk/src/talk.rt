@@ -138,7 +138,7 @@ impl Talk {
     ghost use Rattle.bt_tcp.specs.Heard.{opening_of};
     ghost use Rattle.bt_talk.specs.Closing.{Closes, still_open, high_at, is_quiet, opens_by};
     ghost use Rattle.bt_talk.specs.Ends.{ends_by};
-    ghost use Rattle.bt_talk.specs.Talks.{IsTalk, Exchanges, Takes, Settles, ends_of, pieces_of, closing_of, IsSender, is_in_opening, is_lost, flow_of, cut_of, direction_of, of_side};
+    ghost use Rattle.bt_talk.specs.Talks.{IsTalk, HasSaid, Exchanges, Takes, Settles, ends_of, pieces_of, closing_of, IsSender, is_in_opening, is_lost, flow_of, cut_of, direction_of, of_side};
     ghost use Rattle.bt_talk.specs.Receivers.{AreVerdicts, IsReceiverNow};
     ghost use Rattle.bt_talk.specs.Cuts.{IsLastBefore, cut_after};
     ghost use Rattle.bt_talk.specs.Replays.{IsOpened};
@@ -175,6 +175,7 @@ impl Talk {
         ensures taken { OnOk result ((a b : Past) → IsTalk a b self.old → Exchanges segment.now a b self.old self.new) }
         ensures opening { OnOk result (is_in_opening self.new ≡ is_in_opening self.old) }
         ensures cuts { OnOk result ((side : Side) → cut_of side self.new ≡ cut_of side self.old) }
+        ensures order { OnOk result ((a b : Past) → IsTalk a b self.old → HasSaid segment.now self.old self.new) }
         ensures ends { self.new.ends ≡ self.old.ends }
         ensures pieces { self.new.pieces ≡ self.old.pieces }
         ensures closing { self.new.closing ≡ self.old.closing }
@@ -277,6 +278,7 @@ impl Talk {
     /// Ends the opening, if it is over.
     fn settle(&mut self, room: &mut Room) -> Result<(), AllocError>
         ensures settles { OnOk result ((a b : Past) → IsTalk a b self.old → Settles a b self.old self.new) }
+        ensures watch { OnOk result (is_in_opening self.old ≡ false → self.new.watch ≡ self.old.watch) }
         ensures after { OnOk result (is_in_opening self.old ≡ false → is_in_opening self.new ≡ false) }
         ensures cuts { OnOk result ((a b : Past) (side : Side) → IsTalk a b self.old → cut_of side self.new ≡ cut_of side self.old) }
         ensures flows { OnOk result ((side : Side) → flow_of side self.new ≡ flow_of side self.old) }
@@ -303,6 +305,7 @@ impl Talk {
             → cut_of side self.new ≡ cut_after flags self.old.closing.closed (length (of_side side a b).out) (cut_of side self.old) }
         ensures flows { (side : Side) → flow_of side self.new ≡ flow_of side self.old }
         ensures opening { is_in_opening self.new ≡ is_in_opening self.old }
+        ensures watch { self.new.watch ≡ self.old.watch }
         ensures ends { self.new.ends ≡ self.old.ends }
         ensures pieces { self.new.pieces ≡ self.old.pieces }
         ensures closing { self.new.closing ≡ self.old.closing }
@@ -345,6 +348,7 @@ impl Talk {
     /// `AllocError` when out of memory. The connection is lost then: it takes nothing more, and nothing is promised of what it tells.
     pub fn take(&mut self, segment: &Segment, when: When, room: &mut Room) -> Result<(), AllocError>
         ensures taken { OnOk result ((a b : Past) → IsTalk a b self.old → Takes segment.now when a b self.old self.new) }
+        ensures order { OnOk result ((a b : Past) → IsTalk a b self.old → is_in_opening self.old ≡ false → HasSaid segment.now self.old self.new) }
         ensures there { OnOk result (is_lost self.new ≡ false) }
         ensures lost { OnErr result (is_lost self.new ≡ true) }
         ensures stays { is_lost self.old ≡ true → result ≡ Err alloc_error }

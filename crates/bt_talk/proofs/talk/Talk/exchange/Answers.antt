@@ -80,3 +80,27 @@ returns-in_ok-turn-in-A-clause-cuts c = λ side.
 pub returns-in_ok-turn-in-B-clause-cuts : goal.returns-in_ok-turn-in-B-clause-cuts
 returns-in_ok-turn-in-B-clause-cuts c = λ side.
     cuts_same side c.args.self.now _ (ap cut_length c.in_ok-turn-in-B.ensures.cut_to) (ap cut_length c.in_ok-turn-in-B.ensures.cut)
+
+pub returns-in_ok-turn-in-A-clause-order : goal.returns-in_ok-turn-in-A-clause-order
+returns-in_ok-turn-in-A-clause-order c = λ a b t.
+    let self = c.args.self.now in
+    let x = c.in_ok-turn-in-A.ensures.taken self.pieces a b t.a_is t.b_is t.stages in
+    let s = x.1 (t.said.items A) t.said.a_items in
+    record {
+      side = A;
+      is_side = subst (λ (k : Side). IsSender c.args.segment.now self k) c.in-A.is c.sender.ensures;
+      items = s.0;
+      follow = s.2;
+    }
+
+pub returns-in_ok-turn-in-B-clause-order : goal.returns-in_ok-turn-in-B-clause-order
+returns-in_ok-turn-in-B-clause-order c = λ a b t.
+    let self = c.args.self.now in
+    let x = c.in_ok-turn-in-B.ensures.taken self.pieces b a t.b_is t.a_is (sym t.stages) in
+    let s = x.1 (t.said.items B) t.said.b_items in
+    record {
+      side = B;
+      is_side = subst (λ (k : Side). IsSender c.args.segment.now self k) c.in-B.is c.sender.ensures;
+      items = s.0;
+      follow = s.2;
+    }

@@ -6,6 +6,8 @@ use Rattle.bt_talk.specs.declared.ends.Ends.{Ends}
 use Rattle.bt_talk.specs.declared.closing.Closed.{Closed}
 use Rattle.bt_talk.specs.declared.closing.Closing.{Closing}
 use Rattle.bt_talk.specs.declared.talk.Talk.{Talk}
+use Rattle.bt_talk.specs.declared.watch.Watch.{Watch}
+use Rattle.bt_talk.specs.Watching.{GoesOn}
 use Rattle.bt_talk.specs.Cuts.{cut_after}
 use Rattle.bt_talk.specs.Talks.{IsTalk, is_in_opening, flow_of, cut_of, of_side}
 use Rattle.bt_talk.proofs.Closes.{closes_same}
@@ -60,4 +62,18 @@ returns-clause-taken c = λ a b t.
           ∙ ap (λ (o : Option Closed). cut_after c.args.segment.now.flags o (length (of_side side x.a' x.b').out) (cut_of side c.keep_mark.new.self))
           (ap (λ (k : Closing). k.closed) closing)
           ∙ ap (λ (o : Option ℕ). cut_after c.args.segment.now.flags self.closing.closed (length (of_side side x.a' x.b').out) o) (cuts side);
+    }
+
+pub returns-clause-order : goal.returns-clause-order
+returns-clause-order c = λ a b t o.
+    let x = c.in_ok-exchange.ensures.order a b (record { a_is = t.a_is; b_is = t.b_is; stages = t.stages; said = t.said }) in
+    let same = c.keep_mark.ensures in
+    let was = ap is_in_opening c.note.ensures.rest ∙ c.cut.ensures.opening ∙ ap is_in_opening same ∙ c.in_ok-exchange.ensures.opening in
+    let watch = c.in_ok-settle.ensures.watch (was ∙ o) ∙ ap (λ (k : Talk). k.watch) c.note.ensures.rest ∙ c.cut.ensures.watch
+    ∙ ap (λ (k : Talk). k.watch) same in
+    record {
+      side = x.side;
+      is_side = x.is_side;
+      items = x.items;
+      follow = subst (λ (w : Watch). GoesOn x.side x.items c.args.self.now.watch w) (sym watch) x.follow;
     }
