@@ -1,6 +1,6 @@
 //! Printing of the hint for a refused stream, or for a script.
-ghost use Rattle.std.specs.Prelude.{◌≡◌, IfSome, true};
-ghost use Rattle.bt_run.specs.Hinting.{IsHinted, IsHintText, are_wanted as are_wanted_by_rule};
+ghost use Rattle.std.specs.Prelude.{◌≡◌, IfOk, option_map};
+ghost use Rattle.bt_run.specs.Hinting.{IsHinted, IsHintIf, are_wanted as are_wanted_by_rule};
 
 use crate::commands::Hints;
 use crate::hint::{WINDOW, hint_line, hint_of};
@@ -8,7 +8,7 @@ use crate::run::{JobEnd, say};
 use bt_feed::Target;
 use bt_jobs::pack_hint;
 use bt_text::ended::Ended;
-use std::alloc::Global;
+use std::alloc::{AllocError, Global};
 
 /// Returns whether a hint is printed.
 ///
@@ -23,39 +23,47 @@ pub fn are_wanted(hints: Hints, is_terminal: bool) -> bool
     }
 }
 
-/// Returns the line of the hint that the input's first bytes give.
-///
-/// `None` if no hint is wanted, if the bytes give none, and if the program is out of memory.
-fn hint_text(alloc: Global, is_wanted: bool, end: JobEnd, window: &[u8]) -> Option<Vec<u8>>
-    ensures { IfSome result (λ line. (is_wanted ≡ true) × IsHintText end window.now line.items) }
+/// Returns the line of the hint that the input's first bytes give, if one is wanted.
+fn hint_text(
+    alloc: Global,
+    is_wanted: bool,
+    end: JobEnd,
+    window: &[u8],
+) -> Result<Option<Vec<u8>>, AllocError>
+    ensures { IfOk result (λ hint. IsHintIf is_wanted end window.now (option_map (λ v. v.items) hint)) }
 {
     if !is_wanted {
-        return None;
+        return Ok(None);
     }
     match end {
-        JobEnd::Stream(Ok(Ended::Refused(refusal))) => {
-            let hint = hint_of(window, refusal.at)?;
-            hint_line(alloc, hint).ok()
-        }
+        JobEnd::Stream(Ok(Ended::Refused(refusal))) => match hint_of(window, refusal.at) {
+            Some(hint) => Ok(Some(hint_line(alloc, hint)?)),
+            None => Ok(None),
+        },
         JobEnd::Script(Ok(end)) => pack_hint(alloc, end, window, window.len() < WINDOW),
-        _ => None,
+        _ => Ok(None),
     }
 }
 
 /// Prints on standard error the hint for a refused stream or script.
 ///
-/// Nothing is printed if no hint is wanted, or if the input's first bytes give none.
+/// Nothing is printed if no hint is wanted, or if the input's first bytes give none. Returns false when out of memory; nothing is
+/// printed then.
 pub fn say_hint<E: Target>(
     alloc: Global,
     is_wanted: bool,
     end: JobEnd,
     window: &[u8],
     errors: &mut E,
-)
-    ensures { IsHinted is_wanted end window.now (E.seen errors.old) (E.seen errors.new) }
+) -> bool
+    ensures { IsHinted is_wanted end window.now (E.seen errors.old) (E.seen errors.new) result }
 {
     match hint_text(alloc, is_wanted, end, window) {
-        Some(line) => say(line.as_slice(), errors),
-        None => say(b"", errors),
+        Ok(Some(line)) => {
+            say(line.as_slice(), errors);
+            true
+        }
+        Ok(None) => true,
+        Err(_) => false,
     }
 }

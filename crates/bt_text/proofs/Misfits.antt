@@ -1,9 +1,9 @@
 -- Walking through a line of a script, word by word.
-use Rattle.std.proofs.Common.{◌≡◌, ℕ, ◌+◌, ◌<◌, ◌≤◌, Bool, true, false, List, [], ◌∷◌, ◌++◌, length, drop, get_or, refl, sym, ap, subst, ◌∙◌, arith}
+use Rattle.std.proofs.Common.{◌≡◌, ℕ, ◌+◌, ◌<◌, ◌≤◌, Bool, true, false, ◌==◌, inl, inr, List, [], ◌∷◌, ◌++◌, length, drop, get_or, refl, sym, ap, subst, ◌∙◌, arith}
 use Rattle.std.proofs.Common.{Option, Some, None}
 use Rattle.std.specs.Prelude.{codes, decimal, option_map}
 use Rattle.std.specs.Str.{bytes_eq}
-use Rattle.std.proofs.lemmas.Bool.{eqb-true}
+use Rattle.std.proofs.lemmas.Bool.{cases_Bool, eqb-true}
 use Rattle.std.proofs.lemmas.Fmt.{decimal_digit}
 use Rattle.std.proofs.lemmas.Option.{same_Some}
 use Rattle.std.proofs.lemmas.Slice.Eq.{bytes_eq-Decides}
@@ -14,14 +14,14 @@ use Rattle.bt_wire.specs.declared.ids.Shape.TheVariants as shapes
 use Rattle.bt_wire.specs.Ids.{Id, ids, row_named}
 use Rattle.bt_wire.specs.Messages.{Fields, none, index, part, block, port, field, extended, spell_fields, AreInRange}
 use Rattle.bt_wire.specs.Numbers.{be32}
-use Rattle.bt_text.specs.Script.{SaysFields, shape_of, keep_alive, known, unknown, framed_by}
+use Rattle.bt_text.specs.Script.{has_no_space, SaysFields, shape_of, keep_alive, known, unknown, framed_by}
 use Rattle.std.proofs.lemmas.List.{append-nil, append_assoc, nil_from_length, drop_all, drop_more}
 use Rattle.bt_text.specs.ScriptReading.{word_of, after_word, ends}
-use Rattle.bt_text.specs.Misfits.{samples, expected_of, IsCompleted, IsCompletedOr, IsMisfit, IsMisfitOr, wrong_word, missing, too_many}
+use Rattle.bt_text.specs.Misfits.{IsShortNumber, IsDecimalBlock, samples, expected_of, IsCompleted, IsCompletedOr, IsMisfit, IsMisfitOr, wrong_word, missing, too_many}
 use Rattle.bt_text.specs.declared.script.misfit.Expected.{Expected}
 use Rattle.bt_text.specs.declared.script.misfit.Expected.TheVariants.{Reserved, InfoHash, PeerId, FreeId, Bytes, End}
 use Rattle.bt_text.proofs.ScriptLines.{line_in-Some}
-use Rattle.bt_text.proofs.ScriptWords.{word-parts}
+use Rattle.bt_text.proofs.ScriptWords.{word-parts, after_word-append}
 
 pub not_completed : (first : Bool) (front : List ℕ) (es : List Expected) (is : Bool) → is ≡ false → IsCompletedOr first front es is
     → IsCompleted first front es → ⊥
@@ -134,7 +134,29 @@ hand_completed name e =
     rw ((bytes_eq-Decides name (codes "handshake")).0 e)
     (_, line_in-Some true (codes "handshake" ++ samples (Reserved ∷ InfoHash ∷ PeerId ∷ [])) _ refl)
 
-pub block_parts : {text name one two three four : List ℕ} (i j hex : List ℕ) → name ++ one ≡ text → name ≡ codes "piece"
-    → one ≡ codes " " ++ (i ++ two) → two ≡ codes " " ++ (j ++ three) → three ≡ codes " " ++ (hex ++ four) → four ≡ []
-    → text ≡ codes "piece" ++ (codes " " ++ (i ++ (codes " " ++ (j ++ (codes " " ++ hex)))))
-block_parts i j hex whole n p q r last = sym whole ∙ (rw n (rw p (rw q (rw r (rw last (rw (append-nil hex) refl))))))
+pub spaceless : (t : List ℕ) → has_no_space (word_of t) ≡ true
+spaceless [] = refl
+spaceless (c ∷ cs) =
+    elim (cases_Bool (c == 32)) [
+      | inl e ↦ rw e refl
+      | inr e ↦ rw (e, e, spaceless cs) refl
+    ]
+
+-- a line of a piece, and what is read of one
+pub block_parts : (rest one hex : List ℕ) → after_word rest ≡ 32 ∷ one → after_word one ≡ 32 ∷ hex → IsShortNumber hex
+    → IsDecimalBlock (codes "piece " ++ rest) hex
+block_parts rest one hex p q short = record {
+  index = word_of rest;
+  begin = word_of one;
+  words = (spaceless rest, spaceless one);
+  parts = ap (λ (l : List ℕ). codes "piece " ++ l) (sym (word-parts rest)
+      ∙ ap (λ (l : List ℕ). word_of rest ++ l) (p ∙ ap (λ (l : List ℕ). 32 ∷ l) (sym (word-parts one) ∙ ap (λ (l : List ℕ). word_of one ++ l) q)));
+  number = short;
+}
+
+pub block_read : (rest hex : List ℕ) → IsDecimalBlock (codes "piece " ++ rest) hex → (one : List ℕ) × (after_word rest ≡ 32 ∷ one)
+    × (after_word one ≡ 32 ∷ hex)
+block_read rest hex h =
+    let one = h.begin ++ (32 ∷ hex) in
+    let same : rest ≡ h.index ++ (32 ∷ one) = ap (drop 6) h.parts in
+    (one, ap after_word same ∙ after_word-append h.index (32 ∷ one) h.words.0 refl, after_word-append h.begin (32 ∷ hex) h.words.1 refl)

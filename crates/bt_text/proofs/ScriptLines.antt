@@ -19,11 +19,11 @@ use Rattle.bt_wire.specs.Ids.{Id, ids, has_meaning, row_named}
 use Rattle.bt_wire.specs.Messages.{Fields, spell_fields}
 use Rattle.bt_wire.specs.Numbers.{be32, be64}
 use Rattle.bt_text.specs.Lines.{spaced}
-use Rattle.bt_text.specs.Script.{SaysSpaced, SaysFields, IsOfRow, Said, keep_alive, known, unknown, Says, framed_by, said_bytes, IsMessageLine}
+use Rattle.bt_text.specs.Script.{has_no_space, SaysSpaced, SaysFields, IsOfRow, Said, keep_alive, known, unknown, Says, framed_by, said_bytes, IsMessageLine}
 use Rattle.bt_text.specs.Script.{HasHandshakeWords, IsHandshakeLine, IsLine, IsAnswer, IsAdded}
 use Rattle.bt_text.specs.ScriptReading.{word_of, after_word, number_following, with_bytes, fields_in, payload_in, unknown_in, row_in_text, message_in}
 use Rattle.bt_text.specs.ScriptReading.{array_after, peer_in, info_in, handshake_in, bytes_of_parts, closed, line_in, Adds}
-use Rattle.bt_text.proofs.ScriptWords.{Stops, has_no_space, word-parts, word_of-append, after_word-append}
+use Rattle.bt_text.proofs.ScriptWords.{Stops, word-parts, word_of-append, after_word-append}
 use Rattle.bt_text.proofs.ScriptFields.{ok_of, option_map-Some, option_and_then-Some, closed-Some, is_space, number_following-Some, pair, number_following-spaced}
 use Rattle.bt_text.proofs.ScriptFields.{with_bytes-Some, with_bytes-says, Stops-says, fields_in-Some, fields_in-says, Stops-fields}
 

@@ -17,6 +17,7 @@ use Rattle.std.specs.List.{position_or_len}
 use Rattle.std.specs.Prelude.{nat_lt, position, unwrap_or, ⊤}
 use Rattle.std.specs.Str.{bytes_eq}
 use Rattle.std.specs.Str.Parse.{digits_value}
+use Rattle.bt_text.specs.Script.{has_no_space}
 use Rattle.bt_text.specs.ScriptReading.{word_of, after_word, ends, goes_on, number_in_word, first_number, IsLed, IsLeading}
 
 abbrev pub is_space : ℕ → Bool
@@ -62,10 +63,6 @@ word-parts (c ∷ cs) =
     ]
 
 -- ---- a word and what follows it
-
-abbrev pub has_no_space : List ℕ → Bool
-has_no_space [] = true
-has_no_space (c ∷ cs) = not (c == 32) && has_no_space cs
 
 -- nothing follows, or a space does
 abbrev pub Stops : List ℕ → Type 0

@@ -6,7 +6,7 @@ use Rattle.bt_wire.specs.declared.ids.Shape.{Shape}
 use Rattle.bt_wire.specs.declared.ids.Shape.TheVariants.{Nothing, Index, Part, Block, Field, Extended}
 use Rattle.bt_wire.specs.declared.ids.Shape.TheVariants as shapes
 use Rattle.bt_wire.specs.Ids.{ids, row_named}
-use Rattle.bt_text.specs.Script.{IsLine}
+use Rattle.bt_text.specs.Script.{IsLine, has_no_space}
 use Rattle.bt_text.specs.ScriptReading.{word_of}
 use Rattle.bt_text.specs.declared.script.misfit.Expected.{Expected}
 use Rattle.bt_text.specs.declared.script.misfit.Expected.TheVariants.{Handshake, Name, Reserved, InfoHash, PeerId, Number, Port, Byte, FreeId, Bytes, End}
@@ -76,7 +76,7 @@ IsNoName false name = (row_named name ids ≡ None) × (name ≡ codes "keep-ali
 -- of what is expected there and of what follows; with the word itself and samples of what follows they don't. If a word is missing,
 -- the text only begins a line. If a word is too many, the words before it are a line.
 pub data IsMisfit (first : Bool) (text : List ℕ) (m : Misfit) : Type 0 where
-  no_name : IsNoName first (word_of text) → m.column ≡ 1 → IsMisfit first text m
+  no_name : IsNoName first (word_of text) → m.column ≡ 1 → m.expected ≡ (if first then Handshake else Name) → IsMisfit first text m
   wrong_word : (front : List ℕ) → (rest : List ℕ) → (after : List Expected) → text ≡ front ++ (codes " " ++ rest)
       → IsCompleted first front (m.expected ∷ after) → (IsCompleted first (front ++ (codes " " ++ word_of rest)) after → ⊥)
       → m.column ≡ length front + 2 → IsMisfit first text m
@@ -102,11 +102,16 @@ pub record IsShortNumber (word : List ℕ) : Type 0 where
   pub digits : AllPass is_ascii_digit word
   pub size : (length word ≡ 2) ⊎ ((length word ≡ 4) ⊎ ((length word ≡ 6) ⊎ (length word ≡ 8)))
 
--- the line of a piece whose block has such digits of hex
-abbrev pub IsDecimalBlock : List ℕ → List ℕ → Type 0
-IsDecimalBlock text block =
-    (index : List ℕ) × (begin : List ℕ) × (text ≡ codes "piece" ++ (codes " " ++ (index ++ (codes " " ++ (begin ++ (codes " " ++ block))))))
-    × IsShortNumber block
+-- the line of a piece, with a word each for its index and its begin, whose block has such digits of hex
+pub record IsDecimalBlock (text block : List ℕ) : Type 0 where
+  pub index : List ℕ
+  pub begin : List ℕ
+  pub words : (has_no_space index ≡ true) × (has_no_space begin ≡ true)
+  pub parts : text ≡ codes "piece " ++ (index ++ (codes " " ++ (begin ++ (codes " " ++ block))))
+  pub number : IsShortNumber block
+
+abbrev pub HasNoDecimalBlock : List ℕ → Type 0
+HasNoDecimalBlock text = (block : List ℕ) → IsDecimalBlock text block → ⊥
 
 abbrev pub block_size : ℕ → List ℕ
 block_size n =

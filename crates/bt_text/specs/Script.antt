@@ -1,6 +1,6 @@
 -- The lines of a script: one for each item of a stream, with all of the item's bytes. What is written for an item stands
 -- first, and then, apart from it, which texts are lines and what bytes each names.
-use Rattle.std.specs.Prelude.{◌==◌, ◌||◌, ◌≡◌, ℕ, ◌+◌, ◌<◌, Bool, true, false, List, [], ◌∷◌, ◌++◌, length, codes, Option, Some, None, Ok}
+use Rattle.std.specs.Prelude.{◌==◌, ◌||◌, ◌&&◌, not, ◌≡◌, ℕ, ◌+◌, ◌<◌, Bool, true, false, List, [], ◌∷◌, ◌++◌, length, codes, Option, Some, None, Ok}
 use Rattle.std.specs.List.{flat_map}
 use Rattle.hex.specs.Hex.{encode_lower, decode_of}
 use Rattle.bt_ext.specs.Payloads.{payload_of}
@@ -22,6 +22,10 @@ use Rattle.bt_text.specs.Lines.{spaced, name_of, own_context, handshake_words}
 abbrev pub has_feed : List ℕ → Bool
 has_feed [] = false
 has_feed (c ∷ cs) = c == 10 || has_feed cs
+
+abbrev pub has_no_space : List ℕ → Bool
+has_no_space [] = true
+has_no_space (c ∷ cs) = not (c == 32) && has_no_space cs
 
 -- ---- the line that is written for an item
 

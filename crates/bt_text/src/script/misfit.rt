@@ -1,7 +1,7 @@
 //! The first word of a script's line that can't stand in its place, and what is expected there.
-ghost use Rattle.std.specs.Prelude.{◌≡◌, ◌++◌, codes, decimal, length, false, true, None, IfOk, IfSome, MatchOption, OnOk};
-ghost use Rattle.bt_text.specs.Misfits.{sample as sample_of, samples, expected_words as words_of, IsCompleted, IsCompletedOr, expected_of as words_of_fields, IsNoName, IsMisfitOr, misfit_line as line_of, IsShortNumber, IsDecimalBlock, block_size as size_of_block, block_line as block_line_of};
-ghost use Rattle.bt_text.specs.ScriptReading.{ends};
+ghost use Rattle.std.specs.Prelude.{◌≡◌, ◌↔◌, [], ◌∷◌, ◌++◌, decimal, length, false, true, None, IfOk, IsTrue, MatchOption, OnOk};
+ghost use Rattle.bt_text.specs.Misfits.{sample as sample_of, samples, expected_words as words_of, IsCompleted, IsCompletedOr, expected_of as words_of_fields, IsNoName, IsMisfitOr, misfit_line as line_of, IsShortNumber, HasNoDecimalBlock, IsDecimalBlock, block_size as size_of_block, block_line as block_line_of};
+ghost use Rattle.bt_text.specs.ScriptReading.{after_word, ends};
 
 use crate::script::numbers::{is, split_word};
 use crate::script::reading::{read_line, row_of};
@@ -247,38 +247,32 @@ pub fn push_misfit_line(number: u64, misfit: Misfit, line: &mut Vec<u8>) -> Resu
     Ok(())
 }
 
-/// Reads a space and a word, and returns the word and what follows it.
-fn next_word(text: &[u8]) -> Option<(&[u8], &[u8])>
-    ensures { IfSome result (λ p. text.now ≡ codes " " ++ (p.0.now ++ p.1.now)) }
+/// Returns what follows the first space.
+fn after_space(text: &[u8]) -> Option<&[u8]>
+    ensures { MatchOption result (after_word text.now ≡ []) (λ rest. after_word text.now ≡ 32 ∷ rest.now) }
 {
-    let (space, words) = text.split_first()?;
-    if *space != b' ' {
-        return None;
-    }
-    Some(split_word(words))
+    let (_, rest) = split_word(text);
+    let (_, rest) = rest.split_first()?;
+    Some(rest)
 }
 
 /// Returns whether a word is at most eight decimal digits, two for each byte.
 fn is_short_number(word: &[u8]) -> bool
-    ensures { result ≡ true → IsShortNumber word.now }
+    ensures { IsTrue result ↔ IsShortNumber word.now }
 {
     matches!(word.len(), 2 | 4 | 6 | 8) && word.iter().all(|byte| byte.is_ascii_digit())
 }
 
-/// Returns the hex of a short block that has only decimal digits.
+/// Returns the hex of a short block that has only decimal digits, as a length has.
 ///
-/// A length has such digits. `None` for another line.
+/// `None` for another line.
 pub fn decimal_block(text: &[u8]) -> Option<&[u8]>
-    ensures { IfSome result (λ block. IsDecimalBlock text.now block.now) }
+    ensures { MatchOption result (HasNoDecimalBlock text.now) (λ block. IsDecimalBlock text.now block.now) }
 {
-    let (name, rest) = split_word(text);
-    if !is(name, b"piece") {
-        return None;
-    }
-    let (_, rest) = next_word(rest)?;
-    let (_, rest) = next_word(rest)?;
-    let (block, rest) = next_word(rest)?;
-    if rest.is_empty() && is_short_number(block) {
+    let rest = text.strip_prefix(b"piece ")?;
+    let rest = after_space(rest)?;
+    let block = after_space(rest)?;
+    if is_short_number(block) {
         Some(block)
     } else {
         None

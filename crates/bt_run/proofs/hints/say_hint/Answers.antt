@@ -1,8 +1,5 @@
-use Rattle.std.proofs.Common.{ℕ, List, subst, inr}
-use Rattle.bt_run.specs.Runs.{IsSaid}
+use Rattle.std.proofs.Common.{Some}
 use Rattle.bt_run.proofs.hints.say_hint.Goals as goal
 
-pub returns-in-Some : goal.returns-in-Some
-returns-in-Some g c =
-    let P : List ℕ → Type 0 = λ l. IsSaid l (g.E.Target.seen c.args.errors.now) (g.E.Target.seen c.say.new.errors) in
-    (c.in-Some.line.items, inr c.in-Some.ensures, subst P c.as_slice.ensures.value c.say.ensures)
+pub returns-in-Ok-Some : goal.returns-in-Ok-Some
+returns-in-Ok-Some g c = (Some c.in-Ok-Some.line.items, rw (c.in-Ok-Some.is, c.in-Ok-Some.field-0-is) at c.hint_text.ensures, rw c.as_slice.ensures.value at c.say.ensures)
