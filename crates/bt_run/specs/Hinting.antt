@@ -1,5 +1,6 @@
 -- What standard error gets after a refused stream, and after a script, by the first bytes of the input.
-use Rattle.std.specs.Prelude.{◌≡◌, ℕ, List, [], length, nat_lt, Option, None, IfSome, unwrap_or, Ok, Err, Bool, true, false}
+use Rattle.std.specs.Prelude.{◌≡◌, ℕ, List, [], length, nat_lt, Option, None, IfSome, unwrap_or, Result, Ok, Err, MatchResult, Bool, true, false}
+use Rattle.std.specs.declared.alloc.AllocError.{AllocError}
 use Rattle.bt_text.specs.declared.ended.Ended.TheVariants as ends
 use Rattle.bt_io.specs.Seen.{TargetSeen}
 use Rattle.bt_run.specs.declared.hint.finding.Hint.{Hint}
@@ -30,7 +31,7 @@ abbrev pub IsHintIf : Bool → JobEnd → List ℕ → Option (List ℕ) → Typ
 IsHintIf true end bytes hint = IsHint end bytes hint
 IsHintIf false end bytes hint = hint ≡ None
 
--- the line of the hint is said, if there is one; or nothing is, and false says so
-abbrev pub IsHinted : Bool → JobEnd → List ℕ → TargetSeen → TargetSeen → Bool → Type 0
-IsHinted wanted end bytes before after true = (hint : Option (List ℕ)) × IsHintIf wanted end bytes hint × IsSaid (unwrap_or hint []) before after
-IsHinted wanted end bytes before after false = after ≡ before
+-- the line of the hint is said, if there is one; when out of memory nothing is
+abbrev pub IsHinted : Bool → JobEnd → List ℕ → TargetSeen → TargetSeen → Result (Unit {0}) AllocError → Type 0
+IsHinted wanted end bytes before after r =
+    MatchResult r (λ _. (hint : Option (List ℕ)) × IsHintIf wanted end bytes hint × IsSaid (unwrap_or hint []) before after) (λ _. after ≡ before)

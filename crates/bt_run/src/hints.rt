@@ -47,23 +47,22 @@ fn hint_text(
 
 /// Prints on standard error the hint for a refused stream or script.
 ///
-/// Nothing is printed if no hint is wanted, or if the input's first bytes give none. Returns false when out of memory; nothing is
-/// printed then.
+/// Nothing is printed if no hint is wanted, or if the input's first bytes give none.
+///
+/// # Errors
+/// `AllocError` when out of memory; nothing is printed then.
 pub fn say_hint<E: Target>(
     alloc: Global,
     is_wanted: bool,
     end: JobEnd,
     window: &[u8],
     errors: &mut E,
-) -> bool
+) -> Result<(), AllocError>
     ensures { IsHinted is_wanted end window.now (E.seen errors.old) (E.seen errors.new) result }
 {
-    match hint_text(alloc, is_wanted, end, window) {
-        Ok(Some(line)) => {
-            say(line.as_slice(), errors);
-            true
-        }
-        Ok(None) => true,
-        Err(_) => false,
-    }
+    let Some(line) = hint_text(alloc, is_wanted, end, window)? else {
+        return Ok(());
+    };
+    say(line.as_slice(), errors);
+    Ok(())
 }

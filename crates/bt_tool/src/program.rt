@@ -214,7 +214,7 @@ impl<'a, R: Files + Input + Net + Clock + RandomSource + AllocGlobal, W: Write, 
         let is_gone = self.is_gone.get();
         let status = end_job(job, end, prefix, is_gone, &mut self.errors);
         let is_wanted = are_wanted(request.hints, self.is_watched);
-        say_hint(alloc, is_wanted, end, reader.window(), &mut self.errors);
+        let _ = say_hint(alloc, is_wanted, end, reader.window(), &mut self.errors);
         status
     }
 
