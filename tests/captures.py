@@ -294,7 +294,7 @@ def reports(packets):
 # ---- random captures
 
 class Segment(WRITER.Packet):
-    """A segment, with its ends, of which a front of the payload was captured."""
+    """A segment, with its ends, of which the first bytes of the payload were captured."""
 
     def __init__(self, ends, flags, sequence, acked, payload=b"", nanos=0, captured=None):
         super().__init__(None, flags, sequence, acked, payload, nanos)
