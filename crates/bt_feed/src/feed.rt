@@ -152,11 +152,20 @@ impl<A: Allocator> Feed<A> {
         self.progress.stage.number()
     }
 
+    /// Returns the bytes of the current item that are buffered.
+    ///
+    /// After a refusal they go up to the byte with which it is refused.
+    pub fn buffered(&self) -> &[u8]
+        ensures { result.now ≡ self.now.held }
+    {
+        self.progress.held(self.buffer.as_slice())
+    }
+
     /// Returns how many bytes of the current item are buffered.
     pub fn held(&self) -> usize
         ensures { result ≡ length self.now.held }
     {
-        self.progress.held(self.buffer.as_slice()).len()
+        self.buffered().len()
     }
 
     /// Takes bytes up to the end of the current item, and returns how many.
