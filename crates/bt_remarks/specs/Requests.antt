@@ -65,3 +65,8 @@ is_late closes later request = closes || nat_lt request.number later
 abbrev pub sooner : Option Asked → Asked → Option Asked
 sooner None request = Some request
 sooner (Some first) request = if nat_le first.number request.number then Some first else Some request
+
+-- the first of two requests with their keys
+abbrev pub first_entry : Option ((ℕ × ℕ) × Asked) → (ℕ × ℕ) × Asked → Option ((ℕ × ℕ) × Asked)
+first_entry (Some found) entry = Some found
+first_entry None entry = Some entry

@@ -1,8 +1,8 @@
 //! The pending requests of a side.
-ghost use Rattle.std.specs.Prelude.{◌≡◌, ℕ, None, Some, OnOk, OnErr, count_by, fold, filter, max};
+ghost use Rattle.std.specs.Prelude.{◌≡◌, ℕ, None, Some, OnOk, OnErr, count_by, fold, filter, max, ◌==◌};
 ghost use Rattle.std.specs.BTreeMap.{btree_map_len, values, IsOrdered};
 ghost use Rattle.std.specs.Ordering.{nat_cmp, ordering_then};
-ghost use Rattle.bt_remarks.specs.Requests.{has_length, is_unasked, is_again, is_too_much, is_late, sooner};
+ghost use Rattle.bt_remarks.specs.Requests.{has_length, is_unasked, is_again, is_too_much, is_late, sooner, first_entry};
 ghost use Rattle.bt_remarks.specs.Ends.{late_of, IsFoundOf};
 ghost use Rattle.bt_remarks.specs.Tables.{request_at, IsNew, IsAfter};
 
@@ -37,6 +37,19 @@ fn sooner(first: Option<Asked>, asked: Asked) -> Option<Asked>
     match first {
         Some(request) if request.number <= asked.number => Some(request),
         _ => Some(asked),
+    }
+}
+
+/// Returns the first of two requests with their keys.
+fn first_entry(
+    first: Option<((u32, u32), Asked)>,
+    entry: ((u32, u32), Asked),
+) -> Option<((u32, u32), Asked)>
+    ensures { result ≡ first_entry first entry }
+{
+    match first {
+        Some(found) => Some(found),
+        None => Some(entry),
     }
 }
 
@@ -135,6 +148,19 @@ impl Requests {
         };
         let _ = self.pending.remove(&key);
         self.answered = self.answered.max(number);
+    }
+
+    /// Returns the first pending request with this mark, by its piece's index and its begin.
+    fn find_mark(&self, mark: u64) -> Option<((u32, u32), Asked)>
+        ensures { result ≡ fold first_entry None (filter (λ e. e.1.mark == mark) self.now.pending.entries) }
+    {
+        self.pending
+            .iter()
+            .filter(|entry| entry.1.mark == mark)
+            .fold(
+                None,
+                |first, entry| first_entry(first, (*entry.0, *entry.1)),
+            )
     }
 
     /// Counts the pending requests that are late.
