@@ -1,8 +1,14 @@
 -- Members of JSON objects (RFC 8259), each after a comma. An item has those of `show --json`, without texts of any length.
-use Rattle.std.specs.Prelude.{ℕ, ◌==◌, ◌||◌, List, [], ◌∷◌, ◌++◌, codes, decimal, if◌then◌else◌}
+use Rattle.std.specs.Prelude.{◌≡◌, ℕ, ◌==◌, ◌||◌, List, [], ◌∷◌, ◌++◌, codes, decimal, if◌then◌else◌, ⊤}
 use Rattle.hex.specs.Hex.{encode_lower}
 use Rattle.bt_text.specs.declared.ended.Ended.{Ended}
 use Rattle.bt_text.specs.declared.ended.Ended.TheVariants.{Accepted, Refused}
+use Rattle.bt_json.specs.Members.{IsShort, rest_of_line}
+use Rattle.bt_json.specs.Objects.{message_fields}
+use Rattle.bt_wire.specs.declared.context.Own.{Own}
+use Rattle.bt_wire.specs.declared.item.Item.{Item}
+use Rattle.bt_wire.specs.declared.item.Item.TheVariants as items
+use Rattle.bt_wire.specs.Messages.{Message}
 use Rattle.bt_wire.specs.Numbers.{be64}
 use Rattle.bt_wire.specs.Reasons.{reason_name}
 use Rattle.bt_told.specs.declared.said.Name.{Name}
@@ -11,7 +17,7 @@ use Rattle.bt_told.specs.declared.said.Numbers.{Numbers}
 use Rattle.bt_told.specs.declared.said.Numbers.TheVariants.{Zero, One, Two, Three}
 use Rattle.bt_told.specs.declared.said.Said.{Said}
 use Rattle.bt_told.specs.declared.said.Words.{Words}
-use Rattle.bt_told.specs.declared.said.Words.TheVariants.{Handshake, Announced, Message}
+use Rattle.bt_told.specs.declared.said.Words.TheVariants as words
 use Rattle.bt_told.specs.Numbers.{option_text}
 use Rattle.bt_told.specs.Said.{name_text}
 
@@ -58,13 +64,22 @@ number_members name (Two n m) = member (first_key name) n ++ member (second_key 
 number_members name (Three n m k) = member (first_key name) n ++ (member (second_key name) m ++ member (third_key name) k)
 
 abbrev pub words_members : Words → List ℕ
-words_members (Handshake h) =
+words_members (words.Handshake h) =
     codes ",\"item\":\"handshake\",\"reserved\":\"" ++ (encode_lower (be64 h.reserved.0) ++ (codes "\",\"info_hash\":\"" ++ (encode_lower h.info_hash
     ++ (codes "\",\"peer_id\":\"" ++ (encode_lower h.peer_id ++ codes "\"")))))
-words_members (Announced dict rest size id) =
+words_members (words.Announced dict rest size id) =
     (codes ",\"item\":\"ext-handshake\",\"dictionary\":" ++ (decimal dict ++ (codes ",\"rest\":" ++ decimal rest)))
     ++ (option_text (codes ",\"metadata_size\":") size ++ option_text (codes ",\"ut_metadata\":") id)
-words_members (Message name numbers) = codes ",\"item\":\"" ++ (name_text name ++ (codes "\"" ++ number_members name numbers))
+words_members (words.Message name numbers) = codes ",\"item\":\"" ++ (name_text name ++ (codes "\"" ++ number_members name numbers))
+
+-- `show --json` has these members of it too, and no other ones, if it is no extended handshake, which has a client's name there
+abbrev pub IsShown : Message → Words → Type 0
+IsShown m said = (own : Own) → IsShort m → words_members said ++ codes "}\n" ≡ rest_of_line (message_fields own m)
+
+-- (of a handshake `show --json` has the peer id as text, too)
+abbrev pub IsItemShown : Item → Words → Type 0
+IsItemShown (items.Handshake h) said = ⊤
+IsItemShown (items.Message m) said = IsShown m said
 
 -- an item and its offset
 abbrev pub said_object : Said → List ℕ

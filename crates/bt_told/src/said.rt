@@ -6,6 +6,9 @@ ghost use Rattle.bt_bencode.specs.Trees.{dictionary};
 ghost use Rattle.bt_ext.specs.Metadata.{kind_of};
 ghost use Rattle.bt_ext.specs.Payloads.{seen as seen_ext};
 ghost use Rattle.bt_wire.specs.Messages.{message_of};
+ghost use Rattle.bt_json.specs.Members.{HasNoText, rest_of_line};
+ghost use Rattle.bt_json.specs.Objects.{ext_fields, metadata_fields};
+ghost use Rattle.bt_told.specs.Members.{IsItemShown, IsShown, words_members};
 ghost use Rattle.bt_told.specs.Said.{name_text, numbers_text, said_text, words_text};
 
 use bt_bencode::DictRef;
@@ -123,8 +126,10 @@ fn announced(dict: &DictRef, rest: &[u8]) -> Words
 }
 
 /// Returns the words of a metadata message.
+#[tactic(auto, unfolding(json::specs::Print::escape_byte, json::specs::Print::print_from, bt_json::specs::Objects::a_field))]
 fn metadata(dict: &DictRef, rest: &[u8]) -> Words
-    ensures { words_text result ≡ kind_words (kind_of (dictionary dict.now.tree.0)) (dictionary dict.now.tree.0) rest.now }
+    ensures text { words_text result ≡ kind_words (kind_of (dictionary dict.now.tree.0)) (dictionary dict.now.tree.0) rest.now }
+    ensures fields { words_members result ++ codes "}\n" ≡ rest_of_line (metadata_fields (kind_of (dictionary dict.now.tree.0)) (dictionary dict.now.tree.0) rest.now) }
 {
     let rest = rest.len() as u64;
     match dict.kind() {
@@ -146,8 +151,10 @@ fn metadata(dict: &DictRef, rest: &[u8]) -> Words
 }
 
 /// Returns the words of an extended message.
+#[tactic(auto, unfolding(json::specs::Print::escape_byte, json::specs::Print::print_from, bt_json::specs::Objects::a_field))]
 fn extended(payload: &ExtView) -> Words
-    ensures { words_text result ≡ ext_words (seen_ext payload.now) }
+    ensures text { words_text result ≡ ext_words (seen_ext payload.now) }
+    ensures fields { HasNoText (seen_ext payload.now) → words_members result ++ codes "}\n" ≡ rest_of_line (ext_fields (seen_ext payload.now)) }
 {
     match payload {
         ExtView::Handshake { dict, rest } => announced(dict, rest),
@@ -180,8 +187,10 @@ fn one(name: Name, n: u32) -> Words
 }
 
 /// Returns the words of a message.
+#[tactic(auto, unfolding(json::specs::Print::escape_byte, json::specs::Print::print_from, bt_json::specs::Objects::a_field))]
 fn message_in(message: &MessageView) -> Words
-    ensures { words_text result ≡ message_words (message_of message.now) }
+    ensures text { words_text result ≡ message_words (message_of message.now) }
+    ensures fields { IsShown (message_of message.now) result }
 {
     match message {
         MessageView::KeepAlive => Words::Message(Name::KeepAlive, Numbers::Zero),
@@ -229,7 +238,8 @@ fn message_in(message: &MessageView) -> Words
 impl Words {
     /// Returns the words of an item.
     pub fn of(view: &View) -> Words
-        ensures { words_text result ≡ words_of_item (item_of view.now) }
+        ensures text { words_text result ≡ words_of_item (item_of view.now) }
+        ensures fields { IsItemShown (item_of view.now) result }
     {
         match view {
             View::Handshake(handshake) => Words::Handshake(*handshake),

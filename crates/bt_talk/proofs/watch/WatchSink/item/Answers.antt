@@ -9,7 +9,7 @@ returns-in-A-clause-items c = record {
   side = refl;
   known = refl;
   said = record { offset = c.args.at; words = c.of.result };
-  is = record { offset = refl; words = c.of.ensures };
+  is = record { offset = refl; words = c.of.ensures.text };
   remarks = c.in-Ok.remarks;
   notes = λ s. note_a c.args.self.now _ c.in-Ok.remarks (record { offset = c.args.at; words = c.of.result }) c.args.self.now.side s c.in-A.is c.note.ensures refl;
   matched = matched_by c.args.self.now.side c.args.self.now.known (c.args.at, item_of c.args.view.now) (message_of c.event_of.result) c.in-Ok.remarks
@@ -21,7 +21,7 @@ returns-in-B-clause-items c = record {
   side = refl;
   known = refl;
   said = record { offset = c.args.at; words = c.of.result };
-  is = record { offset = refl; words = c.of.ensures };
+  is = record { offset = refl; words = c.of.ensures.text };
   remarks = c.in-Ok.remarks;
   notes = λ s. note_b c.args.self.now _ c.in-Ok.remarks (record { offset = c.args.at; words = c.of.result }) c.args.self.now.side s c.in-B.is refl c.note-in-B.ensures;
   matched = matched_by c.args.self.now.side c.args.self.now.known (c.args.at, item_of c.args.view.now) (message_of c.event_of.result) c.in-Ok.remarks
