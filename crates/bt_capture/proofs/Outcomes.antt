@@ -78,39 +78,39 @@ read_kept o left left' packets r r' same keeps i = record {
 
 pub told_read : (o : Origin) (left left' : Option (List ℕ)) (now : TargetSeen) (es : List (Pair × Held)) (run : Run) (r r' : Reading)
     → ((packets : List Captured) → HasRead o left packets r → HasRead o left' packets r') → IsTelling o left now es run r → IsTelling o left' now es run r'
-told_read o left left' now es run r r' reads i = record { packets = i.packets; read = reads i.packets i.read; pieces = i.pieces; json = i.json; time = i.time; follows = i.follows }
+told_read o left left' now es run r r' reads i = record { packets = i.packets; read = reads i.packets i.read; terms = i.terms; json = i.json; time = i.time; follows = i.follows }
 
-pub flushed : (o : Origin) (left : Option (List ℕ)) (now after : TargetSeen) (es : List (Pair × Held)) (old new : Run) (r : Reading) → new.pieces ≡ old.pieces
+pub flushed : (o : Origin) (left : Option (List ℕ)) (now after : TargetSeen) (es : List (Pair × Held)) (old new : Run) (r : Reading) → new.terms ≡ old.terms
     → new.teller.json ≡ old.teller.json → new.start ≡ old.start → new.lost ≡ old.lost → ((reports : List Report) → Tells o.target now old.teller reports → Tells o.target after new.teller reports)
     → IsTelling o left now es old r → IsTelling o left after es new r
-flushed o left now after es old new r pieces json begin lost tells i =
+flushed o left now after es old new r terms json begin lost tells i =
     let known = i.follows.known in
     record {
       packets = i.packets;
       read = i.read;
-      pieces = pieces ∙ i.pieces;
+      terms = terms ∙ i.terms;
       json = json ∙ i.json;
       time = begin ∙ i.time;
       follows = record {
         fs = i.follows.fs;
         known = record {
           tells = tells (reports_of i.follows.fs) known.tells;
-          finished = subst (λ x. All (IsFinished x (unwrap_or new.start 0)) i.follows.fs) (sym pieces)
-              (subst (λ x. All (IsFinished old.pieces (unwrap_or x 0)) i.follows.fs) (sym begin) known.finished);
+          finished = subst (λ x. All (IsFinished x (unwrap_or new.start 0)) i.follows.fs) (sym terms)
+              (subst (λ x. All (IsFinished old.terms (unwrap_or x 0)) i.follows.fs) (sym begin) known.finished);
           lost = lost ∙ known.lost;
         };
-        shared = subst (λ x. (k : Pair) → IsShare x (arrivals i.packets) i.follows.fs k (lookup (same_pair k) es)) (sym pieces) i.follows.shared;
+        shared = subst (λ x. (k : Pair) → IsShare x (arrivals i.packets) i.follows.fs k (lookup (same_pair k) es)) (sym terms) i.follows.shared;
       };
     }
 
-finished_by : (o : Origin) (packets : List Captured) (fs : List Finished) (run : Run) → run.pieces ≡ o.pieces → run.start ≡ first_time packets
-    → All (IsFinished run.pieces (unwrap_or run.start 0)) fs → All (IsFinished o.pieces (unwrap_or (first_time packets) 0)) fs
-finished_by o packets fs run pieces time i =
-    subst (λ x. All (IsFinished x (unwrap_or (first_time packets) 0)) fs) pieces (subst (λ x. All (IsFinished run.pieces (unwrap_or x 0)) fs) time i)
+finished_by : (o : Origin) (packets : List Captured) (fs : List Finished) (run : Run) → run.terms ≡ o.terms → run.start ≡ first_time packets
+    → All (IsFinished run.terms (unwrap_or run.start 0)) fs → All (IsFinished o.terms (unwrap_or (first_time packets) 0)) fs
+finished_by o packets fs run terms time i =
+    subst (λ x. All (IsFinished x (unwrap_or (first_time packets) 0)) fs) terms (subst (λ x. All (IsFinished run.terms (unwrap_or x 0)) fs) time i)
 
-over_by : (o : Origin) (now : TargetSeen) (packets : List Captured) (run : Run) → run.pieces ≡ o.pieces → run.start ≡ first_time packets
+over_by : (o : Origin) (now : TargetSeen) (packets : List Captured) (run : Run) → run.terms ≡ o.terms → run.start ≡ first_time packets
     → (s : Stops o.target now (arrivals packets) run) → AreOver o packets s.fs
-over_by o now packets run pieces time s = record { finished = finished_by o packets s.fs run pieces time s.known.finished; shared = s.shared }
+over_by o now packets run terms time s = record { finished = finished_by o packets s.fs run terms time s.known.finished; shared = s.shared }
 
 pub left_by : (o : Origin) (left : Option (List ℕ)) (now after : TargetSeen) (es : List (Pair × Held)) (run : Run) (r : Reading)
     → ((reports : List Report) → Tells o.target now run.teller reports → IsStopped run.teller.json o.target after reports) → IsTelling o left now es run r → IsLeft o left after
@@ -121,24 +121,24 @@ left_by o left now after es run r stopped i =
       r = r;
       read = i.read;
       fs = s.fs;
-      over = over_by o now i.packets run i.pieces i.time s;
+      over = over_by o now i.packets run i.terms i.time s;
       stopped = subst (λ b. IsStopped b o.target after (reports_of s.fs)) i.json (stopped (reports_of s.fs) s.known.tells);
     }
 
 pub given_up : (o : Origin) (left : Option (List ℕ)) (now : TargetSeen) (packets : List Captured) (run : Run) (r : Reading) → HasRead o left packets r
-    → run.pieces ≡ o.pieces → run.teller.json ≡ o.json → run.start ≡ first_time packets → Stops o.target now (arrivals packets) run → ArePartlyWritten o left now
-given_up o left now packets run r read pieces json time s = let t = s.known.tells in record {
+    → run.terms ≡ o.terms → run.teller.json ≡ o.json → run.start ≡ first_time packets → Stops o.target now (arrivals packets) run → ArePartlyWritten o left now
+given_up o left now packets run r read terms json time s = let t = s.known.tells in record {
   packets = packets;
   r = r;
   read = read;
   fs = s.fs;
-  over = over_by o now packets run pieces time s;
+  over = over_by o now packets run terms time s;
   front = (t.written, run.teller.text.items, ap (λ b. texts b (reports_of s.fs)) (sym json) ∙ sym t.whole, t.held);
 }
 
 pub partly : (o : Origin) (left : Option (List ℕ)) (now : TargetSeen) (es : List (Pair × Held)) (run : Run) (r : Reading) → IsTelling o left now es run r
     → ArePartlyWritten o left now
-partly o left now es run r i = given_up o left now i.packets run r i.read i.pieces i.json i.time (stops_of o.target now (arrivals i.packets) es run i.follows)
+partly o left now es run r i = given_up o left now i.packets run r i.read i.terms i.json i.time (stops_of o.target now (arrivals i.packets) es run i.follows)
 
 pub nothing_told : (o : Origin) → ArePartlyWritten o o.left o.target
 nothing_told o = record {
@@ -146,7 +146,7 @@ nothing_told o = record {
   r = nothing_read;
   read = read_nothing o;
   fs = [];
-  over = record { finished = All-nil (IsFinished o.pieces 0); shared = λ k. ([], refl) };
+  over = record { finished = All-nil (IsFinished o.terms 0); shared = λ k. ([], refl) };
   front = ([], [], refl, Appends-nil o.target.held);
 }
 
@@ -159,7 +159,7 @@ texts_written start now t reports empty w =
 
 pub all_over : (o : Origin) (left : Option (List ℕ)) (now : TargetSeen) (run : Run) (r : Reading) → (i : IsTelling o left now [] run r) → AreAllOver o i.packets i.follows.fs
 all_over o left now run r i = record {
-  finished = finished_by o i.packets i.follows.fs run i.pieces i.time i.follows.known.finished;
+  finished = finished_by o i.packets i.follows.fs run i.terms i.time i.follows.known.finished;
   shared = λ k. let s = i.follows.shared k in subst (IsShared k (arrivals i.packets) i.follows.fs) s.is s.share;
 }
 
@@ -212,7 +212,7 @@ told_rest o left now old new es r all apart same i =
     subst (λ x. IsTelling o left now es x r) (sym same) (record {
       packets = i.packets;
       read = i.read;
-      pieces = i.pieces;
+      terms = i.terms;
       json = i.json;
       time = i.time;
       follows = follows_same o.target now (arrivals i.packets) es old mid refl refl refl refl moves;
@@ -220,12 +220,12 @@ told_rest o left now old new es r all apart same i =
 
 -- ---- the begin
 
-pub begins : (o : Origin) (run : Run) (r : Reading) → run.pieces ≡ o.pieces → run.teller.json ≡ o.json → run.start ≡ None → Follows o.target o.target [] run.table run → r ≡ nothing_read
+pub begins : (o : Origin) (run : Run) (r : Reading) → run.terms ≡ o.terms → run.teller.json ≡ o.json → run.start ≡ None → Follows o.target o.target [] run.table run → r ≡ nothing_read
     → IsTelling o o.left o.target run.table run r
-begins o run r pieces json begin follows same = record {
+begins o run r terms json begin follows same = record {
   packets = [];
   read = subst (HasRead o o.left []) (sym same) (read_nothing o);
-  pieces = pieces;
+  terms = terms;
   json = json;
   time = begin;
   follows = follows;

@@ -1,4 +1,5 @@
 -- One more connection is over.
+use Rattle.bt_talk.specs.declared.terms.Terms.{Terms}
 use Rattle.std.proofs.Common.{◌≡◌, ◌∙◌, ℕ, ◌+◌, ◌-◌, ◌^◌, min, Bool, true, false, List, [], ◌∷◌, ◌++◌, length, append-nil, append_assoc, Option, Some, None, unwrap_or, Result, Ok, Err, OnOk, OnErr, refl, sym, ap, subst, arith, inl, inr}
 use Rattle.std.specs.List.{All, filter, list_any}
 use Rattle.std.specs.Map.{lookup, remove_entry}
@@ -47,48 +48,48 @@ lost_same fs f e =
     let test : Finished → Bool = λ g. is_lost_by g.fate in
     ap (λ l. min (length l) (2 ^ 64 - 1)) (sym (append-nil (filter test fs)) ∙ ap (λ l. filter test fs ++ l) (sym (none_passes test f e)) ∙ sym (filter-append test fs (f ∷ [])))
 
-known_more : (start now : TargetSeen) (fs : List Finished) (f : Finished) (old new : Run) → new.pieces ≡ old.pieces → new.start ≡ old.start
+known_more : (start now : TargetSeen) (fs : List Finished) (f : Finished) (old new : Run) → new.terms ≡ old.terms → new.start ≡ old.start
     → Tells start now new.teller (reports_of fs ++ report_in f.fate) → new.lost ≡ count_lost (fs ++ f ∷ [])
-    → IsFinished old.pieces (unwrap_or old.start 0) f → IsKnown start now fs old → IsKnown start now (fs ++ f ∷ []) new
-known_more start now fs f old new pieces begin tells lost is i =
-    let P : Option ℕ → Type 0 = λ x. All (IsFinished x (unwrap_or new.start 0)) (fs ++ f ∷ []) in
-    let Q : Option ℕ → Type 0 = λ x. All (IsFinished old.pieces (unwrap_or x 0)) (fs ++ f ∷ []) in
+    → IsFinished old.terms (unwrap_or old.start 0) f → IsKnown start now fs old → IsKnown start now (fs ++ f ∷ []) new
+known_more start now fs f old new terms begin tells lost is i =
+    let P : Terms → Type 0 = λ x. All (IsFinished x (unwrap_or new.start 0)) (fs ++ f ∷ []) in
+    let Q : Option ℕ → Type 0 = λ x. All (IsFinished old.terms (unwrap_or x 0)) (fs ++ f ∷ []) in
     record {
       tells = subst (Tells start now new.teller) (sym (reports_more fs f)) tells;
-      finished = subst P (sym pieces) (subst Q (sym begin) (All-append (IsFinished old.pieces (unwrap_or old.start 0)) fs (f ∷ []) i.finished (All-cons (IsFinished old.pieces (unwrap_or old.start 0)) f [] is (All-nil (IsFinished old.pieces (unwrap_or old.start 0))))));
+      finished = subst P (sym terms) (subst Q (sym begin) (All-append (IsFinished old.terms (unwrap_or old.start 0)) fs (f ∷ []) i.finished (All-cons (IsFinished old.terms (unwrap_or old.start 0)) f [] is (All-nil (IsFinished old.terms (unwrap_or old.start 0))))));
       lost = lost;
     }
 
 -- The first of these is over.
 pub follows_over : (start now : TargetSeen) (came : List Arrival) (p : Pair) (c : Held) (es : List (Pair × Held)) (old new : Run)
-    → lookup (same_pair p) es ≡ None → (i : Follows start now came ((p, c) ∷ es) old) → (end : Fate) → new.pieces ≡ old.pieces → new.start ≡ old.start
+    → lookup (same_pair p) es ≡ None → (i : Follows start now came ((p, c) ∷ es) old) → (end : Fate) → new.terms ≡ old.terms → new.start ≡ old.start
     → Tells start now new.teller (reports_of i.fs ++ report_in end)
-    → new.lost ≡ count_lost (i.fs ++ record { pair = p; taken = (own_of old.pieces came i.fs p c es i.shared).taken; fate = end } ∷ [])
-    → IsFate old.pieces (unwrap_or old.start 0) (own_of old.pieces came i.fs p c es i.shared).taken end → Follows start now came es new
-follows_over start now came p c es old new absent i end pieces begin tells lost is =
-    let own = own_of old.pieces came i.fs p c es i.shared in
+    → new.lost ≡ count_lost (i.fs ++ record { pair = p; taken = (own_of old.terms came i.fs p c es i.shared).taken; fate = end } ∷ [])
+    → IsFate old.terms (unwrap_or old.start 0) (own_of old.terms came i.fs p c es i.shared).taken end → Follows start now came es new
+follows_over start now came p c es old new absent i end terms begin tells lost is =
+    let own = own_of old.terms came i.fs p c es i.shared in
     let f : Finished = record { pair = p; taken = own.taken; fate = end } in
     record {
       fs = i.fs ++ f ∷ [];
-      known = known_more start now i.fs f old new pieces begin tells lost is i.known;
-      shared = subst (λ x. (k : Pair) → IsShare x came (i.fs ++ f ∷ []) k (lookup (same_pair k) es)) (sym pieces)
-          (over old.pieces came i.fs p es own.taken end absent own.share (others_of old.pieces came i.fs p c es i.shared));
+      known = known_more start now i.fs f old new terms begin tells lost is i.known;
+      shared = subst (λ x. (k : Pair) → IsShare x came (i.fs ++ f ∷ []) k (lookup (same_pair k) es)) (sym terms)
+          (over old.terms came i.fs p es own.taken end absent own.share (others_of old.terms came i.fs p c es i.shared));
     }
 
-pub known_same : (start now : TargetSeen) (fs : List Finished) (old new : Run) → new.pieces ≡ old.pieces → new.start ≡ old.start → new.lost ≡ old.lost
+pub known_same : (start now : TargetSeen) (fs : List Finished) (old new : Run) → new.terms ≡ old.terms → new.start ≡ old.start → new.lost ≡ old.lost
     → Tells start now new.teller (reports_of fs) → IsKnown start now fs old → IsKnown start now fs new
-known_same start now fs old new pieces begin lost tells i = record {
+known_same start now fs old new terms begin lost tells i = record {
   tells = tells;
-  finished = subst (λ x. All (IsFinished x (unwrap_or new.start 0)) fs) (sym pieces) (subst (λ x. All (IsFinished old.pieces (unwrap_or x 0)) fs) (sym begin) i.finished);
+  finished = subst (λ x. All (IsFinished x (unwrap_or new.start 0)) fs) (sym terms) (subst (λ x. All (IsFinished old.terms (unwrap_or x 0)) fs) (sym begin) i.finished);
   lost = lost ∙ i.lost;
 }
 
-pub follows_same : (start now : TargetSeen) (came : List Arrival) (es : List (Pair × Held)) (old new : Run) → new.pieces ≡ old.pieces → new.start ≡ old.start
+pub follows_same : (start now : TargetSeen) (came : List Arrival) (es : List (Pair × Held)) (old new : Run) → new.terms ≡ old.terms → new.start ≡ old.start
     → new.lost ≡ old.lost → new.teller ≡ old.teller → Follows start now came es old → Follows start now came es new
-follows_same start now came es old new pieces begin lost teller i = record {
+follows_same start now came es old new terms begin lost teller i = record {
   fs = i.fs;
-  known = known_same start now i.fs old new pieces begin lost (subst (λ t. Tells start now t (reports_of i.fs)) (sym teller) i.known.tells) i.known;
-  shared = subst (λ x. (k : Pair) → IsShare x came i.fs k (lookup (same_pair k) es)) (sym pieces) i.shared;
+  known = known_same start now i.fs old new terms begin lost (subst (λ t. Tells start now t (reports_of i.fs)) (sym teller) i.known.tells) i.known;
+  shared = subst (λ x. (k : Pair) → IsShare x came i.fs k (lookup (same_pair k) es)) (sym terms) i.shared;
 }
 
 pub stops_of : (start now : TargetSeen) (came : List Arrival) (es : List (Pair × Held)) (run : Run) → Follows start now came es run → Stops start now came run
@@ -98,17 +99,17 @@ stops_of start now came es run i = record { fs = i.fs; known = i.known; shared =
 pub silent : (start now : TargetSeen) (came : List Arrival) (p : Pair) (c : Held) (es : List (Pair × Held)) (run : Run) → lookup (same_pair p) es ≡ None
     → c.value.has_payload ≡ false → Follows start now came ((p, c) ∷ es) run → Follows start now came es run
 silent start now came p c es run absent none i =
-    let own = own_of run.pieces came i.fs p c es i.shared in
+    let own = own_of run.terms came i.fs p c es i.shared in
     follows_over start now came p c es run run absent i Silent refl refl (subst (Tells start now run.teller) (sym (append-nil (reports_of i.fs))) i.known.tells)
     (i.known.lost ∙ lost_same i.fs (record { pair = p; taken = own.taken; fate = Silent }) refl) (sym own.is.has_payload ∙ none)
 
 -- its opening couldn't be ended
 pub lost_one : (start now : TargetSeen) (came : List Arrival) (p : Pair) (c : Held) (es : List (Pair × Held)) (old new : Run) → lookup (same_pair p) es ≡ None
-    → c.value.has_payload ≡ true → new.pieces ≡ old.pieces → new.start ≡ old.start → new.teller ≡ old.teller → new.lost ≡ min (old.lost + 1) (2 ^ 64 - 1)
+    → c.value.has_payload ≡ true → new.terms ≡ old.terms → new.start ≡ old.start → new.teller ≡ old.teller → new.lost ≡ min (old.lost + 1) (2 ^ 64 - 1)
     → Follows start now came ((p, c) ∷ es) old → Follows start now came es new
-lost_one start now came p c es old new absent some pieces begin teller lost i =
-    let own = own_of old.pieces came i.fs p c es i.shared in
-    follows_over start now came p c es old new absent i Lost pieces begin
+lost_one start now came p c es old new absent some terms begin teller lost i =
+    let own = own_of old.terms came i.fs p c es i.shared in
+    follows_over start now came p c es old new absent i Lost terms begin
     (subst (λ t. Tells start now t (reports_of i.fs ++ [])) (sym teller) (subst (Tells start now old.teller) (sym (append-nil (reports_of i.fs))) i.known.tells))
     (lost ∙ ap (λ n. min (n + 1) (2 ^ 64 - 1)) i.known.lost ∙ lost_more i.fs (record { pair = p; taken = own.taken; fate = Lost }) refl)
     (sym own.is.has_payload ∙ some)
@@ -122,16 +123,16 @@ abbrev pub SaysNothing : Teller → Teller → Type 0
 SaysNothing t t' = (start now : TargetSeen) (reports : List Report) → Tells start now t reports → Tells start now t' reports
 
 pub reported : {A E : Type 0} (r : Result A E) (start now : TargetSeen) (came : List Arrival) (p : Pair) (c : Held) (es : List (Pair × Held)) (old new : Run)
-    → lookup (same_pair p) es ≡ None → c.value.has_payload ≡ true → new.pieces ≡ old.pieces → new.start ≡ old.start → new.lost ≡ old.lost
+    → lookup (same_pair p) es ≡ None → c.value.has_payload ≡ true → new.terms ≡ old.terms → new.start ≡ old.start → new.lost ≡ old.lost
     → is_lost c.value.talk ≡ false → (talk : Talk) → ((a b : Past) → IsTalk a b c.value.talk → IsEnded a b c.value.talk talk) → (number : ℕ)
     → OnOk r (Says old.teller new.teller number (unwrap_or old.start 0) talk) → OnErr r (SaysNothing old.teller new.teller)
     → Follows start now came ((p, c) ∷ es) old → Goes start now came es new r
-reported (Ok x) start now came p c es old new absent some pieces begin lost there talk ended number says nothing i =
-    let own = own_of old.pieces came i.fs p c es i.shared in
+reported (Ok x) start now came p c es old new absent some terms begin lost there talk ended number says nothing i =
+    let own = own_of old.terms came i.fs p c es i.shared in
     let m = own.is.made there in
     let e = ended m.a m.b m.made.is in
     let s = says m.a m.b e.is in
-    follows_over start now came p c es old new absent i (Reported s.0) pieces begin (s.2 start now (reports_of i.fs) i.known.tells)
+    follows_over start now came p c es old new absent i (Reported s.0) terms begin (s.2 start now (reports_of i.fs) i.known.tells)
     (lost ∙ i.known.lost ∙ lost_same i.fs (record { pair = p; taken = own.taken; fate = Reported s.0 }) refl) (
       sym own.is.has_payload ∙ some,
       record {
@@ -147,9 +148,9 @@ reported (Ok x) start now came p c es old new absent some pieces begin lost ther
         is = s.1;
       },
     )
-reported (Err x) start now came p c es old new absent some pieces begin lost there talk ended number says nothing i = record {
+reported (Err x) start now came p c es old new absent some terms begin lost there talk ended number says nothing i = record {
   fs = i.fs;
-  known = known_same start now i.fs old new pieces begin lost (nothing start now (reports_of i.fs) i.known.tells) i.known;
+  known = known_same start now i.fs old new terms begin lost (nothing start now (reports_of i.fs) i.known.tells) i.known;
   shared = λ k. ((i.shared k).taken, (i.shared k).share);
 }
 
@@ -160,13 +161,13 @@ not_lost true x e stays = let both = stays refl in cc
 -- ---- the next segment
 
 pub begun : (start now : TargetSeen) (came : List Arrival) (x : Arrival) (p : Pair) (c : Held) (es : List (Pair × Held)) (run : Run) → lookup (same_pair p) es ≡ None
-    → IsOpen run.pieces [] (x ∷ []) c.value → Follows start now came es run → Holds start now came x p c es run
+    → IsOpen run.terms [] (x ∷ []) c.value → Follows start now came es run → Holds start now came x p c es run
 begun start now came x p c es run absent is i = record {
   fs = i.fs;
   known = i.known;
   taken = [];
   is = is;
-  share = own_none run.pieces came i.fs p es absent i.shared;
+  share = own_none run.terms came i.fs p es absent i.shared;
   absent = absent;
   others = λ k e. i.shared k;
 }
@@ -174,25 +175,25 @@ begun start now came x p c es run absent is i = record {
 pub held : (start now : TargetSeen) (came : List Arrival) (x : Arrival) (p : Pair) (c : Held) (es : List (Pair × Held)) (run : Run) → lookup (same_pair p) es ≡ None
     → Follows start now came ((p, c) ∷ es) run → Holds start now came x p c es run
 held start now came x p c es run absent i =
-    let own = own_of run.pieces came i.fs p c es i.shared in
+    let own = own_of run.terms came i.fs p c es i.shared in
     record {
       fs = i.fs;
       known = i.known;
       taken = own.taken;
-      is = ready run.pieces own.taken x c.value own.is;
+      is = ready run.terms own.taken x c.value own.is;
       share = own.share;
       absent = absent;
-      others = others_of run.pieces came i.fs p c es i.shared;
+      others = others_of run.terms came i.fs p c es i.shared;
     }
 
 -- The connection takes the segment.
 pub follows_took : (start now : TargetSeen) (came : List Arrival) (x : Arrival) (p : Pair) (c c' : Held) (es : List (Pair × Held)) (run : Run) → pair_of x ≡ p
-    → ((taken : List Arrival) → IsOpen run.pieces taken (x ∷ []) c.value → IsOpen run.pieces (taken ++ x ∷ []) [] c'.value)
+    → ((taken : List Arrival) → IsOpen run.terms taken (x ∷ []) c.value → IsOpen run.terms (taken ++ x ∷ []) [] c'.value)
     → Holds start now came x p c es run → Follows start now (came ++ x ∷ []) ((p, c') ∷ es) run
 follows_took start now came x p c c' es run ends takes i = record {
   fs = i.fs;
   known = i.known;
-  shared = took run.pieces came i.fs p c' es i.taken x ends i.share (takes i.taken i.is) i.others;
+  shared = took run.terms came i.fs p c' es i.taken x ends i.share (takes i.taken i.is) i.others;
 }
 
 pub stops_more : (start now : TargetSeen) (came more : List Arrival) (run : Run) → Stops start now came run → Stops start now (came ++ more) run
@@ -223,39 +224,39 @@ none_taken (f ∷ fs) none =
 not_both : (b : Bool) → b ≡ false → b ≡ true → ⊥
 not_both b e f = cc
 
-fate_any : (pieces : Option ℕ) (from from' : ℕ) (taken : List Arrival) (end : Fate) → taken ≡ [] → IsFate pieces from taken end → IsFate pieces from' taken end
-fate_any pieces from from' taken (Reported r) e i = absurd (not_both (list_any has_data taken) (subst (λ l. list_any has_data l ≡ false) (sym e) refl) i.0)
-fate_any pieces from from' taken Silent e i = i
-fate_any pieces from from' taken Lost e i = i
+fate_any : (terms : Terms) (from from' : ℕ) (taken : List Arrival) (end : Fate) → taken ≡ [] → IsFate terms from taken end → IsFate terms from' taken end
+fate_any terms from from' taken (Reported r) e i = absurd (not_both (list_any has_data taken) (subst (λ l. list_any has_data l ≡ false) (sym e) refl) i.0)
+fate_any terms from from' taken Silent e i = i
+fate_any terms from from' taken Lost e i = i
 
-all_any : (pieces : Option ℕ) (from from' : ℕ) (fs : List Finished) → All (λ f. f.taken ≡ []) fs → All (IsFinished pieces from) fs → All (IsFinished pieces from') fs
-all_any pieces from from' [] none i = All-nil (IsFinished pieces from')
-all_any pieces from from' (f ∷ fs) none i =
-    All-cons (IsFinished pieces from') f fs
-    (fate_any pieces from from' f.taken f.fate (All-head (λ g. g.taken ≡ []) f fs none) (All-head (IsFinished pieces from) f fs i))
-    (all_any pieces from from' fs (All-tail (λ g. g.taken ≡ []) f fs none) (All-tail (IsFinished pieces from) f fs i))
+all_any : (terms : Terms) (from from' : ℕ) (fs : List Finished) → All (λ f. f.taken ≡ []) fs → All (IsFinished terms from) fs → All (IsFinished terms from') fs
+all_any terms from from' [] none i = All-nil (IsFinished terms from')
+all_any terms from from' (f ∷ fs) none i =
+    All-cons (IsFinished terms from') f fs
+    (fate_any terms from from' f.taken f.fate (All-head (λ g. g.taken ≡ []) f fs none) (All-head (IsFinished terms from) f fs i))
+    (all_any terms from from' fs (All-tail (λ g. g.taken ≡ []) f fs none) (All-tail (IsFinished terms from) f fs i))
 
 shares_none : (k : Pair) (fs : List Finished) (rest : List Arrival) → IsShared k [] fs rest → taken_between k fs ≡ []
 shares_none k fs rest e = (parts_none (taken_between k fs) rest (sym e)).0
 
 pub started : (start now : TargetSeen) (packets : List Captured) (old new : Run) (time : ℕ) → old.start ≡ first_time packets → new.start ≡ option_or old.start (Some time)
-    → new.pieces ≡ old.pieces → new.lost ≡ old.lost → new.teller ≡ old.teller → new.table ≡ old.table
+    → new.terms ≡ old.terms → new.lost ≡ old.lost → new.teller ≡ old.teller → new.table ≡ old.table
     → Follows start now (arrivals packets) old.table old → Follows start now (arrivals packets) new.table new
-started start now [] old new time is begin pieces lost teller table i = record {
+started start now [] old new time is begin terms lost teller table i = record {
   fs = i.fs;
   known = record {
     tells = subst (λ t. Tells start now t (reports_of i.fs)) (sym teller) i.known.tells;
-    finished = subst (λ x. All (IsFinished x (unwrap_or new.start 0)) i.fs) (sym pieces)
-        (all_any old.pieces (unwrap_or old.start 0) (unwrap_or new.start 0) i.fs
+    finished = subst (λ x. All (IsFinished x (unwrap_or new.start 0)) i.fs) (sym terms)
+        (all_any old.terms (unwrap_or old.start 0) (unwrap_or new.start 0) i.fs
         (none_taken i.fs (λ k. shares_none k i.fs (i.shared k).taken (i.shared k).share)) i.known.finished);
     lost = lost ∙ i.known.lost;
   };
-  shared = subst (λ x. (k : Pair) → IsShare x [] i.fs k (lookup (same_pair k) new.table)) (sym pieces)
-      (subst (λ t. (k : Pair) → IsShare old.pieces [] i.fs k (lookup (same_pair k) t)) (sym table) i.shared);
+  shared = subst (λ x. (k : Pair) → IsShare x [] i.fs k (lookup (same_pair k) new.table)) (sym terms)
+      (subst (λ t. (k : Pair) → IsShare old.terms [] i.fs k (lookup (same_pair k) t)) (sym table) i.shared);
 }
-started start now (p ∷ ps) old new time is begin pieces lost teller table i =
+started start now (p ∷ ps) old new time is begin terms lost teller table i =
     let e : new.start ≡ old.start = begin ∙ ap (λ o. option_or o (Some time)) is ∙ sym is in
-    subst (λ t. Follows start now (arrivals (p ∷ ps)) t new) (sym table) (follows_same start now (arrivals (p ∷ ps)) old.table old new pieces e lost teller i)
+    subst (λ t. Follows start now (arrivals (p ∷ ps)) t new) (sym table) (follows_same start now (arrivals (p ∷ ps)) old.table old new terms e lost teller i)
 
 after_more : (n : ℕ) (packets : List Captured) (p : Captured)
     → arrivals_after n (packets ++ p ∷ []) ≡ arrivals_after n packets ++ arrivals_of (min (n + length packets + 1) (2 ^ 64 - 1)) p
@@ -284,29 +285,29 @@ pub follows_out : (start now : TargetSeen) (came : List Arrival) (p : Pair) (c :
 follows_out start now came p c es out run found is i = record {
   fs = i.fs;
   known = i.known;
-  shared = subst (λ l. (k : Pair) → IsShare run.pieces came i.fs k (lookup (same_pair k) ((p, c) ∷ l))) (sym is)
-      (moved run.pieces came i.fs es ((p, c) ∷ remove_entry (same_pair p) es) (lookup_back p c es found) i.shared);
+  shared = subst (λ l. (k : Pair) → IsShare run.terms came i.fs k (lookup (same_pair k) ((p, c) ∷ l))) (sym is)
+      (moved run.terms came i.fs es ((p, c) ∷ remove_entry (same_pair p) es) (lookup_back p c es found) i.shared);
 }
 
 pub follows_moved : (start now : TargetSeen) (came : List Arrival) (es gs : List (Pair × Held)) (run : Run) → ((k : Pair) → lookup (same_pair k) gs ≡ lookup (same_pair k) es)
     → Follows start now came es run → Follows start now came gs run
-follows_moved start now came es gs run same i = record { fs = i.fs; known = i.known; shared = moved run.pieces came i.fs es gs same i.shared }
+follows_moved start now came es gs run same i = record { fs = i.fs; known = i.known; shared = moved run.terms came i.fs es gs same i.shared }
 
-pub holds_same : (start now : TargetSeen) (came : List Arrival) (x : Arrival) (p : Pair) (c : Held) (es : List (Pair × Held)) (old new : Run) → new.pieces ≡ old.pieces
+pub holds_same : (start now : TargetSeen) (came : List Arrival) (x : Arrival) (p : Pair) (c : Held) (es : List (Pair × Held)) (old new : Run) → new.terms ≡ old.terms
     → new.start ≡ old.start → new.lost ≡ old.lost → new.teller ≡ old.teller → Holds start now came x p c es old → Holds start now came x p c es new
-holds_same start now came x p c es old new pieces begin lost teller i = record {
+holds_same start now came x p c es old new terms begin lost teller i = record {
   fs = i.fs;
-  known = known_same start now i.fs old new pieces begin lost (subst (λ t. Tells start now t (reports_of i.fs)) (sym teller) i.known.tells) i.known;
+  known = known_same start now i.fs old new terms begin lost (subst (λ t. Tells start now t (reports_of i.fs)) (sym teller) i.known.tells) i.known;
   taken = i.taken;
-  is = subst (λ y. IsOpen y i.taken (x ∷ []) c.value) (sym pieces) i.is;
+  is = subst (λ y. IsOpen y i.taken (x ∷ []) c.value) (sym terms) i.is;
   share = i.share;
   absent = i.absent;
-  others = subst (λ y. (k : Pair) → same_pair k p ≡ false → IsShare y came i.fs k (lookup (same_pair k) es)) (sym pieces) i.others;
+  others = subst (λ y. (k : Pair) → same_pair k p ≡ false → IsShare y came i.fs k (lookup (same_pair k) es)) (sym terms) i.others;
 }
 
 pub follows_nothing : (start : TargetSeen) (run : Run) → Tells start start run.teller [] → run.lost ≡ 0 → run.table ≡ [] → Follows start start [] run.table run
 follows_nothing start run tells lost none = record {
   fs = [];
-  known = record { tells = tells; finished = All-nil (IsFinished run.pieces (unwrap_or run.start 0)); lost = lost };
-  shared = λ k. subst (λ (l : List (Pair × Held)). IsShare run.pieces [] [] k (lookup (same_pair k) l)) (sym none) (record { taken = []; is = refl; share = refl });
+  known = record { tells = tells; finished = All-nil (IsFinished run.terms (unwrap_or run.start 0)); lost = lost };
+  shared = λ k. subst (λ (l : List (Pair × Held)). IsShare run.terms [] [] k (lookup (same_pair k) l)) (sym none) (record { taken = []; is = refl; share = refl });
 }

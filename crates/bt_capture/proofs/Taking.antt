@@ -1,4 +1,5 @@
 -- A connection takes one segment more.
+use Rattle.bt_talk.specs.declared.terms.Terms.{Terms}
 use Rattle.std.proofs.Common.{◌≡◌, ◌∙◌, ℕ, Bool, true, false, ◌||◌, List, [], ◌∷◌, ◌++◌, append-nil, Option, Result, Ok, Err, OnOk, OnErr, refl, sym, ap, subst, inl, inr}
 use Rattle.std.specs.List.{list_any}
 use Rattle.std.proofs.lemmas.Bool.{cases_Bool}
@@ -6,7 +7,7 @@ use Rattle.std.proofs.lemmas.List.Folds.{list_any-append}
 use Rattle.bt_packet.specs.Tcp.{segment}
 use Rattle.bt_packet.specs.declared.tcp.Segment.{Segment}
 use Rattle.bt_talk.specs.Pasts.{Past}
-use Rattle.bt_talk.specs.Talks.{Takes, ends_of, pieces_of}
+use Rattle.bt_talk.specs.Talks.{Takes, ends_of, terms_of}
 use Rattle.bt_talk.specs.declared.talk.Talk.{Talk}
 use Rattle.bt_capture.specs.Arrivals.{Arrival}
 use Rattle.bt_capture.specs.Connections.{HasTaken, IsFirst, IsMade}
@@ -33,9 +34,9 @@ taken_more [] x s e a b t a' b' t' t'' i took =
     (subst (λ (u : Talk). HasTaken (x ∷ []) a' b' u took.a' took.b' t'') i.2 (s, e, t'', took, (refl, refl, refl))))
 taken_more (y ∷ ys) x s e a b t a' b' t' t'' i took = (i.0, i.1, i.2, i.3, taken_more ys x s e i.3.a' i.3.b' i.2 a' b' t' t'' i.4 took)
 
-pub made_more : (pieces : Option ℕ) (taken : List Arrival) (s : Segment) (x : Arrival) (t t' : Talk) → segment s ≡ x.segment → ends_of t' ≡ ends_of t
-    → pieces_of t' ≡ pieces_of t → (i : IsMade pieces taken (x ∷ []) t) → Takes s x.when i.a i.b t t' → IsMade pieces (taken ++ x ∷ []) [] t'
-made_more pieces taken s x t t' e ends same i took = record {
+pub made_more : (terms : Terms) (taken : List Arrival) (s : Segment) (x : Arrival) (t t' : Talk) → segment s ≡ x.segment → ends_of t' ≡ ends_of t
+    → terms_of t' ≡ terms_of t → (i : IsMade terms taken (x ∷ []) t) → Takes s x.when i.a i.b t t' → IsMade terms (taken ++ x ∷ []) [] t'
+made_more terms taken s x t t' e ends same i took = record {
   first = i.first;
   is_first = subst (IsFirst i.first) (sym (append-nil (taken ++ x ∷ []))) i.is_first;
   a = took.a';
@@ -48,6 +49,6 @@ made_more pieces taken s x t t' e ends same i took = record {
     has_taken = taken_more taken x s e _ _ i.made.begin i.a i.b t t' i.made.has_taken took;
     is = took.is;
     ends = ends ∙ i.made.ends;
-    pieces_are = same ∙ i.made.pieces_are;
+    terms_are = same ∙ i.made.terms_are;
   };
 }

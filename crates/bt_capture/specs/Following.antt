@@ -1,4 +1,5 @@
 -- The connections of a capture: those that are over, and those that aren't.
+use Rattle.bt_talk.specs.declared.terms.Terms.{Terms}
 use Rattle.std.specs.Prelude.{◌≡◌, ℕ, ◌-◌, ◌^◌, min, Bool, true, false, List, [], ◌∷◌, ◌++◌, length, Option, Some, None, unwrap_or, Result, Ok, Err}
 use Rattle.std.specs.List.{All, filter, flat_map, list_any}
 use Rattle.std.specs.Map.{lookup}
@@ -6,7 +7,7 @@ use Rattle.bt_io.specs.Seen.{TargetSeen}
 use Rattle.bt_packet.specs.declared.tcp.Segment.{Segment}
 use Rattle.bt_talk.specs.Pasts.{Past}
 use Rattle.bt_remarks.specs.declared.events.Side.{Side}
-use Rattle.bt_talk.specs.Talks.{IsTalk, ends_of, flow_of, pieces_of, is_in_opening}
+use Rattle.bt_talk.specs.Talks.{IsTalk, ends_of, flow_of, terms_of, is_in_opening}
 use Rattle.bt_talk.specs.declared.talk.Talk.{Talk}
 use Rattle.bt_told.specs.declared.report.Report.{Report}
 use Rattle.bt_capture.specs.Arrivals.{Arrival, is_between, has_data}
@@ -36,29 +37,29 @@ pub record IsEnded (a b : Past) (t t' : Talk) : Type 0 where
   pub is : IsTalk a b t'
   pub flows : (side : Side) → flow_of side t' ≡ flow_of side t
   pub ends : ends_of t' ≡ ends_of t
-  pub pieces : pieces_of t' ≡ pieces_of t
+  pub terms : terms_of t' ≡ terms_of t
   pub over : is_in_opening t' ≡ false
 
 -- The report says what was captured of both sides by these segments. The capture starts at the time `from`.
-pub record IsReported (pieces : Option ℕ) (from : ℕ) (taken : List Arrival) (r : Report) : Type 0 where
+pub record IsReported (terms : Terms) (from : ℕ) (taken : List Arrival) (r : Report) : Type 0 where
   pub first : Segment
   pub is_first : IsFirst first taken
   pub a : Past
   pub b : Past
   pub last : Talk
-  pub made : IsMadeOf pieces first taken a b last
+  pub made : IsMadeOf terms first taken a b last
   pub talk : Talk
   pub ended : IsEnded a b last talk
   pub number : ℕ
   pub is : IsReportOf number from a b talk r
 
-abbrev pub IsFate : Option ℕ → ℕ → List Arrival → Fate → Type 0
-IsFate pieces from taken (Reported r) = (list_any has_data taken ≡ true) × IsReported pieces from taken r
-IsFate pieces from taken Silent = list_any has_data taken ≡ false
-IsFate pieces from taken Lost = list_any has_data taken ≡ true
+abbrev pub IsFate : Terms → ℕ → List Arrival → Fate → Type 0
+IsFate terms from taken (Reported r) = (list_any has_data taken ≡ true) × IsReported terms from taken r
+IsFate terms from taken Silent = list_any has_data taken ≡ false
+IsFate terms from taken Lost = list_any has_data taken ≡ true
 
-abbrev pub IsFinished : Option ℕ → ℕ → Finished → Type 0
-IsFinished pieces from f = IsFate pieces from f.taken f.fate
+abbrev pub IsFinished : Terms → ℕ → Finished → Type 0
+IsFinished terms from f = IsFate terms from f.taken f.fate
 
 abbrev pub report_in : Fate → List Report
 report_in (Reported r) = r ∷ []
@@ -89,14 +90,14 @@ abbrev pub IsShared : Pair → List Arrival → List Finished → List Arrival �
 IsShared k arrivals fs rest = filter (is_between k) arrivals ≡ taken_between k fs ++ rest
 
 -- The connection that isn't over took these; or there is none.
-abbrev pub IsLeft : Option ℕ → List Arrival → Option Held → Type 0
-IsLeft pieces taken (Some c) = IsOpen pieces taken [] c.value
-IsLeft pieces taken None = taken ≡ []
+abbrev pub IsLeft : Terms → List Arrival → Option Held → Type 0
+IsLeft terms taken (Some c) = IsOpen terms taken [] c.value
+IsLeft terms taken None = taken ≡ []
 
 -- Each segment between two ends was taken by a connection that is over, or by the one that isn't.
-pub record IsShare (pieces : Option ℕ) (arrivals : List Arrival) (fs : List Finished) (k : Pair) (left : Option Held) : Type 0 where
+pub record IsShare (terms : Terms) (arrivals : List Arrival) (fs : List Finished) (k : Pair) (left : Option Held) : Type 0 where
   pub taken : List Arrival
-  pub is : IsLeft pieces taken left
+  pub is : IsLeft terms taken left
   pub share : IsShared k arrivals fs taken
 
 -- ---- while a capture is read
@@ -104,14 +105,14 @@ pub record IsShare (pieces : Option ℕ) (arrivals : List Arrival) (fs : List Fi
 -- The connections that are over are told.
 pub record IsKnown (start now : TargetSeen) (fs : List Finished) (run : Run) : Type 0 where
   pub tells : Tells start now run.teller (reports_of fs)
-  pub finished : All (IsFinished run.pieces (unwrap_or run.start 0)) fs
+  pub finished : All (IsFinished run.terms (unwrap_or run.start 0)) fs
   pub lost : run.lost ≡ count_lost fs
 
 -- These segments were taken. These connections aren't over, and the others are told.
 pub record Follows (start now : TargetSeen) (arrivals : List Arrival) (es : List (Pair × Held)) (run : Run) : Type 0 where
   pub fs : List Finished
   pub known : IsKnown start now fs run
-  pub shared : (k : Pair) → IsShare run.pieces arrivals fs k (lookup (same_pair k) es)
+  pub shared : (k : Pair) → IsShare run.terms arrivals fs k (lookup (same_pair k) es)
 
 -- These segments came. Connections are over and told, the others are given up.
 pub record Stops (start now : TargetSeen) (arrivals : List Arrival) (run : Run) : Type 0 where
@@ -129,10 +130,10 @@ pub record Holds (start now : TargetSeen) (arrivals : List Arrival) (x : Arrival
   pub fs : List Finished
   pub known : IsKnown start now fs run
   pub taken : List Arrival
-  pub is : IsOpen run.pieces taken (x ∷ []) c.value
+  pub is : IsOpen run.terms taken (x ∷ []) c.value
   pub share : IsShared p arrivals fs taken
   pub absent : lookup (same_pair p) es ≡ None
-  pub others : (k : Pair) → same_pair k p ≡ false → IsShare run.pieces arrivals fs k (lookup (same_pair k) es)
+  pub others : (k : Pair) → same_pair k p ≡ false → IsShare run.terms arrivals fs k (lookup (same_pair k) es)
 
 -- The connection of the next segment x was found or begun; or memory ran out.
 abbrev pub Finds : {E : Type 0} → TargetSeen → TargetSeen → List Arrival → Arrival → Pair → List (Pair × Held) → Run → Result Held E → Type 0

@@ -13,7 +13,7 @@ use Rattle.bt_talk.specs.Pasts.{Past}
 use Rattle.bt_talk.specs.Receivers.{AreVerdicts, IsReceiverNow}
 use Rattle.bt_talk.specs.Closing.{high_at}
 use Rattle.bt_talk.specs.Cuts.{IsLastBefore}
-use Rattle.bt_talk.specs.Talks.{IsTalk, of_side, flow_of, cut_of, is_in_opening, pieces_of, ends_of, closing_of}
+use Rattle.bt_talk.specs.Talks.{IsTalk, of_side, flow_of, cut_of, is_in_opening, terms_of, ends_of, closing_of}
 use Rattle.bt_talk.specs.Watching.{AreRemarked}
 use Rattle.bt_talk.specs.declared.talk.Talk.{Talk}
 use Rattle.bt_tcp.specs.declared.covered.Gap.{Gap}
@@ -53,8 +53,8 @@ shifted start gaps = record gaps { first = offset_first start gaps.first }
 -- A side without a whole handshake isn't judged.
 abbrev pub IsUnjudged : Side → Past → Past → Talk → Type 0
 IsUnjudged side a b t =
-    AreVerdicts (is_in_opening t) (pieces_of t) (of_side side a b) (of_side (other side) a b) None
-    ⊎ (IsReceiverNow (is_in_opening t) (pieces_of t) (of_side side a b) (of_side (other side) a b) None
+    AreVerdicts (is_in_opening t) (terms_of t) (of_side side a b) (of_side (other side) a b) None
+    ⊎ (IsReceiverNow (is_in_opening t) (terms_of t) (of_side side a b) (of_side (other side) a b) None
     ⊎ ((v : Outcome) × IsSaid (of_side side a b).front v × (first_of handshake_of v.items ≡ None)))
 
 -- the client's name, or the peer id if there is none
@@ -74,8 +74,8 @@ pub record IsTitleOf (p : Past) (t : Title) : Type 0 where
 -- The verdicts and the receiver are those of the side's stream.
 pub record IsJudgedOf (side : Side) (a b : Past) (t : Talk) (j : Judged) : Type 0 where
   pub title : IsTitleOf (of_side side a b) j.title
-  pub verdicts : AreVerdicts (is_in_opening t) (pieces_of t) (of_side side a b) (of_side (other side) a b) (Some (record { free = j.free; bep = j.bep }))
-  pub receiver : IsReceiverNow (is_in_opening t) (pieces_of t) (of_side side a b) (of_side (other side) a b) (Some (record { own = j.receiver; is_guessed = j.is_guessed }))
+  pub verdicts : AreVerdicts (is_in_opening t) (terms_of t) (of_side side a b) (of_side (other side) a b) (Some (record { free = j.free; bep = j.bep }))
+  pub receiver : IsReceiverNow (is_in_opening t) (terms_of t) (of_side side a b) (of_side (other side) a b) (Some (record { own = j.receiver; is_guessed = j.is_guessed }))
 
 abbrev pub IsSenderOf : Side → Past → Past → Talk → Sender → Type 0
 IsSenderOf side a b t (Unknown sent) = (sent ≡ length (of_side side a b).out) × IsUnjudged side a b t
@@ -108,7 +108,7 @@ means_by reset = if reset then Rst else Fin
 
 -- what is kept of the side's stream
 abbrev pub IsReceiverOf : Side → Past → Past → Talk → Option Receiver → Type 0
-IsReceiverOf side a b t r = IsReceiverNow (is_in_opening t) (pieces_of t) (of_side side a b) (of_side (other side) a b) r
+IsReceiverOf side a b t r = IsReceiverNow (is_in_opening t) (terms_of t) (of_side side a b) (of_side (other side) a b) r
 
 -- how far the side's captured bytes reached at the first FIN or RST, from its handshake on
 abbrev pub IsSentBefore : Side → Past → Past → Talk → Option ℕ → Type 0
@@ -119,7 +119,7 @@ IsSentBefore side a b t sent =
 -- the last of what was put together then
 abbrev pub IsLastOfSide : Side → Past → Past → Talk → Option Last → Type 0
 IsLastOfSide side a b t last =
-    IsLastBefore (is_in_opening t) (pieces_of t) (of_side side a b) (of_side (other side) a b) (cut_of side t) last
+    IsLastBefore (is_in_opening t) (terms_of t) (of_side side a b) (of_side (other side) a b) (cut_of side t) last
 
 -- What a side had sent then; nothing is told if it has no whole handshake.
 abbrev pub IsBeforeOf : Side → Past → Past → Talk → Option Before → Type 0

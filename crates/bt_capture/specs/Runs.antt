@@ -1,4 +1,5 @@
 -- What was told of a capture.
+use Rattle.bt_talk.specs.declared.terms.Terms.{Terms}
 use Rattle.std.specs.Prelude.{◌≡◌, ℕ, ◌-◌, ◌^◌, min, Bool, true, false, List, [], length, Option, unwrap_or, Result, Ok, Err}
 use Rattle.std.specs.List.{All}
 use Rattle.std.specs.Io.KnownBytes.{Appends, Consumes}
@@ -23,13 +24,13 @@ use Rattle.bt_capture.specs.Tellings.{IsStopped, texts, count_torrents, is_one_r
 
 -- the piece count, if it is known; whether reports are JSON objects; the bytes that the source has, if these are known; and the target
 pub record Origin : Type 0 where
-  pub pieces : Option ℕ
+  pub terms : Terms
   pub json : Bool
   pub left : Option (List ℕ)
   pub target : TargetSeen
 
 abbrev pub origin : CaptureJob → SourceSeen → TargetSeen → Origin
-origin job source target = record { pieces = job.pieces; json = job.json; left = source.left; target = target }
+origin job source target = record { terms = job.terms; json = job.json; left = source.left; target = target }
 
 -- These packets were read from the source, all of them since the begin. Now it has these bytes left.
 pub record HasRead (o : Origin) (left : Option (List ℕ)) (packets : List Captured) (r : Reading) : Type 0 where
@@ -43,7 +44,7 @@ pub record HasRead (o : Origin) (left : Option (List ℕ)) (packets : List Captu
 pub record IsTelling (o : Origin) (left : Option (List ℕ)) (now : TargetSeen) (es : List (Pair × Held)) (run : Run) (r : Reading) : Type 0 where
   pub packets : List Captured
   pub read : HasRead o left packets r
-  pub pieces : run.pieces ≡ o.pieces
+  pub terms : run.terms ≡ o.terms
   pub json : run.teller.json ≡ o.json
   pub time : run.start ≡ first_time packets
   pub follows : Follows o.target now (arrivals packets) es run
@@ -52,12 +53,12 @@ pub record IsTelling (o : Origin) (left : Option (List ℕ)) (now : TargetSeen) 
 
 -- The connections that are over, each with its segments among those of the packets, in order, except the rest.
 pub record AreOver (o : Origin) (packets : List Captured) (fs : List Finished) : Type 0 where
-  pub finished : All (IsFinished o.pieces (unwrap_or (first_time packets) 0)) fs
+  pub finished : All (IsFinished o.terms (unwrap_or (first_time packets) 0)) fs
   pub shared : (k : Pair) → (rest : List Arrival) × IsShared k (arrivals packets) fs rest
 
 -- All connections are over: each segment of the packets was taken by one of them.
 pub record AreAllOver (o : Origin) (packets : List Captured) (fs : List Finished) : Type 0 where
-  pub finished : All (IsFinished o.pieces (unwrap_or (first_time packets) 0)) fs
+  pub finished : All (IsFinished o.terms (unwrap_or (first_time packets) 0)) fs
   pub shared : (k : Pair) → IsShared k (arrivals packets) fs []
 
 abbrev pub is_cut_by : FileEnd → Bool

@@ -1,11 +1,12 @@
 //! A connection of a capture, with its number.
+ghost use Rattle.bt_talk.specs.declared.terms.Terms.{Terms};
 ghost use Rattle.std.specs.Prelude.{◌≡◌, ◌++◌, ◌∷◌, List, [], Option, ℕ};
 ghost use Rattle.bt_talk.specs.declared.closing.When.{When};
 ghost use Rattle.bt_capture.specs.Arrivals.{Arrival, arrived, has_data};
 ghost use Rattle.bt_capture.specs.Connections.{IsOpen};
 
 use bt_packet::Segment;
-use bt_talk::{Room, Side, Talk, When};
+use bt_talk::{Room, Side, Talk, Terms, When};
 use std::alloc::Global;
 
 /// How many bytes of memory a connection takes of which no byte was captured.
@@ -35,12 +36,12 @@ fn has_payload(segment: &Segment) -> bool
 
 impl Connection {
     /// Begins a connection; nothing of it was taken yet.
-    pub fn new(alloc: Global, number: u64, first: &Segment, pieces: Option<u32>) -> Connection
-        ensures { (when : When) → IsOpen pieces [] (arrived first.now when ∷ []) result }
+    pub fn new(alloc: Global, number: u64, first: &Segment, terms: Terms) -> Connection
+        ensures { (when : When) → IsOpen terms [] (arrived first.now when ∷ []) result }
     {
         Connection {
             number,
-            talk: Talk::new(alloc, first, pieces),
+            talk: Talk::new(alloc, first, terms),
             has_payload: false,
         }
     }
@@ -49,8 +50,8 @@ impl Connection {
     ///
     /// If memory runs out the connection is lost.
     pub fn take(&mut self, segment: &Segment, when: When, room: &mut Room)
-        ensures { (pieces : Option ℕ) (taken : List Arrival) → let a = arrived segment.now when in IsOpen pieces taken (a ∷ []) self.old
-            → IsOpen pieces (taken ++ a ∷ []) [] self.new }
+        ensures { (terms : Terms) (taken : List Arrival) → let a = arrived segment.now when in IsOpen terms taken (a ∷ []) self.old
+            → IsOpen terms (taken ++ a ∷ []) [] self.new }
     {
         self.has_payload |= has_payload(segment);
         let _taken = self.talk.take(segment, when, room);

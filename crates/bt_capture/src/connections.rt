@@ -18,7 +18,7 @@ use crate::table::Table;
 use crate::telling::Teller;
 use bt_packet::Segment;
 use bt_pcap::Packet;
-use bt_talk::{Room, When};
+use bt_talk::{Room, Terms, When};
 use std::alloc::{AllocError, Global};
 
 /// How many bytes of memory the connections take together. Past that the one that was used least recently is over.
@@ -28,7 +28,7 @@ const BYTES: u64 = 500_000_000;
 #[derive(Drop)]
 pub struct Run {
     alloc: Global,
-    pieces: Option<u32>,
+    terms: Terms,
     /// The time of the first packet.
     start: Option<u64>,
     table: Table,
@@ -47,15 +47,15 @@ impl Run {
     ///
     /// # Errors
     /// `AllocError` when out of memory.
-    pub fn new(alloc: Global, pieces: Option<u32>, json: bool) -> Result<Run, AllocError>
+    pub fn new(alloc: Global, terms: Terms, json: bool) -> Result<Run, AllocError>
         ensures follows { IfOk result (λ run. (start : TargetSeen) → Follows start start [] run.table run) }
         ensures start { IfOk result (λ run. run.start ≡ None) }
-        ensures pieces { IfOk result (λ run. run.pieces ≡ pieces) }
+        ensures terms { IfOk result (λ run. run.terms ≡ terms) }
         ensures json { IfOk result (λ run. run.teller.json ≡ json) }
     {
         Ok(Run {
             alloc,
-            pieces,
+            terms,
             start: None,
             table: Table::new(alloc)?,
             bytes: 0,
@@ -75,7 +75,7 @@ impl Run {
         ensures goes { (start now : TargetSeen) (came : List Arrival) (p : Pair) (es : List (Pair × Held)) → lookup (same_pair p) es ≡ None
             → Follows start now came ((p, connection) ∷ es) self.old → Goes start now came es self.new result }
         ensures table { self.new.table ≡ self.old.table }
-        ensures pieces { self.new.pieces ≡ self.old.pieces }
+        ensures terms { self.new.terms ≡ self.old.terms }
         ensures json { self.new.teller.json ≡ self.old.teller.json }
         ensures start { self.new.start ≡ self.old.start }
     {
@@ -99,7 +99,7 @@ impl Run {
         ensures goes { (start now : TargetSeen) (came : List Arrival) → Follows start now came self.old.table self.old
             → Goes start now came self.new.table self.new result }
         ensures shorter { 0 < length self.old.table → length self.new.table < length self.old.table }
-        ensures pieces { self.new.pieces ≡ self.old.pieces }
+        ensures terms { self.new.terms ≡ self.old.terms }
         ensures json { self.new.teller.json ≡ self.old.teller.json }
         ensures start { self.new.start ≡ self.old.start }
     {
@@ -116,7 +116,7 @@ impl Run {
     fn shrink(&mut self) -> Result<(), AllocError>
         ensures goes { (start now : TargetSeen) (came : List Arrival) → Follows start now came self.old.table self.old
             → Goes start now came self.new.table self.new result }
-        ensures pieces { self.new.pieces ≡ self.old.pieces }
+        ensures terms { self.new.terms ≡ self.old.terms }
         ensures json { self.new.teller.json ≡ self.old.teller.json }
         ensures start { self.new.start ≡ self.old.start }
     {
@@ -137,7 +137,7 @@ impl Run {
         requires { lookup (same_pair pair) self.old.table ≡ None }
         ensures goes { (start now : TargetSeen) (came : List Arrival) → Follows start now came ((pair, connection) ∷ self.old.table) self.old
             → Goes start now came self.new.table self.new result }
-        ensures pieces { self.new.pieces ≡ self.old.pieces }
+        ensures terms { self.new.terms ≡ self.old.terms }
         ensures json { self.new.teller.json ≡ self.old.teller.json }
         ensures start { self.new.start ≡ self.old.start }
     {
@@ -153,11 +153,11 @@ impl Run {
         ensures finds { (start now : TargetSeen) (came : List Arrival) (when : When) (p : Pair) (es : List (Pair × Held)) → lookup (same_pair p) es ≡ None
             → Follows start now came es self.old → Finds start now came (arrived segment.now when) p es self.new result }
         ensures table { self.new.table ≡ self.old.table }
-        ensures pieces { self.new.pieces ≡ self.old.pieces }
+        ensures terms { self.new.terms ≡ self.old.terms }
         ensures json { self.new.teller.json ≡ self.old.teller.json }
         ensures start { self.new.start ≡ self.old.start }
     {
-        let connection = Connection::new(self.alloc, self.begun, segment, self.pieces);
+        let connection = Connection::new(self.alloc, self.begun, segment, self.terms);
         self.begun = self.begun.saturating_add(1);
         match Box::new(self.alloc, connection) {
             Ok(connection) => Ok(connection),
@@ -177,7 +177,7 @@ impl Run {
         ensures finds { (start now : TargetSeen) (came : List Arrival) (p : Pair) (es : List (Pair × Held)) → lookup (same_pair p) es ≡ None
             → Follows start now came ((p, connection) ∷ es) self.old → Finds start now came (arrived segment.now when) p es self.new result }
         ensures table { self.new.table ≡ self.old.table }
-        ensures pieces { self.new.pieces ≡ self.old.pieces }
+        ensures terms { self.new.terms ≡ self.old.terms }
         ensures json { self.new.teller.json ≡ self.old.teller.json }
         ensures start { self.new.start ≡ self.old.start }
     {
@@ -200,7 +200,7 @@ impl Run {
         ensures finds { (start now : TargetSeen) (came : List Arrival) → Follows start now came self.old.table self.old
             → Finds start now came (arrived segment.now when) pair self.new.table self.new result }
         ensures absent { lookup (same_pair pair) self.new.table ≡ None }
-        ensures pieces { self.new.pieces ≡ self.old.pieces }
+        ensures terms { self.new.terms ≡ self.old.terms }
         ensures json { self.new.teller.json ≡ self.old.teller.json }
         ensures start { self.new.start ≡ self.old.start }
     {
@@ -217,7 +217,7 @@ impl Run {
     fn take_segment(&mut self, segment: &Segment, when: When) -> Result<(), AllocError>
         ensures goes { (start now : TargetSeen) (came : List Arrival) → Follows start now came self.old.table self.old
             → Goes start now (came ++ arrived segment.now when ∷ []) self.new.table self.new result }
-        ensures pieces { self.new.pieces ≡ self.old.pieces }
+        ensures terms { self.new.terms ≡ self.old.terms }
         ensures json { self.new.teller.json ≡ self.old.teller.json }
         ensures start { self.new.start ≡ self.old.start }
     {
@@ -242,7 +242,7 @@ impl Run {
     fn take_sight(&mut self, sight: &Sight, when: When) -> Result<(), AllocError>
         ensures goes { (start now : TargetSeen) (came : List Arrival) → Follows start now came self.old.table self.old
             → Goes start now (came ++ arrivals_in when.packet when.nanos (seen sight.now)) self.new.table self.new result }
-        ensures pieces { self.new.pieces ≡ self.old.pieces }
+        ensures terms { self.new.terms ≡ self.old.terms }
         ensures json { self.new.teller.json ≡ self.old.teller.json }
         ensures start { self.new.start ≡ self.old.start }
     {
@@ -267,7 +267,7 @@ impl Run {
         ensures goes { (start now : TargetSeen) (packets : List Captured) → number ≡ min (length packets + 1) (2 ^ 64 - 1)
             → self.old.start ≡ first_time packets → Follows start now (arrivals packets) self.old.table self.old
             → Goes start now (arrivals (packets ++ captured packet.now ∷ [])) self.new.table self.new result }
-        ensures pieces { self.new.pieces ≡ self.old.pieces }
+        ensures terms { self.new.terms ≡ self.old.terms }
         ensures json { self.new.teller.json ≡ self.old.teller.json }
         ensures start { (packets : List Captured) → self.old.start ≡ first_time packets → self.new.start ≡ first_time (packets ++ captured packet.now ∷ []) }
     {

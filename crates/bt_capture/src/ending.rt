@@ -1,12 +1,13 @@
 //! What `capture` is asked for, how it ends, and what can stop it.
 use bt_pcap::FileFault;
+use bt_talk::Terms;
 use thiserror::Error;
 
 /// What is asked for.
 #[derive(Clone, Copy, Debug)]
 pub struct CaptureJob {
-    /// The piece count of all connections, if it is known.
-    pub pieces: Option<u32>,
+    /// What is known of the connections besides their bytes.
+    pub terms: Terms,
     /// Whether reports are JSON objects, each on a line; else they are text.
     pub json: bool,
 }

@@ -271,7 +271,7 @@ pub fn run_capture<R: Source, W: Target>(
 ) -> Result<CaptureEnd, CaptureFault>
     ensures told { IsTold (origin job.now (R.seen reader.old) (W.seen writer.old)) (R.seen reader.new).left (W.seen writer.new) result }
 {
-    match Run::new(alloc, job.pieces, job.json) {
+    match Run::new(alloc, job.terms, job.json) {
         Ok(mut run) => match Packets::new(alloc) {
             Ok(mut packets) => tell_all(&mut run, &mut packets, reader, writer),
             Err(_) => Err(CaptureFault::Memory),

@@ -39,7 +39,11 @@ fn run(
     let mut reader = MemSource::new(file, most.max(1), None);
     let mut writer = MemTarget::new(Vec::new(rt.alloc()), 4_096, None);
     let job = CaptureJob {
-        pieces: Some(4),
+        terms: Terms {
+            limit: 262_144,
+            pieces: Some(4),
+            torrent: None,
+        },
         json: false,
     };
     let end = run_capture(rt.alloc(), &mut reader, &mut writer, &job);

@@ -91,5 +91,5 @@ pub record IsServeAsked (f : Found) (job : ServeJob) : Type 0 where
 -- ---- `capture`
 
 pub record IsCaptureAsked (f : Found) (job : CaptureJob) : Type 0 where
-  pub pieces : capture_pieces_in (first_value f (codes "pieces")) ≡ Some job.pieces
+  pub pieces : capture_pieces_in (first_value f (codes "pieces")) ≡ Some job.terms.pieces
   pub json : job.json ≡ flag_in f (codes "json")

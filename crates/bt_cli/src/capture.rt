@@ -14,6 +14,7 @@ use bt_pcap::FileFault;
 use bt_run::ending::{end_by_fault, say_both};
 use bt_run::values::number_within;
 use bt_text::ended::ToolFault;
+use bt_talk::Terms;
 use bt_text::lines::fault_line;
 use clap::ArgMatches;
 use std::alloc::{AllocError, Global};
@@ -50,7 +51,11 @@ pub fn capture_in(options: &ArgMatches<'_>) -> Result<CaptureJob, &'static str>
 {
     match pieces_in(options.get_str("pieces")) {
         Some(pieces) => Ok(CaptureJob {
-            pieces,
+            terms: Terms {
+                limit: 262_144,
+                pieces,
+                torrent: None,
+            },
             json: is_given(options, "json"),
         }),
         None => Err("'--pieces' takes a number from 0 to 4294967295"),

@@ -1,4 +1,5 @@
 -- What a direction's stage says of its past.
+use Rattle.bt_talk.specs.declared.terms.Terms.{Terms}
 use Rattle.std.proofs.Common.{◌≡◌, ◌∙◌, ℕ, true, false, List, [], ◌++◌, append-nil, append_assoc, Option, Some, None, refl, sym, ap, subst}
 use Rattle.bt_flow.specs.declared.flow.Given.{Given}
 use Rattle.bt_intro.specs.declared.introduction.Introduction.{Introduction}
@@ -13,42 +14,42 @@ use Rattle.bt_talk.specs.Stages.{is_opening, receiver_in, IsStage, IsDirection}
 use Rattle.bt_talk.proofs.Cuts.{cut_more, cut_none, within_more}
 use Rattle.bt_talk.proofs.Receivers.{receiver_same, judged_same}
 
-pub stage_same : (pieces : Option ℕ) (p q p' q' : Past) (s : Stage) → p'.out ≡ p.out → p'.front ≡ p.front → q'.front ≡ q.front → IsStage pieces p q s
-    → IsStage pieces p' q' s
-stage_same pieces p q p' q' (Opening front) o e f i = (i.0 ∙ sym o, e ∙ i.1 ∙ sym o)
-stage_same pieces p q p' q' (Open j) o e f i = (receiver_same pieces p q p' q' (Some j.receiver) e f i.0, judged_same j.receiver.own p p' j.judge e o i.1)
-stage_same pieces p q p' q' Stranger o e f i = receiver_same pieces p q p' q' None e f i
+pub stage_same : (terms : Terms) (p q p' q' : Past) (s : Stage) → p'.out ≡ p.out → p'.front ≡ p.front → q'.front ≡ q.front → IsStage terms p q s
+    → IsStage terms p' q' s
+stage_same terms p q p' q' (Opening front) o e f i = (i.0 ∙ sym o, e ∙ i.1 ∙ sym o)
+stage_same terms p q p' q' (Open j) o e f i = (receiver_same terms p q p' q' (Some j.receiver) e f i.0, judged_same j.receiver.own p p' j.judge e o i.1)
+stage_same terms p q p' q' Stranger o e f i = receiver_same terms p q p' q' None e f i
 
 -- The other side's front matters only after the opening.
-pub stage_beside : (pieces : Option ℕ) (p q q' : Past) (s : Stage) → (is_opening s ≡ false → q'.front ≡ q.front) → IsStage pieces p q s
-    → IsStage pieces p q' s
-stage_beside pieces p q q' (Opening front) f i = i
-stage_beside pieces p q q' (Open j) f i = (receiver_same pieces p q p q' (Some j.receiver) refl (f refl) i.0, i.1)
-stage_beside pieces p q q' Stranger f i = receiver_same pieces p q p q' None refl (f refl) i
+pub stage_beside : (terms : Terms) (p q q' : Past) (s : Stage) → (is_opening s ≡ false → q'.front ≡ q.front) → IsStage terms p q s
+    → IsStage terms p q' s
+stage_beside terms p q q' (Opening front) f i = i
+stage_beside terms p q q' (Open j) f i = (receiver_same terms p q p q' (Some j.receiver) refl (f refl) i.0, i.1)
+stage_beside terms p q q' Stranger f i = receiver_same terms p q p q' None refl (f refl) i
 
-pub beside : (pieces : Option ℕ) (p q q' : Past) (d : Direction) → (is_opening d.stage ≡ false → q'.front ≡ q.front) → IsDirection pieces p q d
-    → IsDirection pieces p q' d
-beside pieces p q q' d f i = record {
+pub beside : (terms : Terms) (p q q' : Past) (d : Direction) → (is_opening d.stage ≡ false → q'.front ≡ q.front) → IsDirection terms p q d
+    → IsDirection terms p q' d
+beside terms p q q' d f i = record {
   flow = i.flow;
   intro = i.intro;
   later = i.later;
   front = i.front;
-  stage = stage_beside pieces p q q' d.stage f i.stage;
+  stage = stage_beside terms p q q' d.stage f i.stage;
   within = i.within;
   cut = i.cut;
 }
 
 -- In the opening all bytes belong to it.
-pub opening_front : (pieces : Option ℕ) (p q : Past) (s : Stage) → is_opening s ≡ true → IsStage pieces p q s → p.front ≡ p.out
-opening_front pieces p q (Opening front) e i = i.1
-opening_front pieces p q (Open j) e i = absurd (cc)
-opening_front pieces p q Stranger e i = absurd (cc)
+pub opening_front : (terms : Terms) (p q : Past) (s : Stage) → is_opening s ≡ true → IsStage terms p q s → p.front ≡ p.out
+opening_front terms p q (Opening front) e i = i.1
+opening_front terms p q (Open j) e i = absurd (cc)
+opening_front terms p q Stranger e i = absurd (cc)
 
 -- After the opening a segment adds to what follows it.
-pub goes_on : (g : Given) (pieces : Option ℕ) (p other q : Past) (d d' : Direction) → d'.intro ≡ d.intro → receiver_in d'.stage ≡ receiver_in d.stage
-    → d'.cut ≡ d.cut → IsDirection pieces p other d → IsFlowOf q d'.flow → Adds g false p d.flow q d'.flow → IsStage pieces q other d'.stage
-    → IsDirection pieces q other d'
-goes_on g pieces p other q d d' e r k i f a s = record {
+pub goes_on : (g : Given) (terms : Terms) (p other q : Past) (d d' : Direction) → d'.intro ≡ d.intro → receiver_in d'.stage ≡ receiver_in d.stage
+    → d'.cut ≡ d.cut → IsDirection terms p other d → IsFlowOf q d'.flow → Adds g false p d.flow q d'.flow → IsStage terms q other d'.stage
+    → IsDirection terms q other d'
+goes_on g terms p other q d d' e r k i f a s = record {
   flow = f;
   intro = subst (λ (x : Introduction). IsHeardOf q.front x) (sym e) (subst (λ (l : List ℕ). IsHeardOf l d.intro) (sym a.front) i.intro);
   later = i.later ++ a.more;
@@ -60,9 +61,9 @@ goes_on g pieces p other q d d' e r k i f a s = record {
       (cut_more (receiver_in d.stage) (receiver_in d'.stage) p.front q.front p.out a.more q.out d.cut r a.front a.out i.within i.cut);
 }
 
-pub in_opening : (pieces : Option ℕ) (p other : Past) (d : Direction) → IsFlowOf p d.flow → IsHeardOf p.front d.intro → p.front ≡ p.out
-    → receiver_in d.stage ≡ None → IsWithin (cut_length d.cut) p.out → IsStage pieces p other d.stage → IsDirection pieces p other d
-in_opening pieces p other d f h all r le s = record {
+pub in_opening : (terms : Terms) (p other : Past) (d : Direction) → IsFlowOf p d.flow → IsHeardOf p.front d.intro → p.front ≡ p.out
+    → receiver_in d.stage ≡ None → IsWithin (cut_length d.cut) p.out → IsStage terms p other d.stage → IsDirection terms p other d
+in_opening terms p other d f h all r le s = record {
   flow = f;
   intro = h;
   later = [];

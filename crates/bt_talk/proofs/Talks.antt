@@ -1,4 +1,5 @@
 -- What is known of a side of a connection, and of both after a segment.
+use Rattle.bt_talk.specs.declared.terms.Terms.{Terms}
 use Rattle.std.proofs.Common.{◌≡◌, ◌∙◌, ℕ, true, false, Bool, ◌∷◌, [], ◌++◌, Option, length, Some, None, refl, sym, ap, subst, arith, min, ◌-◌, ◌^◌}
 use Rattle.std.specs.Prelude.{nat_le, if◌then◌else◌, ◌||◌}
 use Rattle.std.proofs.lemmas.Bool.Decides.{nat_tests}
@@ -22,15 +23,15 @@ use Rattle.bt_talk.specs.Stages.{IsDirection, IsHeard, is_opening}
 use Rattle.bt_talk.specs.Talks.{IsTalk, IsEnd, IsSender, direction_of, cut_of, flow_of, of_side, is_in_opening, is_over}
 
 direction_is : (side : Side) (a b : Past) (t : Talk) → IsTalk a b t
-    → IsDirection t.pieces (of_side side a b) (of_side (other side) a b) (direction_of side t)
+    → IsDirection t.terms (of_side side a b) (of_side (other side) a b) (direction_of side t)
 direction_is A a b t i = i.a_is
 direction_is B a b t i = i.b_is
 
 -- the direction of a side
 pub found : (side : Side) (a b : Past) (t : Talk) (d : Direction) → d ≡ direction_of side t → IsTalk a b t
-    → IsDirection t.pieces (of_side side a b) (of_side (other side) a b) d
+    → IsDirection t.terms (of_side side a b) (of_side (other side) a b) d
 found side a b t d e i =
-    subst (λ (x : Direction). IsDirection t.pieces (of_side side a b) (of_side (other side) a b) x) (sym e) (direction_is side a b t i)
+    subst (λ (x : Direction). IsDirection t.terms (of_side side a b) (of_side (other side) a b) x) (sym e) (direction_is side a b t i)
 
 stage_of : (side : Side) (a b : Past) (t : Talk) → IsTalk a b t → is_opening (direction_of side t).stage ≡ is_in_opening t
 stage_of A a b t i = refl
@@ -103,9 +104,9 @@ acked_by false (Some n) opens q q' e = (ap (λ (p : Past). p.front) e.1, ap (λ 
 pub acked_same : (s : Segment) (q q' : Past) → IsAcked s q q' → (q'.front ≡ q.front) × (q'.out ≡ q.out)
 acked_same s q q' i = acked_by s.flags.rst s.acked s.flags.syn q q' i
 
-after_opening : (pieces : Option ℕ) (p q : Past) (d : Direction) (o : Opened) → IsDirection pieces p q d → IsOpened pieces p q (cut_length d.cut) o
-    → IsDirection pieces p q (record d { stage = o.stage; cut = o.cut })
-after_opening pieces p q d o i k = record {
+after_opening : (terms : Terms) (p q : Past) (d : Direction) (o : Opened) → IsDirection terms p q d → IsOpened terms p q (cut_length d.cut) o
+    → IsDirection terms p q (record d { stage = o.stage; cut = o.cut })
+after_opening terms p q d o i k = record {
   flow = i.flow;
   intro = i.intro;
   later = i.later;
@@ -116,17 +117,17 @@ after_opening pieces p q d o i k = record {
 }
 
 -- The opening ended: both sides have another stage.
-pub ended : (a b : Past) (t u : Talk) (o o' : Opened) → u.pieces ≡ t.pieces → u.a ≡ record t.a { stage = o.stage; cut = o.cut }
+pub ended : (a b : Past) (t u : Talk) (o o' : Opened) → u.terms ≡ t.terms → u.a ≡ record t.a { stage = o.stage; cut = o.cut }
     → u.b ≡ record t.b { stage = o'.stage; cut = o'.cut } → is_opening o.stage ≡ false → is_opening o'.stage ≡ false
-    → IsOpened t.pieces a b (cut_of A t) o → IsOpened t.pieces b a (cut_of B t) o' → IsHeard a b o.stage o'.stage u.watch → IsTalk a b t → IsTalk a b u
+    → IsOpened t.terms a b (cut_of A t) o → IsOpened t.terms b a (cut_of B t) o' → IsHeard a b o.stage o'.stage u.watch → IsTalk a b t → IsTalk a b u
 ended a b t u o o' ep ea eb x y i j said k =
     let da : Direction = record t.a { stage = o.stage; cut = o.cut } in
     let db : Direction = record t.b { stage = o'.stage; cut = o'.cut } in
-    let ia : IsDirection t.pieces a b da = after_opening t.pieces a b t.a o k.a_is i in
-    let ib : IsDirection t.pieces b a db = after_opening t.pieces b a t.b o' k.b_is j in
+    let ia : IsDirection t.terms a b da = after_opening t.terms a b t.a o k.a_is i in
+    let ib : IsDirection t.terms b a db = after_opening t.terms b a t.b o' k.b_is j in
     record {
-      a_is = subst (λ (d : Direction). IsDirection u.pieces a b d) (sym ea) (subst (λ (n : Option ℕ). IsDirection n a b da) (sym ep) ia);
-      b_is = subst (λ (d : Direction). IsDirection u.pieces b a d) (sym eb) (subst (λ (n : Option ℕ). IsDirection n b a db) (sym ep) ib);
+      a_is = subst (λ (d : Direction). IsDirection u.terms a b d) (sym ea) (subst (λ (n : Terms). IsDirection n a b da) (sym ep) ia);
+      b_is = subst (λ (d : Direction). IsDirection u.terms b a d) (sym eb) (subst (λ (n : Terms). IsDirection n b a db) (sym ep) ib);
       stages = ap (λ (d : Direction). is_opening d.stage) ea ∙ x ∙ sym y ∙ sym (ap (λ (d : Direction). is_opening d.stage) eb);
       said = subst (λ (d : Direction). IsHeard a b d.stage u.b.stage u.watch) (sym ea)
           (subst (λ (d : Direction). IsHeard a b o.stage d.stage u.watch) (sym eb) said);
@@ -156,8 +157,8 @@ flows_same A t u e f = e
 flows_same B t u e f = f
 
 -- Both sides have noted the close.
-pub closed_both : (a b : Past) (t u : Talk) → u.pieces ≡ t.pieces → u.watch ≡ t.watch → u.a.stage ≡ t.a.stage → u.b.stage ≡ t.b.stage
-    → IsDirection u.pieces a b u.a → IsDirection u.pieces b a u.b → IsTalk a b t → IsTalk a b u
+pub closed_both : (a b : Past) (t u : Talk) → u.terms ≡ t.terms → u.watch ≡ t.watch → u.a.stage ≡ t.a.stage → u.b.stage ≡ t.b.stage
+    → IsDirection u.terms a b u.a → IsDirection u.terms b a u.b → IsTalk a b t → IsTalk a b u
 closed_both a b t u ep ew ea eb i j k = record {
   a_is = i;
   b_is = j;

@@ -1,4 +1,5 @@
 -- What a side had sent when the connection was closed.
+use Rattle.bt_talk.specs.declared.terms.Terms.{Terms}
 use Rattle.std.specs.Prelude.{◌≡◌, ◌≤◌, ℕ, Bool, true, false, List, [], drop, take, length, Option, Some, None, ◌||◌, if◌then◌else◌}
 use Rattle.bt_ext.specs.declared.ids.Rules.TheVariants.{Free}
 use Rattle.bt_intro.specs.declared.settling.Receiver.{Receiver}
@@ -64,9 +65,9 @@ IsCutNow receiver front out None = Unit {0}
 IsCutNow receiver front out (Some cut) = IsCutBy receiver front (take cut.length out) cut.last
 
 -- the last that a side had sent, of these first bytes, by its receiver, if there is one
-abbrev pub IsLastBefore : Bool → Option ℕ → Past → Past → Option ℕ → Option Last → Type 0
-IsLastBefore true pieces p q cut last = last ≡ None
-IsLastBefore false pieces p q None last = last ≡ None
-IsLastBefore false pieces p q (Some n) None = ⊥
-IsLastBefore false pieces p q (Some n) (Some last) =
-    (n ≤ length p.out) × ((receiver : Option Receiver) × IsReceiver pieces p q receiver × IsCutBy receiver p.front (take n p.out) last)
+abbrev pub IsLastBefore : Bool → Terms → Past → Past → Option ℕ → Option Last → Type 0
+IsLastBefore true terms p q cut last = last ≡ None
+IsLastBefore false terms p q None last = last ≡ None
+IsLastBefore false terms p q (Some n) None = ⊥
+IsLastBefore false terms p q (Some n) (Some last) =
+    (n ≤ length p.out) × ((receiver : Option Receiver) × IsReceiver terms p q receiver × IsCutBy receiver p.front (take n p.out) last)

@@ -1,4 +1,5 @@
 pub mod Pasts
+pub mod Terms
 pub mod Receivers
 pub mod Events
 pub mod Watching

@@ -1,4 +1,5 @@
 -- How far the bytes of the opening are judged, at its end.
+use Rattle.bt_talk.specs.declared.terms.Terms.{Terms}
 use Rattle.std.specs.Prelude.{◌≡◌, ℕ, Bool, true, false, List, [], ◌++◌, drop, take, Option, Some, None}
 use Rattle.bt_intro.specs.declared.settling.Receiver.{Receiver}
 use Rattle.bt_intro.specs.Hellos.{IsFirstHello}
@@ -101,15 +102,15 @@ AreReplays a b w a' b' w' = (p q : Past) (x y : Aim) → AreReplayed p q x y a b
 
 -- ---- after the opening
 
-pub record IsOpened (pieces : Option ℕ) (p q : Past) (cut : Option ℕ) (o : Opened) : Type 0 where
-  pub stage : IsStage pieces p q o.stage
+pub record IsOpened (terms : Terms) (p q : Past) (cut : Option ℕ) (o : Opened) : Type 0 where
+  pub stage : IsStage terms p q o.stage
   pub length : cut_length o.cut ≡ cut
   pub last : IsCutNow (receiver_in o.stage) p.front p.out o.cut
 
-pub record IsFinished (pieces : Option ℕ) (p q : Past) (cut : Option ℕ) (side : Side) (items : Side → List (ℕ × Item)) (o : Opened) (w : Watch) : Type 0 where
+pub record IsFinished (terms : Terms) (p q : Past) (cut : Option ℕ) (side : Side) (items : Side → List (ℕ × Item)) (o : Opened) (w : Watch) : Type 0 where
   pub events : List Told
   pub now : Side → List (ℕ × Item)
   pub others : now (other side) ≡ items (other side)
-  pub is : IsOpened pieces p q cut o
+  pub is : IsOpened terms p q cut o
   pub items_are : AreItemsIn o.stage p (now side)
   pub watched : IsWatched events now w

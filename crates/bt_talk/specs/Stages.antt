@@ -1,4 +1,5 @@
 -- How far one direction is: in the opening its bytes are kept, after that they are judged.
+use Rattle.bt_talk.specs.declared.terms.Terms.{Terms}
 use Rattle.std.specs.Prelude.{◌≡◌, ℕ, Bool, true, false, List, [], ◌++◌, Option, Some, None}
 use Rattle.bt_feed.specs.Pumps.{Took}
 use Rattle.bt_intro.specs.Hearing.{IsHeardOf}
@@ -28,18 +29,18 @@ receiver_in (Open judged) = Some judged.receiver
 receiver_in Stranger = None
 
 -- In the opening all bytes belong to it, and are kept; then they are judged by the receiver, if there is one.
-abbrev pub IsStage : Option ℕ → Past → Past → Stage → Type 0
-IsStage pieces p other (Opening front) = (front.items ≡ p.out) × (p.front ≡ p.out)
-IsStage pieces p other (Open judged) = IsReceiver pieces p other (Some judged.receiver) × IsJudgedBy judged.receiver.own p judged.judge
-IsStage pieces p other Stranger = IsReceiver pieces p other None
+abbrev pub IsStage : Terms → Past → Past → Stage → Type 0
+IsStage terms p other (Opening front) = (front.items ≡ p.out) × (p.front ≡ p.out)
+IsStage terms p other (Open judged) = IsReceiver terms p other (Some judged.receiver) × IsJudgedBy judged.receiver.own p judged.judge
+IsStage terms p other Stranger = IsReceiver terms p other None
 
 -- This was captured of a side, and this of the other one.
-pub record IsDirection (pieces : Option ℕ) (p other : Past) (d : Direction) : Type 0 where
+pub record IsDirection (terms : Terms) (p other : Past) (d : Direction) : Type 0 where
   pub flow : IsFlowOf p d.flow
   pub intro : IsHeardOf p.front d.intro
   pub later : List ℕ
   pub front : p.out ≡ p.front ++ later
-  pub stage : IsStage pieces p other d.stage
+  pub stage : IsStage terms p other d.stage
   pub within : IsWithin (cut_length d.cut) p.out
   pub cut : IsCutNow (receiver_in d.stage) p.front p.out d.cut
 

@@ -1,4 +1,5 @@
 -- A connection: what was captured of both sides, and how a segment adds to it.
+use Rattle.bt_talk.specs.declared.terms.Terms.{Terms}
 use Rattle.std.specs.Prelude.{◌≡◌, ℕ, ◌+◌, ◌-◌, min, ◌^◌, Bool, true, false, not, ◌||◌, nat_le, List, length, Option, ◌↔◌}
 use Rattle.bt_remarks.specs.declared.events.Side.{Side}
 use Rattle.bt_remarks.specs.declared.events.Side.TheVariants.{A, B}
@@ -41,8 +42,8 @@ is_in_opening t = is_opening t.a.stage
 abbrev pub ends_of : Talk → Ends
 ends_of t = t.ends
 
-abbrev pub pieces_of : Talk → Option ℕ
-pieces_of t = t.pieces
+abbrev pub terms_of : Talk → Terms
+terms_of t = t.terms
 
 abbrev pub closing_of : Talk → Closing
 closing_of t = t.closing
@@ -53,8 +54,8 @@ is_lost t = t.is_lost
 
 -- This was captured of both sides.
 pub record IsTalk (a b : Past) (t : Talk) : Type 0 where
-  pub a_is : IsDirection t.pieces a b t.a
-  pub b_is : IsDirection t.pieces b a t.b
+  pub a_is : IsDirection t.terms a b t.a
+  pub b_is : IsDirection t.terms b a t.b
   pub stages : is_opening t.a.stage ≡ is_opening t.b.stage
   pub said : IsHeard a b t.a.stage t.b.stage t.watch
 
@@ -77,11 +78,11 @@ pub record IsEnd (a b : Past) (segments : ℕ) (over : Bool) : Type 0 where
 -- ---- a segment
 
 -- A segment of the first side changes both.
-pub record Turns (s : Segment) (pieces : Option ℕ) (p q : Past) (d e d' e' : Direction) : Type 0 where
+pub record Turns (s : Segment) (terms : Terms) (p q : Past) (d e d' e' : Direction) : Type 0 where
   pub p' : Past
   pub q' : Past
-  pub p_is : IsDirection pieces p' q' d'
-  pub q_is : IsDirection pieces q' p' e'
+  pub p_is : IsDirection terms p' q' d'
+  pub q_is : IsDirection terms q' p' e'
   pub sent : HasSent s (is_opening d.stage) p d.flow p' d'.flow
   pub acked : IsAcked s q q'
 

@@ -1,5 +1,6 @@
 //! One direction of a captured connection.
-ghost use Rattle.std.specs.Prelude.{◌≡◌, ◌<◌, ◌++◌, ◌∷◌, ℕ, List, [], Bool, false, true, length, OnOk, IfOk, IfSome, Option, Some};
+ghost use Rattle.bt_talk.specs.declared.terms.Terms.{Terms};
+ghost use Rattle.std.specs.Prelude.{◌≡◌, ◌<◌, ◌≤◌, ◌++◌, ◌∷◌, ℕ, List, [], Bool, false, true, length, OnOk, IfOk, IfSome, Option, Some};
 ghost use Rattle.bt_flow.specs.declared.flow.Flow.{Flow};
 ghost use Rattle.bt_intro.specs.Hearing.{IsHeardOf};
 ghost use Rattle.bt_feed.specs.Pumps.{Took};
@@ -78,7 +79,7 @@ fn take_only(flow: &mut Flow, given: &Given, out: &mut Vec<u8>) -> Result<(), Al
 
 /// Returns the last of a stream up to here, if it is judged; `item` is its last item.
 fn last_in(stage: &Stage, item: &Option<Said>) -> Last
-    ensures { (pieces : Option ℕ) (p other : Past) (xs : List (ℕ × Item)) → IsStage pieces p other stage.now → AreItemsIn stage.now p xs
+    ensures { (terms : Terms) (p other : Past) (xs : List (ℕ × Item)) → IsStage terms p other stage.now → AreItemsIn stage.now p xs
         → IsLast xs item.now → IsCutBy (receiver_in stage.now) p.front p.out result }
 {
     match stage {
@@ -91,7 +92,7 @@ fn last_in(stage: &Stage, item: &Option<Said>) -> Last
 impl Direction {
     /// Returns a direction of which nothing was captured.
     pub(crate) fn new(alloc: Global) -> Direction
-        ensures is { (pieces : Option ℕ) (other : Past) → IsDirection pieces no_past other result }
+        ensures is { (terms : Terms) (other : Past) → IsDirection terms no_past other result }
         ensures opening { is_opening result.stage ≡ true }
     {
         Direction {
@@ -115,7 +116,7 @@ impl Direction {
 
     /// Returns how many bytes of the opening are kept.
     pub(crate) fn kept(&self) -> usize
-        ensures { (pieces : Option ℕ) (p other : Past) → IsDirection pieces p other self.now → is_opening self.now.stage ≡ true → result ≡ length p.front }
+        ensures { (terms : Terms) (p other : Past) → IsDirection terms p other self.now → is_opening self.now.stage ≡ true → result ≡ length p.front }
     {
         match &self.stage {
             Stage::Opening(front) => front.len(),
@@ -126,8 +127,8 @@ impl Direction {
 
     /// Takes an acknowledgement by the other side.
     pub(crate) fn hear(&mut self, acked: u32, opens: bool)
-        ensures heard { (pieces : Option ℕ) (p other : Past) → IsDirection pieces p other self.old
-            → (at : ℕ) × IsDirection pieces (record p { heard = p.heard ++ Acked (record { number = acked; opens = opens; place = at }) ∷ [] }) other self.new }
+        ensures heard { (terms : Terms) (p other : Past) → IsDirection terms p other self.old
+            → (at : ℕ) × IsDirection terms (record p { heard = p.heard ++ Acked (record { number = acked; opens = opens; place = at }) ∷ [] }) other self.new }
         ensures stage { self.new.stage ≡ self.old.stage }
         ensures cut { self.new.cut ≡ self.old.cut }
     {
@@ -144,8 +145,8 @@ impl Direction {
         buffer: &mut [u8],
     ) -> Result<(), AllocError>
         requires { 0 < length buffer.old }
-        ensures taken { OnOk result ((pieces : Option ℕ) (p other : Past) → IsDirection pieces p other self.old
-            → (q : Past) × IsDirection pieces q other self.new × Adds given.now (is_opening self.old.stage) p self.old.flow q self.new.flow
+        ensures taken { OnOk result ((terms : Terms) (p other : Past) → IsDirection terms p other self.old
+            → (q : Past) × IsDirection terms q other self.new × Adds given.now (is_opening self.old.stage) p self.old.flow q self.new.flow
             × Speaks self.old.stage p watch.old self.new.stage q watch.new) }
         ensures stage { OnOk result (is_opening self.new.stage ≡ is_opening self.old.stage) }
         ensures cut { OnOk result (self.new.cut ≡ self.old.cut) }
@@ -175,9 +176,9 @@ impl Direction {
         alloc: Global,
         receiver: Option<Receiver>,
     ) -> Result<Replay<'_>, AllocError>
-        requires { IfSome receiver (λ r. r.own.limit ≡ 262144) }
-        ensures { IfOk result (λ replay. (pieces : Option ℕ) (p other : Past) → is_opening self.now.stage ≡ true → IsDirection pieces p other self.now
-            → IsReceiver pieces p other receiver → IsReplay p receiver (cut_length self.now.cut) [] replay) }
+        requires { IfSome receiver (λ r. (1 ≤ r.own.limit) × (r.own.limit ≤ 1048576)) }
+        ensures { IfOk result (λ replay. (terms : Terms) (p other : Past) → is_opening self.now.stage ≡ true → IsDirection terms p other self.now
+            → IsReceiver terms p other receiver → IsReplay p receiver (cut_length self.now.cut) [] replay) }
     {
         match &self.stage {
             Stage::Opening(front) => {
@@ -208,9 +209,9 @@ impl Direction {
 
     /// Notes what this side has sent, since the connection is closed; `item` is the last item that was judged.
     pub(crate) fn close(&mut self, item: &Option<Said>)
-        ensures cut { (pieces : Option ℕ) (p other : Past) (xs : List (ℕ × Item)) → IsDirection pieces p other self.old → AreItemsIn self.old.stage p xs
-            → IsLast xs item.now → IsDirection pieces p other self.new }
-        ensures upto { (pieces : Option ℕ) (p other : Past) → IsDirection pieces p other self.old → cut_length self.new.cut ≡ Some (length p.out) }
+        ensures cut { (terms : Terms) (p other : Past) (xs : List (ℕ × Item)) → IsDirection terms p other self.old → AreItemsIn self.old.stage p xs
+            → IsLast xs item.now → IsDirection terms p other self.new }
+        ensures upto { (terms : Terms) (p other : Past) → IsDirection terms p other self.old → cut_length self.new.cut ≡ Some (length p.out) }
         ensures rest { self.new ≡ record self.old { cut = self.new.cut } }
     {
         self.cut = Some(Cut {
@@ -221,8 +222,8 @@ impl Direction {
 
     /// Returns the last that this side had sent when the connection was closed.
     pub(crate) fn last_before(&self) -> Option<Last>
-        ensures { (pieces : Option ℕ) (p other : Past) → IsDirection pieces p other self.now
-            → IsLastBefore (is_opening self.now.stage) pieces p other (cut_length self.now.cut) result }
+        ensures { (terms : Terms) (p other : Past) → IsDirection terms p other self.now
+            → IsLastBefore (is_opening self.now.stage) terms p other (cut_length self.now.cut) result }
     {
         match (&self.stage, &self.cut) {
             (Stage::Opening(_), _) => None,
@@ -233,8 +234,8 @@ impl Direction {
 
     /// Returns the verdicts of the stream, if it is judged.
     pub(crate) fn verdicts(&self) -> Option<Verdicts>
-        ensures { (pieces : Option ℕ) (p other : Past) → IsDirection pieces p other self.now
-            → AreVerdicts (is_opening self.now.stage) pieces p other result }
+        ensures { (terms : Terms) (p other : Past) → IsDirection terms p other self.now
+            → AreVerdicts (is_opening self.now.stage) terms p other result }
     {
         match &self.stage {
             Stage::Opening(_) => None,
@@ -245,8 +246,8 @@ impl Direction {
 
     /// Returns the receiver of the stream, if it is judged.
     pub(crate) fn receiver(&self) -> Option<Receiver>
-        ensures { (pieces : Option ℕ) (p other : Past) → IsDirection pieces p other self.now
-            → IsReceiverNow (is_opening self.now.stage) pieces p other result }
+        ensures { (terms : Terms) (p other : Past) → IsDirection terms p other self.now
+            → IsReceiverNow (is_opening self.now.stage) terms p other result }
     {
         match &self.stage {
             Stage::Opening(_) => None,

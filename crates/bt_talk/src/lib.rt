@@ -10,6 +10,7 @@ mod replay;
 mod room;
 mod stage;
 mod talk;
+mod terms;
 mod watch;
 
 pub use bt_remarks::Side;
@@ -17,3 +18,4 @@ pub use closing::{Closed, When};
 pub use ends::Ends;
 pub use room::Room;
 pub use talk::Talk;
+pub use terms::{Terms, Torrent};

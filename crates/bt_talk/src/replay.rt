@@ -1,5 +1,6 @@
 //! The bytes of the opening, which are judged at its end in the order of the packets.
-ghost use Rattle.std.specs.Prelude.{◌≡◌, ◌<◌, ◌++◌, ℕ, List, [], true, false, drop, length, IfOk, OnOk, IfSome, Option};
+ghost use Rattle.bt_talk.specs.declared.terms.Terms.{Terms};
+ghost use Rattle.std.specs.Prelude.{◌≡◌, ◌<◌, ◌≤◌, ◌++◌, ℕ, List, [], true, false, drop, length, IfOk, OnOk, IfSome, Option};
 ghost use Rattle.bt_intro.specs.declared.settling.Receiver.{Receiver};
 ghost use Rattle.bt_intro.specs.Hellos.{IsStartOf};
 ghost use Rattle.bt_feed.specs.Pumps.{Took};
@@ -130,9 +131,9 @@ impl<'a> Replay<'a> {
         receiver: Option<Receiver>,
         cut: &Option<Cut>,
     ) -> Result<Replay<'a>, AllocError>
-        requires { IfSome receiver (λ r. r.own.limit ≡ 262144) }
-        ensures { IfOk result (λ replay. (pieces : Option ℕ) (p q : Past) → front.now ≡ p.out → p.front ≡ p.out → IsStartOf p.front start
-            → IsReceiver pieces p q receiver → IsReplay p receiver (cut_length cut.now) [] replay) }
+        requires { IfSome receiver (λ r. (1 ≤ r.own.limit) × (r.own.limit ≤ 1048576)) }
+        ensures { IfOk result (λ replay. (terms : Terms) (p q : Past) → front.now ≡ p.out → p.front ≡ p.out → IsStartOf p.front start
+            → IsReceiver terms p q receiver → IsReplay p receiver (cut_length cut.now) [] replay) }
     {
         let Some(receiver) = receiver else {
             return Ok(Replay::none(*cut));
@@ -233,8 +234,8 @@ fn cut_in(close: Close) -> Option<Cut>
 /// Returns what is done with the bytes that follow, once all are judged.
 fn after_opening(judged: Option<Judged>, close: Close) -> Opened
     ensures open { is_opening result.stage ≡ false }
-    ensures opened { (pieces : Option ℕ) (p q : Past) (receiver : Option Receiver) (cut : Option ℕ) (xs : List (ℕ × Item)) → IsReceiver pieces p q receiver
-        → IsReplayOf p receiver cut xs [] judged close.entry → is_passed close.entry ≡ true → IsOpened pieces p q cut result × AreItemsIn result.stage p xs }
+    ensures opened { (terms : Terms) (p q : Past) (receiver : Option Receiver) (cut : Option ℕ) (xs : List (ℕ × Item)) → IsReceiver terms p q receiver
+        → IsReplayOf p receiver cut xs [] judged close.entry → is_passed close.entry ≡ true → IsOpened terms p q cut result × AreItemsIn result.stage p xs }
 {
     let cut = cut_in(close);
     match judged {
@@ -258,9 +259,9 @@ fn finish(
 ) -> Result<Opened, AllocError>
     requires { 0 < length buffer.old }
     ensures open { IfOk result (λ opened. is_opening opened.stage ≡ false) }
-    ensures opened { IfOk result (λ opened. (pieces : Option ℕ) (p q : Past) (receiver : Option Receiver) (cut : Option ℕ) (events : List Told)
-        (items : Side → List (ℕ × Item)) → IsReceiver pieces p q receiver → IsReplay p receiver cut (items side) replay.entry
-        → IsWatched events items watch.old → IsFinished pieces p q cut side items opened watch.new) }
+    ensures opened { IfOk result (λ opened. (terms : Terms) (p q : Past) (receiver : Option Receiver) (cut : Option ℕ) (events : List Told)
+        (items : Side → List (ℕ × Item)) → IsReceiver terms p q receiver → IsReplay p receiver cut (items side) replay.entry
+        → IsWatched events items watch.old → IsFinished terms p q cut side items opened watch.new) }
 {
     watch.turn_to(side, false);
     replay.pass_close(watch, buffer)?;
@@ -339,9 +340,9 @@ pub(crate) fn judge_both(
 ) -> Result<(Opened, Opened), AllocError>
     requires { 0 < length buffer.old }
     ensures open { IfOk result (λ both. (is_opening both.0.stage ≡ false) × (is_opening both.1.stage ≡ false)) }
-    ensures judged { IfOk result (λ both. (pieces : Option ℕ) (p q : Past) (x y : Aim) → IsReceiver pieces p q x.receiver → IsReceiver pieces q p y.receiver
+    ensures judged { IfOk result (λ both. (terms : Terms) (p q : Past) (x y : Aim) → IsReceiver terms p q x.receiver → IsReceiver terms q p y.receiver
         → AreReplayed p q x y a.entry b.entry watch.old
-        → IsOpened pieces p q x.cut both.0 × IsOpened pieces q p y.cut both.1 × IsHeard p q both.0.stage both.1.stage watch.new) }
+        → IsOpened terms p q x.cut both.0 × IsOpened terms q p y.cut both.1 × IsHeard p q both.0.stage both.1.stage watch.new) }
 {
     go_through(marks, &mut a, &mut b, watch, buffer)?;
     let of_a = finish(a, Side::A, watch, buffer)?;

@@ -1,5 +1,5 @@
 //! What is done with the bytes of one direction: in the opening they are kept, after that they are judged.
-ghost use Rattle.std.specs.Prelude.{◌≡◌, ◌<◌, ◌++◌, ℕ, List, length, OnOk, IfSome, Option};
+ghost use Rattle.std.specs.Prelude.{◌≡◌, ◌<◌, ◌≤◌, ◌++◌, ℕ, List, length, OnOk, IfSome, Option};
 ghost use Rattle.bt_feed.specs.Pumps.{Took};
 ghost use Rattle.bt_intro.specs.Hearing.{IsHeardOf};
 ghost use Rattle.bt_judge.specs.Judges.{AreJudged};
@@ -10,15 +10,13 @@ ghost use Rattle.bt_talk.specs.Receivers.{IsReceiver};
 ghost use Rattle.bt_talk.specs.Cuts.{IsLastIn};
 ghost use Rattle.bt_talk.specs.Watching.{IsLast, Watches};
 
+use crate::terms::Terms;
 use crate::watch::Watch;
 use bt_intro::{Introduction, Receiver, receiver_of};
 use bt_judge::Judge;
 use bt_told::{Last, Said};
 use bt_wire::Own;
 use std::alloc::{AllocError, Global};
-
-/// The longest message that receivers take.
-const LIMIT: u32 = 262_144;
 
 /// A stream with its receiver.
 #[derive(Drop)]
@@ -71,16 +69,17 @@ pub(crate) enum Stage {
 pub(crate) fn receiver_between(
     other: &Introduction,
     sender: &Introduction,
-    pieces: Option<u32>,
+    terms: &Terms,
 ) -> Option<Receiver>
-    ensures limit { IfSome result (λ r. r.own.limit ≡ 262144) }
-    ensures is { (p q : Past) → IsHeardOf p.front sender.now → IsHeardOf q.front other.now → IsReceiver pieces p q result }
+    ensures limit { IfSome result (λ r. (1 ≤ r.own.limit) × (r.own.limit ≤ 1048576)) }
+    ensures is { (p q : Past) → IsHeardOf p.front sender.now → IsHeardOf q.front other.now → IsReceiver terms.now p q result }
 {
-    let receiver = receiver_of(other, sender, pieces, LIMIT)?;
+    let limit = terms.limit();
+    let receiver = receiver_of(other, sender, terms.pieces(&sender.handshake()), limit)?;
     // The limit is the one that was given; so the judge knows it, too.
     Some(Receiver {
         own: Own {
-            limit: LIMIT,
+            limit,
             ..receiver.own
         },
         is_guessed: receiver.is_guessed,

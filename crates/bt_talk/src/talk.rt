@@ -1,4 +1,5 @@
 //! One captured connection.
+ghost use Rattle.bt_talk.specs.declared.terms.Terms.{Terms};
 ghost use Rattle.std.specs.Prelude.{◌≡◌, ◌<◌, ◌+◌, ◌^◌, ◌-◌, ℕ, List, Bool, true, false, length, not, min, IfOk, OnOk, OnErr, Option, alloc_error};
 ghost use Rattle.bt_talk.specs.Pasts.{Past, no_past, IsAcked, given_of as given_by};
 ghost use Rattle.bt_remarks.specs.declared.events.Side.{Side};
@@ -12,6 +13,7 @@ use crate::ends::Ends;
 use crate::replay::{Mark, Opened, judge_both};
 use crate::room::Room;
 use crate::stage::receiver_between;
+use crate::terms::Terms;
 use crate::watch::Watch;
 use bt_flow::Given;
 use bt_intro::{Receiver, is_settled};
@@ -45,8 +47,8 @@ fn given_of<'a>(segment: &Segment<'a>) -> Given<'a>
 
 /// Takes the acknowledgement of a segment by the other side, if it has one.
 fn hear(to: &mut Direction, segment: &Segment)
-    ensures heard { (pieces : Option ℕ) (p other : Past) → segment.now.flags.rst ≡ false → IsDirection pieces p other to.old
-        → (q : Past) × IsDirection pieces q other to.new × IsAcked segment.now p q × (q.front ≡ p.front) }
+    ensures heard { (terms : Terms) (p other : Past) → segment.now.flags.rst ≡ false → IsDirection terms p other to.old
+        → (q : Past) × IsDirection terms q other to.new × IsAcked segment.now p q × (q.front ≡ p.front) }
     ensures stage { to.new.stage ≡ to.old.stage }
     ensures cut { to.new.cut ≡ to.old.cut }
 {
@@ -67,8 +69,8 @@ fn turn(
     watch: &mut Watch,
     room: &mut Room,
 ) -> Result<(), AllocError>
-    ensures taken { OnOk result ((pieces : Option ℕ) (p q : Past) → IsDirection pieces p q from.old → IsDirection pieces q p to.old
-        → is_opening from.old.stage ≡ is_opening to.old.stage → (t : Turns segment.now pieces p q from.old to.old from.new to.new)
+    ensures taken { OnOk result ((terms : Terms) (p q : Past) → IsDirection terms p q from.old → IsDirection terms q p to.old
+        → is_opening from.old.stage ≡ is_opening to.old.stage → (t : Turns segment.now terms p q from.old to.old from.new to.new)
         × SpeaksAs side from.old.stage p watch.old from.new.stage t.p' watch.new) }
     ensures from { OnOk result (is_opening from.new.stage ≡ is_opening from.old.stage) }
     ensures to { OnOk result (to.new.stage ≡ to.old.stage) }
@@ -99,7 +101,7 @@ fn is_long(settled: bool, bytes: usize, segments: u32) -> bool
 
 /// Tells whether the opening of these directions is over.
 fn is_over(a: &Direction, b: &Direction, segments: u32) -> bool
-    ensures { (pieces : Option ℕ) (p q : Past) → IsDirection pieces p q a.now → IsDirection pieces q p b.now → is_opening a.now.stage ≡ true
+    ensures { (terms : Terms) (p q : Past) → IsDirection terms p q a.now → IsDirection terms q p b.now → is_opening a.now.stage ≡ true
         → is_opening b.now.stage ≡ true → IsEnd p q segments result }
 {
     let bytes = a.kept().saturating_add(b.kept());
@@ -113,7 +115,7 @@ fn is_over(a: &Direction, b: &Direction, segments: u32) -> bool
 #[derive(Drop)]
 pub struct Talk {
     alloc: Global,
-    pieces: Option<u32>,
+    terms: Terms,
     ends: Ends,
     a: Direction,
     b: Direction,
@@ -138,7 +140,7 @@ impl Talk {
     ghost use Rattle.bt_tcp.specs.Heard.{opening_of};
     ghost use Rattle.bt_talk.specs.Closing.{Closes, still_open, high_at, is_quiet, opens_by};
     ghost use Rattle.bt_talk.specs.Ends.{ends_by};
-    ghost use Rattle.bt_talk.specs.Talks.{IsTalk, HasSaid, Exchanges, Takes, Settles, ends_of, pieces_of, closing_of, IsSender, is_in_opening, is_lost, flow_of, cut_of, direction_of, of_side};
+    ghost use Rattle.bt_talk.specs.Talks.{IsTalk, HasSaid, Exchanges, Takes, Settles, ends_of, terms_of, closing_of, IsSender, is_in_opening, is_lost, flow_of, cut_of, direction_of, of_side};
     ghost use Rattle.bt_talk.specs.Receivers.{AreVerdicts, IsReceiverNow};
     ghost use Rattle.bt_talk.specs.Cuts.{IsLastBefore, cut_after};
     ghost use Rattle.bt_talk.specs.Replays.{IsOpened};
@@ -147,18 +149,18 @@ impl Talk {
 
     /// Returns the connection that begins with a segment, of which nothing was taken yet.
     ///
-    /// `pieces` is the piece count of its torrent, if that is known.
-    pub fn new(alloc: Global, first: &Segment, pieces: Option<u32>) -> Talk
+    /// `terms` says what is known of it besides its bytes.
+    pub fn new(alloc: Global, first: &Segment, terms: Terms) -> Talk
         ensures is { IsTalk no_past no_past result }
         ensures ends { ends_of result ≡ ends_by first.now }
-        ensures pieces { pieces_of result ≡ pieces }
+        ensures terms { terms_of result ≡ terms }
         ensures opening { is_in_opening result ≡ true }
         ensures closing { closing_of result ≡ still_open }
         ensures there { is_lost result ≡ false }
     {
         Talk {
             alloc,
-            pieces,
+            terms,
             ends: Ends::of(first),
             a: Direction::new(alloc),
             b: Direction::new(alloc),
@@ -177,7 +179,7 @@ impl Talk {
         ensures cuts { OnOk result ((side : Side) → cut_of side self.new ≡ cut_of side self.old) }
         ensures order { OnOk result ((a b : Past) → IsTalk a b self.old → HasSaid segment.now self.old self.new) }
         ensures ends { self.new.ends ≡ self.old.ends }
-        ensures pieces { self.new.pieces ≡ self.old.pieces }
+        ensures terms { self.new.terms ≡ self.old.terms }
         ensures closing { self.new.closing ≡ self.old.closing }
         ensures segments { self.new.segments ≡ self.old.segments }
         ensures is_lost { self.new.is_lost ≡ self.old.is_lost }
@@ -242,12 +244,12 @@ impl Talk {
     fn judge_opening(&mut self, room: &mut Room) -> Result<(Opened, Opened), AllocError>
         ensures open { IfOk result (λ both. (is_opening both.0.stage ≡ false) × (is_opening both.1.stage ≡ false)) }
         ensures judged { IfOk result (λ both. (a b : Past) → IsTalk a b self.old → is_in_opening self.old ≡ true
-            → IsOpened self.old.pieces a b (cut_of A self.old) both.0 × IsOpened self.old.pieces b a (cut_of B self.old) both.1
+            → IsOpened self.old.terms a b (cut_of A self.old) both.0 × IsOpened self.old.terms b a (cut_of B self.old) both.1
             × IsHeard a b both.0.stage both.1.stage self.new.watch) }
         ensures rest { self.new ≡ record self.old { watch = self.new.watch } }
     {
-        let of_a = receiver_between(&self.b.intro, &self.a.intro, self.pieces);
-        let of_b = receiver_between(&self.a.intro, &self.b.intro, self.pieces);
+        let of_a = receiver_between(&self.b.intro, &self.a.intro, &self.terms);
+        let of_b = receiver_between(&self.a.intro, &self.b.intro, &self.terms);
         let a = self.a.replay(self.alloc, of_a)?;
         let b = self.b.replay(self.alloc, of_b)?;
         let both = judge_both(a, b, &self.marks, &mut self.watch, &mut room.buffer)?;
@@ -261,7 +263,7 @@ impl Talk {
         ensures cuts { OnOk result ((a b : Past) (side : Side) → IsTalk a b self.old → cut_of side self.new ≡ cut_of side self.old) }
         ensures flows { OnOk result ((side : Side) → flow_of side self.new ≡ flow_of side self.old) }
         ensures ends { self.new.ends ≡ self.old.ends }
-        ensures pieces { self.new.pieces ≡ self.old.pieces }
+        ensures terms { self.new.terms ≡ self.old.terms }
         ensures closing { self.new.closing ≡ self.old.closing }
         ensures is_lost { self.new.is_lost ≡ self.old.is_lost }
     {
@@ -283,7 +285,7 @@ impl Talk {
         ensures cuts { OnOk result ((a b : Past) (side : Side) → IsTalk a b self.old → cut_of side self.new ≡ cut_of side self.old) }
         ensures flows { OnOk result ((side : Side) → flow_of side self.new ≡ flow_of side self.old) }
         ensures ends { self.new.ends ≡ self.old.ends }
-        ensures pieces { self.new.pieces ≡ self.old.pieces }
+        ensures terms { self.new.terms ≡ self.old.terms }
         ensures closing { self.new.closing ≡ self.old.closing }
         ensures is_lost { self.new.is_lost ≡ self.old.is_lost }
     {
@@ -307,7 +309,7 @@ impl Talk {
         ensures opening { is_in_opening self.new ≡ is_in_opening self.old }
         ensures watch { self.new.watch ≡ self.old.watch }
         ensures ends { self.new.ends ≡ self.old.ends }
-        ensures pieces { self.new.pieces ≡ self.old.pieces }
+        ensures terms { self.new.terms ≡ self.old.terms }
         ensures closing { self.new.closing ≡ self.old.closing }
         ensures segments { self.new.segments ≡ self.old.segments }
         ensures is_lost { self.new.is_lost ≡ self.old.is_lost }
@@ -353,7 +355,7 @@ impl Talk {
         ensures lost { OnErr result (is_lost self.new ≡ true) }
         ensures stays { is_lost self.old ≡ true → result ≡ Err alloc_error }
         ensures ends { ends_of self.new ≡ ends_of self.old }
-        ensures pieces { pieces_of self.new ≡ pieces_of self.old }
+        ensures terms { terms_of self.new ≡ terms_of self.old }
     {
         if self.is_lost {
             return Err(AllocError);
@@ -381,7 +383,7 @@ impl Talk {
         ensures lost { OnErr result (is_lost self.new ≡ true) }
         ensures stays { is_lost self.old ≡ true → result ≡ Err alloc_error }
         ensures ends { ends_of self.new ≡ ends_of self.old }
-        ensures pieces { pieces_of self.new ≡ pieces_of self.old }
+        ensures terms { terms_of self.new ≡ terms_of self.old }
     {
         if self.is_lost {
             return Err(AllocError);
@@ -429,7 +431,7 @@ impl Talk {
     /// There are none in the opening, and without a whole handshake of the side.
     pub fn verdicts(&self, side: Side) -> Option<Verdicts>
         ensures { (a b : Past) → IsTalk a b self.now
-            → AreVerdicts (is_in_opening self.now) (pieces_of self.now) (of_side side a b) (of_side (other side) a b) result }
+            → AreVerdicts (is_in_opening self.now) (terms_of self.now) (of_side side a b) (of_side (other side) a b) result }
     {
         self.direction(side).verdicts()
     }
@@ -439,7 +441,7 @@ impl Talk {
     /// There is none in the opening, and without a whole handshake of the side.
     pub fn receiver(&self, side: Side) -> Option<Receiver>
         ensures { (a b : Past) → IsTalk a b self.now
-            → IsReceiverNow (is_in_opening self.now) (pieces_of self.now) (of_side side a b) (of_side (other side) a b) result }
+            → IsReceiverNow (is_in_opening self.now) (terms_of self.now) (of_side side a b) (of_side (other side) a b) result }
     {
         self.direction(side).receiver()
     }
@@ -549,7 +551,7 @@ impl Talk {
     ///
     /// It is that of the bytes that were put together then. In the opening there is none.
     pub fn last_before_close(&self, side: Side) -> Option<Last>
-        ensures { (a b : Past) → IsTalk a b self.now → IsLastBefore (is_in_opening self.now) (pieces_of self.now) (of_side side a b) (of_side (other side) a b)
+        ensures { (a b : Past) → IsTalk a b self.now → IsLastBefore (is_in_opening self.now) (terms_of self.now) (of_side side a b) (of_side (other side) a b)
             (cut_of side self.now) result }
     {
         self.direction(side).last_before()

@@ -9,7 +9,7 @@ returns-in-Ok-clause-after g c o left p es r absent i =
     c.write_if_full.ensures.after o left es r (record {
       packets = i.packets;
       read = i.read;
-      pieces = c.in-Ok.ensures.pieces ∙ i.pieces;
+      terms = c.in-Ok.ensures.terms ∙ i.terms;
       json = c.in-Ok.ensures.json ∙ i.json;
       time = c.in-Ok.ensures.start ∙ i.time;
       follows = c.in-Ok.ensures.goes o.target now (arrivals i.packets) p es absent i.follows;
@@ -18,5 +18,5 @@ returns-in-Ok-clause-after g c o left p es r absent i =
 pub returns-in-Err-clause-after : goal.returns-in-Err-clause-after
 returns-in-Err-clause-after g c o left p es r absent i =
     let now = g.W.Target.seen c.args.writer.now in
-    given_up o left now i.packets c.report.new.self r i.read (c.in-Err.ensures.pieces ∙ i.pieces) (c.in-Err.ensures.json ∙ i.json) (c.in-Err.ensures.start ∙ i.time)
+    given_up o left now i.packets c.report.new.self r i.read (c.in-Err.ensures.terms ∙ i.terms) (c.in-Err.ensures.json ∙ i.json) (c.in-Err.ensures.start ∙ i.time)
     (c.in-Err.ensures.goes o.target now (arrivals i.packets) p es absent i.follows)

@@ -9,10 +9,10 @@ use Rattle.bt_talk.proofs.Items.{items_only, judged_items}
 use Rattle.bt_talk.proofs.direction.last_in.Goals as goal
 
 pub returns-in-Open : goal.returns-in-Open
-returns-in-Open c = λ pieces p other xs s i l.
+returns-in-Open c = λ terms p other xs s i l.
     let j = c.in-Open.judged in
     let own = j.receiver.own in
-    let by = (subst (λ (k : Stage). IsStage pieces p other k) c.in-Open.is s).1 in
+    let by = (subst (λ (k : Stage). IsStage terms p other k) c.in-Open.is s).1 in
     let are = subst (λ (k : Stage). AreItemsIn k p xs) c.in-Open.is i in
     let same = items_only own p xs by.free by.judged.free.limit are (judged_items own p j.judge by) in
     subst (λ (k : Stage). IsCutBy (receiver_in k) p.front p.out c.last.result) (sym c.in-Open.is)
@@ -23,9 +23,9 @@ returns-in-Open c = λ pieces p other xs s i l.
     })
 
 pub returns-in-Opening : goal.returns-in-Opening
-returns-in-Opening c = λ pieces p other xs s i l.
+returns-in-Opening c = λ terms p other xs s i l.
     subst (λ (k : Stage). IsCutBy (receiver_in k) p.front p.out Nothing) (sym c.in-Opening.is) tt
 
 pub returns-in-Stranger : goal.returns-in-Stranger
-returns-in-Stranger c = λ pieces p other xs s i l.
+returns-in-Stranger c = λ terms p other xs s i l.
     subst (λ (k : Stage). IsCutBy (receiver_in k) p.front p.out Nothing) (sym c.in-Stranger.is) tt

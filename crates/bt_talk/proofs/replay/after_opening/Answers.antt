@@ -12,7 +12,7 @@ use Rattle.bt_talk.proofs.Replays.{ended, judged_all}
 use Rattle.bt_talk.proofs.replay.after_opening.Goals as goal
 
 pub returns-in-Some-clause-opened : goal.returns-in-Some-clause-opened
-returns-in-Some-clause-opened c = λ pieces p q receiver cut xs r i passed.
+returns-in-Some-clause-opened c = λ terms p q receiver cut xs r i passed.
     let j = c.in-Some.judged in
     let o = c.cut_in-cut.result in
     let e = ended p receiver cut xs c.args.judged o
@@ -20,7 +20,7 @@ returns-in-Some-clause-opened c = λ pieces p q receiver cut xs r i passed.
     let by = subst (λ (k : Option Judged). IsReplayBy p receiver xs [] k) c.in-Some.is e.1 in
     let all = judged_all p xs j by.1 in (
       record {
-        stage = (subst (λ (k : Option Receiver). IsReceiver pieces p q k) by.0 r, all.0);
+        stage = (subst (λ (k : Option Receiver). IsReceiver terms p q k) by.0 r, all.0);
         length = e.0;
         last = subst (λ (k : Option Receiver). IsCutNow k p.front p.out o) by.0 e.2;
       },
@@ -28,13 +28,13 @@ returns-in-Some-clause-opened c = λ pieces p q receiver cut xs r i passed.
     )
 
 pub returns-in-None-clause-opened : goal.returns-in-None-clause-opened
-returns-in-None-clause-opened c = λ pieces p q receiver cut xs r i passed.
+returns-in-None-clause-opened c = λ terms p q receiver cut xs r i passed.
     let o = c.cut_in-cut.result in
     let e = ended p receiver cut xs c.args.judged o
     (subst (λ (k : Close). IsReplayOf p receiver cut xs [] c.args.judged k) (c.cut_in-cut.ensures passed) i) in
     let by = subst (λ (k : Option Judged). IsReplayBy p receiver xs [] k) c.in-None.is e.1 in (
       record {
-        stage = subst (λ (k : Option Receiver). IsReceiver pieces p q k) by.0 r;
+        stage = subst (λ (k : Option Receiver). IsReceiver terms p q k) by.0 r;
         length = e.0;
         last = cut_none None p.front p.out o refl;
       },

@@ -10,7 +10,7 @@ use Rattle.bt_talk.proofs.Watching.{watched_more}
 use Rattle.bt_talk.proofs.replay.finish.Goals as goal
 
 pub returns-clause-opened : goal.returns-clause-opened
-returns-clause-opened c = λ pieces p q receiver cut events items r i h.
+returns-clause-opened c = λ terms p q receiver cut events items r i h.
     let side = c.args.side in
     let x = c.in_ok-pass_close.ensures.goes_on side (ap (λ (k : Watch). k.side) c.turn_to.ensures) p receiver cut events items i
     (turn side false events items c.args.watch.now c.turn_to.new.self c.turn_to.ensures h) in
@@ -20,7 +20,7 @@ returns-clause-opened c = λ pieces p q receiver cut events items r i h.
     let by = subst (λ (l : List ℕ). IsReplayOf p receiver cut (x.now side) l rp.judged rp.close) (sym (append-nil rp.rest.now)) x.is in
     let m = nearer p receiver cut (x.now side) (rp.rest.now ++ []) [] rp.judged c.judge_more.new.judged rp.close w w'
     (λ q k. c.in_ok-judge_more.ensures q receiver (x.now side) [] k) by in
-    let o = c.after_opening.ensures.opened pieces p q receiver cut (x.now side ++ m.0) r m.1 c.in_ok-pass_close.ensures.passed in
+    let o = c.after_opening.ensures.opened terms p q receiver cut (x.now side ++ m.0) r m.1 c.in_ok-pass_close.ensures.passed in
     record {
       events = tell w.side w.known m.0 x.events;
       now = with_items side m.0 x.now;

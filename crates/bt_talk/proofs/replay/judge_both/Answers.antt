@@ -5,11 +5,11 @@ use Rattle.bt_talk.specs.Stages.{AreItemsIn}
 use Rattle.bt_talk.proofs.replay.judge_both.Goals as goal
 
 pub returns-clause-judged : goal.returns-clause-judged
-returns-clause-judged c = λ pieces p q x y ra rb i.
+returns-clause-judged c = λ terms p q x y ra rb i.
     let m = c.in_ok-go_through.ensures p q x y i in
-    let f = c.in_ok-of_a.ensures.opened pieces p q x.receiver x.cut m.events m.items ra m.a_is m.watched in
+    let f = c.in_ok-of_a.ensures.opened terms p q x.receiver x.cut m.events m.items ra m.a_is m.watched in
     let b_is = subst (λ (l : List (ℕ × Item)). IsReplay q y.receiver y.cut l c.go_through.new.b) (sym f.others) m.b_is in
-    let g = c.in_ok-of_b.ensures.opened pieces q p y.receiver y.cut f.events f.now rb b_is f.watched in (
+    let g = c.in_ok-of_b.ensures.opened terms q p y.receiver y.cut f.events f.now rb b_is f.watched in (
       f.is,
       g.is,
       record {

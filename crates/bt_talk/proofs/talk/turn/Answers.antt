@@ -9,7 +9,7 @@ use Rattle.bt_wire.specs.declared.item.Item.{Item}
 use Rattle.bt_talk.proofs.talk.turn.Goals as goal
 
 pub returns-then-segment-clause-taken : goal.returns-then-segment-clause-taken
-returns-then-segment-clause-taken c = λ pieces p q d e same. (
+returns-then-segment-clause-taken c = λ terms p q d e same. (
   record {
     p' = p;
     q' = q;
@@ -26,17 +26,17 @@ returns-then-segment-clause-taken c = λ pieces p q d e same. (
 )
 
 pub returns-clause-taken : goal.returns-clause-taken
-returns-clause-taken c = λ pieces p q d e same.
+returns-clause-taken c = λ terms p q d e same.
     let from = c.args.from.now in
-    let h = c.hear.ensures.heard pieces q p c.if-segment.false e in
-    let t = c.in_ok-take.ensures.taken pieces p q d in
+    let h = c.hear.ensures.heard terms q p c.if-segment.false e in
+    let t = c.in_ok-take.ensures.taken terms p q d in
     let adds : Adds (given_of c.args.segment.now) (is_opening from.stage) p from.flow t.0 c.take.new.self.flow =
     subst (λ (g : Given). Adds g (is_opening from.stage) p from.flow t.0 c.take.new.self.flow) c.given_of.ensures t.2 in (
       record {
         p' = t.0;
         q' = h.0;
-        p_is = beside pieces t.0 q h.0 c.take.new.self (λ _. h.3) t.1;
-        q_is = beside pieces h.0 p t.0 c.hear.new.to
+        p_is = beside terms t.0 q h.0 c.take.new.self (λ _. h.3) t.1;
+        q_is = beside terms h.0 p t.0 c.hear.new.to
             (λ closed. front_kept (given_of c.args.segment.now) (is_opening from.stage) p from.flow t.0 c.take.new.self.flow adds
             (same ∙ sym (ap is_opening c.hear.ensures.stage) ∙ closed)) h.1;
         sent = sent_by c.args.segment.now (is_opening from.stage) p from.flow t.0 c.take.new.self.flow c.if-segment.false adds;

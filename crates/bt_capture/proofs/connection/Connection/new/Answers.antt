@@ -18,7 +18,7 @@ returns c when = record {
       has_taken = (refl, refl, refl);
       is = c.new.ensures.is;
       ends = c.new.ensures.ends;
-      pieces_are = c.new.ensures.pieces;
+      terms_are = c.new.ensures.terms;
     };
   };
 }

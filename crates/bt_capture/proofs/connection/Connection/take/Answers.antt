@@ -5,7 +5,7 @@ use Rattle.bt_capture.proofs.Taking.{any_more, on_there, was_there, made_more}
 use Rattle.bt_capture.proofs.connection.Connection.take.Goals as goal
 
 pub returns : goal.returns
-returns c pieces taken i =
+returns c terms taken i =
     let x = arrived c.args.segment.now c.args.when in
     let now = c.take-taken.new.self.is_lost in
     record {
@@ -13,6 +13,6 @@ returns c pieces taken i =
       made = λ there.
           let took = on_there c.take-taken.result now c.take-taken.ensures.taken c.take-taken.ensures.lost there in
           let m = i.made (was_there c.take-taken.result c.args.self.now.talk.is_lost now _ c.take-taken.ensures.stays c.take-taken.ensures.lost there) in
-          made_more pieces taken c.args.segment.now x c.args.self.now.talk c.take-taken.new.self refl c.take-taken.ensures.ends c.take-taken.ensures.pieces m
+          made_more terms taken c.args.segment.now x c.args.self.now.talk c.take-taken.new.self refl c.take-taken.ensures.ends c.take-taken.ensures.terms m
           (took m.a m.b m.made.is);
     }

@@ -19,7 +19,7 @@ returns-in-Ok-clause-goes c start now came p es absent i =
     let new : c.deref-in-Ok.result.now.talk ≡ c.end_opening.new.self = search rules in
     let talk = c.end_opening.new.self in
     let Q : Connection → Type 0 = λ x. (a b : Past) → IsTalk a b x.talk → IsEnded a b x.talk talk in
-    let ends : Q c.deref_mut.result.now = λ a b t. record { is = c.in-Ok.ensures.kept a b t; flows = c.in-Ok.ensures.flows; ends = c.in-Ok.ensures.ends; pieces = c.in-Ok.ensures.pieces; over = c.in-Ok.ensures.over } in
+    let ends : Q c.deref_mut.result.now = λ a b t. record { is = c.in-Ok.ensures.kept a b t; flows = c.in-Ok.ensures.flows; ends = c.in-Ok.ensures.ends; terms = c.in-Ok.ensures.terms; over = c.in-Ok.ensures.over } in
     let there : is_lost c.deref_mut.result.now.talk ≡ false = not_lost _ _ _ c.in-Ok.ensures.stays in
     let R : Talk → Type 0 = λ t. OnOk c.report.result (Says c.args.self.now.teller c.report.new.self c.deref-in-Ok-2.result.now.number c.unwrap_or-from.result t) in
     let S : ℕ → Type 0 = λ n. OnOk c.report.result (Says c.args.self.now.teller c.report.new.self c.deref-in-Ok-2.result.now.number n talk) in

@@ -2,12 +2,12 @@ use Rattle.std.proofs.Common.{◌∙◌, refl}
 use Rattle.bt_capture.proofs.connections.Run.shrink.Goals as goal
 
 pub oldest-init : goal.oldest-init
-oldest-init c = record { told = λ start now came i. i; pieces = refl; json = refl; start = refl }
+oldest-init c = record { told = λ start now came i. i; terms = refl; json = refl; start = refl }
 
 pub oldest-preserved : goal.oldest-preserved
 oldest-preserved c = record {
   told = λ start now came i. c.in-Ok.ensures.goes start now came (c.oldest.invariant.told start now came i);
-  pieces = c.in-Ok.ensures.pieces ∙ c.oldest.invariant.pieces;
+  terms = c.in-Ok.ensures.terms ∙ c.oldest.invariant.terms;
   json = c.in-Ok.ensures.json ∙ c.oldest.invariant.json;
   start = c.in-Ok.ensures.start ∙ c.oldest.invariant.start;
 }

@@ -10,7 +10,7 @@ decreases-oldest l = length l.self.table
 abbrev pub invariant-oldest : goal.invariant-oldest
 invariant-oldest l = record {
   told : (start now : TargetSeen) (came : List Arrival) → Follows start now came l.initial.self.table l.initial.self → Follows start now came l.self.table l.self;
-  pieces : l.self.pieces ≡ l.initial.self.pieces;
+  terms : l.self.terms ≡ l.initial.self.terms;
   json : l.self.teller.json ≡ l.initial.self.teller.json;
   start : l.self.start ≡ l.initial.self.start;
 }

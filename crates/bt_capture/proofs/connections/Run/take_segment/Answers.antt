@@ -13,9 +13,9 @@ returns-in-Ok-clause-goes c start now came i =
     let run = c.connection_of.new.self in
     let es : List (Pair × Held) = run.table in
     let was : c.deref_mut.result.now ≡ c.in-Ok.connection.value = search rules in
-    let R : Connection → Type 0 = λ k. (taken : List Arrival) → IsOpen run.pieces taken (x ∷ []) k → IsOpen run.pieces (taken ++ x ∷ []) [] c.take.new.self in
+    let R : Connection → Type 0 = λ k. (taken : List Arrival) → IsOpen run.terms taken (x ∷ []) k → IsOpen run.terms (taken ++ x ∷ []) [] c.take.new.self in
     c.put.ensures.goes start now (came ++ x ∷ [])
-    (follows_took start now came x c.of-pair.result c.in-Ok.connection _ es _ (sym c.of-pair.ensures.key) (subst R was (c.take.ensures run.pieces))
+    (follows_took start now came x c.of-pair.result c.in-Ok.connection _ es _ (sym c.of-pair.ensures.key) (subst R was (c.take.ensures run.terms))
     (holds_same start now came x c.of-pair.result c.in-Ok.connection es run _ refl refl refl refl (c.in-Ok.ensures.finds start now came i)))
 
 pub returns-in-Err-clause-goes : goal.returns-in-Err-clause-goes

@@ -5,11 +5,11 @@ use Rattle.bt_talk.specs.Stages.{receiver_in}
 use Rattle.bt_talk.proofs.direction.Direction.close.Goals as goal
 
 pub returns-clause-cut : goal.returns-clause-cut
-returns-clause-cut c = λ pieces p other xs d i l.
+returns-clause-cut c = λ terms p other xs d i l.
     let n = c.next.ensures p.heard p.segs p.out d.flow in
     let fits : c.next.result ≤ length p.out = omega (arith, n) in
     let all : take c.next.result p.out ≡ p.out = ap (λ (k : ℕ). take k p.out) n ∙ take_all (length p.out) p.out (omega arith) in
-    let last = c.last_in.ensures pieces p other xs d.stage i l in
+    let last = c.last_in.ensures terms p other xs d.stage i l in
     record {
       flow = d.flow;
       intro = d.intro;

@@ -3,7 +3,7 @@ use Rattle.bt_talk.proofs.Stages.{stage_same}
 use Rattle.bt_talk.proofs.direction.Direction.hear.Goals as goal
 
 pub returns-clause-heard : goal.returns-clause-heard
-returns-clause-heard c = λ pieces p other d.
+returns-clause-heard c = λ terms p other d.
     let f = c.hear.ensures.heard p.heard p.segs p.out d.flow in (
       f.0,
       record {
@@ -11,7 +11,7 @@ returns-clause-heard c = λ pieces p other d.
         intro = d.intro;
         later = d.later;
         front = d.front;
-        stage = stage_same pieces p other _ other c.args.self.now.stage refl refl refl d.stage;
+        stage = stage_same terms p other _ other c.args.self.now.stage refl refl refl d.stage;
         within = d.within;
         cut = d.cut;
       },

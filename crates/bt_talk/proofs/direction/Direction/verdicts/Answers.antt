@@ -5,10 +5,10 @@ use Rattle.bt_talk.specs.Stages.{IsStage, is_opening}
 use Rattle.bt_talk.proofs.direction.Direction.verdicts.Goals as goal
 
 pub returns-in-Open : goal.returns-in-Open
-returns-in-Open c = λ pieces p other d.
-    let s = subst (λ (s : Stage). IsStage pieces p other s) c.in-Open.is d.stage in
+returns-in-Open c = λ terms p other d.
+    let s = subst (λ (s : Stage). IsStage terms p other s) c.in-Open.is d.stage in
     let own = c.in-Open.judged.receiver.own in
-    subst (λ (o : Bool). AreVerdicts o pieces p other (Some c.ended.result)) (sym (ap is_opening c.in-Open.is)) (
+    subst (λ (o : Bool). AreVerdicts o terms p other (Some c.ended.result)) (sym (ap is_opening c.in-Open.is)) (
       c.in-Open.judged.receiver,
       s.0,
       record {

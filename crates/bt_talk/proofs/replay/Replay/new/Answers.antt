@@ -9,11 +9,11 @@ use Rattle.bt_talk.proofs.Replays.{begun}
 use Rattle.bt_talk.proofs.replay.Replay.new.Goals as goal
 
 pub returns-in_default : goal.returns-in_default
-returns-in_default c = λ pieces p q f all starts r.
+returns-in_default c = λ terms p q f all starts r.
     subst (λ (o : Option Receiver). IsReplay p o (cut_length c.args.cut.now) [] c.none.result) (sym c.in_default.is) (c.none.ensures p)
 
 pub returns : goal.returns
-returns c = λ pieces p q f all starts r.
+returns c = λ terms p q f all starts r.
     let start = c.in-Some-start.start in
     let first : IsFirstHello p.front start = subst (λ (o : Option ℕ). IsStartOf p.front o) c.in-Some-start.is starts in
     let lookup = c.in-Some-get.ensures.lookup in

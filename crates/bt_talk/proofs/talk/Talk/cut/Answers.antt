@@ -11,14 +11,14 @@ pub returns-then-closes_first-clause-kept : goal.returns-then-closes_first-claus
 returns-then-closes_first-clause-kept c = λ a b t.
     let self = c.args.self.now in
     closed_both a b self _ refl refl (ap (λ (d : Direction). d.stage) c.close.ensures.rest) (ap (λ (d : Direction). d.stage) c.close-then-closes_first.ensures.rest)
-    (c.close.ensures.cut self.pieces a b (t.said.items A) t.a_is t.said.a_items (t.said.watched.notes A).last)
-    (c.close-then-closes_first.ensures.cut self.pieces b a (t.said.items B) t.b_is t.said.b_items (t.said.watched.notes B).last) t
+    (c.close.ensures.cut self.terms a b (t.said.items A) t.a_is t.said.a_items (t.said.watched.notes A).last)
+    (c.close-then-closes_first.ensures.cut self.terms b a (t.said.items B) t.b_is t.said.b_items (t.said.watched.notes B).last) t
 
 pub returns-then-closes_first-clause-cuts : goal.returns-then-closes_first-clause-cuts
 returns-then-closes_first-clause-cuts c = λ a b side t.
     let self = c.args.self.now in
-    cut_noted side a b self _ c.args.flags (sym c.closes_first.ensures ∙ c.if-closes_first.true) (c.close.ensures.upto self.pieces a b t.a_is)
-    (c.close-then-closes_first.ensures.upto self.pieces b a t.b_is)
+    cut_noted side a b self _ c.args.flags (sym c.closes_first.ensures ∙ c.if-closes_first.true) (c.close.ensures.upto self.terms a b t.a_is)
+    (c.close-then-closes_first.ensures.upto self.terms b a t.b_is)
 
 pub returns-then-closes_first-clause-flows : goal.returns-then-closes_first-clause-flows
 returns-then-closes_first-clause-flows c = λ side.

@@ -14,7 +14,7 @@ use Rattle.bt_talk.proofs.talk.Talk.exchange.Goals as goal
 pub returns-in_ok-turn-in-A-clause-taken : goal.returns-in_ok-turn-in-A-clause-taken
 returns-in_ok-turn-in-A-clause-taken c = λ a b t.
     let self = c.args.self.now in
-    let x = c.in_ok-turn-in-A.ensures.taken self.pieces a b t.a_is t.b_is t.stages in
+    let x = c.in_ok-turn-in-A.ensures.taken self.terms a b t.a_is t.b_is t.stages in
     let r = x.0 in
     let s = x.1 (t.said.items A) t.said.a_items in
     let g = s.2 t.said.events t.said.items t.said.watched in
@@ -45,7 +45,7 @@ returns-in_ok-turn-in-A-clause-taken c = λ a b t.
 pub returns-in_ok-turn-in-B-clause-taken : goal.returns-in_ok-turn-in-B-clause-taken
 returns-in_ok-turn-in-B-clause-taken c = λ a b t.
     let self = c.args.self.now in
-    let x = c.in_ok-turn-in-B.ensures.taken self.pieces b a t.b_is t.a_is (sym t.stages) in
+    let x = c.in_ok-turn-in-B.ensures.taken self.terms b a t.b_is t.a_is (sym t.stages) in
     let r = x.0 in
     let s = x.1 (t.said.items B) t.said.b_items in
     let g = s.2 t.said.events t.said.items t.said.watched in
@@ -84,7 +84,7 @@ returns-in_ok-turn-in-B-clause-cuts c = λ side.
 pub returns-in_ok-turn-in-A-clause-order : goal.returns-in_ok-turn-in-A-clause-order
 returns-in_ok-turn-in-A-clause-order c = λ a b t.
     let self = c.args.self.now in
-    let x = c.in_ok-turn-in-A.ensures.taken self.pieces a b t.a_is t.b_is t.stages in
+    let x = c.in_ok-turn-in-A.ensures.taken self.terms a b t.a_is t.b_is t.stages in
     let s = x.1 (t.said.items A) t.said.a_items in
     record {
       side = A;
@@ -96,7 +96,7 @@ returns-in_ok-turn-in-A-clause-order c = λ a b t.
 pub returns-in_ok-turn-in-B-clause-order : goal.returns-in_ok-turn-in-B-clause-order
 returns-in_ok-turn-in-B-clause-order c = λ a b t.
     let self = c.args.self.now in
-    let x = c.in_ok-turn-in-B.ensures.taken self.pieces b a t.b_is t.a_is (sym t.stages) in
+    let x = c.in_ok-turn-in-B.ensures.taken self.terms b a t.b_is t.a_is (sym t.stages) in
     let s = x.1 (t.said.items B) t.said.b_items in
     record {
       side = B;

@@ -11,11 +11,11 @@ returns-clause-judged c = λ a b t o.
     let self = c.args.self.now in
     let ra = c.receiver_between-of_a.ensures.is a b t.a_is.intro t.b_is.intro in
     let rb = c.receiver_between-of_b.ensures.is b a t.b_is.intro t.a_is.intro in
-    let x = c.in_ok-a.ensures self.pieces a b o t.a_is ra in
-    let y = c.in_ok-b.ensures self.pieces b a (sym t.stages ∙ o) t.b_is rb in
+    let x = c.in_ok-a.ensures self.terms a b o t.a_is ra in
+    let y = c.in_ok-b.ensures self.terms b a (sym t.stages ∙ o) t.b_is rb in
     let no_a = opening_items self.a.stage a (t.said.items A) o t.said.a_items in
     let no_b = opening_items self.b.stage b (t.said.items B) (sym t.stages ∙ o) t.said.b_items in
-    c.in_ok-both.ensures.judged self.pieces a b (record { receiver = c.receiver_between-of_a.result; cut = cut_of A self })
+    c.in_ok-both.ensures.judged self.terms a b (record { receiver = c.receiver_between-of_a.result; cut = cut_of A self })
     (record { receiver = c.receiver_between-of_b.result; cut = cut_of B self }) ra rb
     (record {
       events = t.said.events;

@@ -14,6 +14,6 @@ returns c = λ a b t.
     let d = found c.args.side a b self c.direction.result.now c.direction.ensures t in
     let opening = opening_of c.args.side a b self c.direction.result.now c.direction.ensures t in
     let cut = ap (λ (k : Direction). cut_length k.cut) c.direction.ensures in
-    subst (λ (n : Option ℕ). IsLastBefore (is_in_opening self) self.pieces p q n c.last_before.result) cut
-    (subst (λ (o : Bool). IsLastBefore o self.pieces p q (cut_length c.direction.result.now.cut) c.last_before.result) opening
-    (c.last_before.ensures self.pieces p q d))
+    subst (λ (n : Option ℕ). IsLastBefore (is_in_opening self) self.terms p q n c.last_before.result) cut
+    (subst (λ (o : Bool). IsLastBefore o self.terms p q (cut_length c.direction.result.now.cut) c.last_before.result) opening
+    (c.last_before.ensures self.terms p q d))

@@ -5,8 +5,8 @@ use Rattle.bt_talk.proofs.talk.Talk.new.Goals as goal
 
 pub returns-clause-is : goal.returns-clause-is
 returns-clause-is c = record {
-  a_is = c.new.ensures.is c.args.pieces no_past;
-  b_is = c.new-2.ensures.is c.args.pieces no_past;
+  a_is = c.new.ensures.is c.args.terms no_past;
+  b_is = c.new-2.ensures.is c.args.terms no_past;
   stages = c.new.ensures.opening ∙ sym c.new-2.ensures.opening;
   said = record {
     events = [];

@@ -13,7 +13,7 @@ returns-clause-kept c = λ a b t.
     let rest = c.judge_opening.ensures.rest in
     let over = c.in_ok-of_a.ensures.open in
     let j = c.in_ok-of_a.ensures.judged a b t (sym c.is_opening.ensures ∙ c.if-not-is_opening.false) in
-    ended a b self _ of_a of_b (ap (λ (k : Talk). k.pieces) rest)
+    ended a b self _ of_a of_b (ap (λ (k : Talk). k.terms) rest)
     (c.open.ensures ∙ ap (λ (k : Talk). record k.a { stage = of_a.stage; cut = of_a.cut }) rest)
     (c.open-2.ensures ∙ ap (λ (k : Talk). record k.b { stage = of_b.stage; cut = of_b.cut }) rest) over.0 over.1 j.0 j.1 j.2 t
 

@@ -12,7 +12,7 @@ pub returns-then-not-is_over-clause-settles : goal.returns-then-not-is_over-clau
 returns-then-not-is_over-clause-settles c = λ a b t. record {
   is = record { a_is = t.a_is; b_is = t.b_is; stages = t.stages; said = t.said };
   opening = λ o.
-      let i = c.is_over.ensures c.args.self.now.pieces a b t.a_is t.b_is o (sym t.stages ∙ o) in
+      let i = c.is_over.ensures c.args.self.now.terms a b t.a_is t.b_is o (sym t.stages ∙ o) in
       let n : c.saturating_add-self.result ≡ min (c.args.self.now.segments + 1) (2 ^ 32 - 1) = omega (arith, c.saturating_add-self.ensures) in
       end_same a b c.saturating_add-self.result _ c.is_over.result _ n (c.if-not-is_over.true ∙ sym (ap not o)) i;
 }
@@ -21,7 +21,7 @@ pub returns-clause-settles : goal.returns-clause-settles
 returns-clause-settles c = λ a b t. record {
   is = c.in_ok-open.ensures.kept a b (record { a_is = t.a_is; b_is = t.b_is; stages = t.stages; said = t.said });
   opening = λ o.
-      let i = c.is_over.ensures c.args.self.now.pieces a b t.a_is t.b_is o (sym t.stages ∙ o) in
+      let i = c.is_over.ensures c.args.self.now.terms a b t.a_is t.b_is o (sym t.stages ∙ o) in
       let n : c.saturating_add-self.result ≡ min (c.args.self.now.segments + 1) (2 ^ 32 - 1) = omega (arith, c.saturating_add-self.ensures) in
       end_same a b c.saturating_add-self.result _ c.is_over.result _ n (c.if-not-is_over.false ∙ sym (ap not c.in_ok-open.ensures.open)) i;
 }

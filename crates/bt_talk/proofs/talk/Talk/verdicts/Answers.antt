@@ -11,5 +11,5 @@ returns c = λ a b t.
     let p = of_side c.args.side a b in
     let q = of_side (other c.args.side) a b in
     let d = found c.args.side a b self c.direction.result.now c.direction.ensures t in
-    subst (λ (o : Bool). AreVerdicts o self.pieces p q c.verdicts.result) (opening_of c.args.side a b self c.direction.result.now c.direction.ensures t)
-    (c.verdicts.ensures self.pieces p q d)
+    subst (λ (o : Bool). AreVerdicts o self.terms p q c.verdicts.result) (opening_of c.args.side a b self c.direction.result.now c.direction.ensures t)
+    (c.verdicts.ensures self.terms p q d)
