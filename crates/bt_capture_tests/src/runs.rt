@@ -1,6 +1,7 @@
 //! A capture file from its bytes to the report of its connection. The text is that which tools/btcap prints, without sentences.
 use bt_capture::{CaptureEnd, CaptureFault, CaptureJob, run_capture};
 use bt_io::{MemSource, MemTarget};
+use bt_talk::Terms;
 use std::test::Fail;
 
 /// A connection with a handshake in each direction, and a have of piece 9.
