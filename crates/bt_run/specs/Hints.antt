@@ -97,8 +97,8 @@ HasMark b (hints.KeepAlives start size) = (1024 ≤ size) × AreKeepAlives b sta
 -- ---- a hint's line
 
 abbrev pub kind_text : Kind → List ℕ
-kind_text kind.Pcap = codes "a pcap file: run tools/btcap FILE"
-kind_text kind.Pcapng = codes "a pcapng file: run tools/btcap FILE"
+kind_text kind.Pcap = codes "a pcap file; this may read it: bt_tool capture FILE"
+kind_text kind.Pcapng = codes "a pcapng file; this may read it: bt_tool capture FILE"
 kind_text kind.Gzip = codes "gzip; this may read it: gunzip -c FILE | bt_tool show"
 kind_text kind.Tls = codes "TLS, which is encrypted"
 kind_text kind.Http = codes "HTTP, and no connection of peers"

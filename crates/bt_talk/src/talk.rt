@@ -379,6 +379,7 @@ impl Talk {
         ensures cuts { OnOk result ((a b : Past) (side : Side) → IsTalk a b self.old → cut_of side self.new ≡ cut_of side self.old) }
         ensures flows { OnOk result ((side : Side) → flow_of side self.new ≡ flow_of side self.old) }
         ensures over { OnOk result (is_in_opening self.new ≡ false) }
+        ensures closing { closing_of self.new ≡ closing_of self.old }
         ensures there { OnOk result (is_lost self.new ≡ false) }
         ensures lost { OnErr result (is_lost self.new ≡ true) }
         ensures stays { is_lost self.old ≡ true → result ≡ Err alloc_error }

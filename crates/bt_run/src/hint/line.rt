@@ -12,8 +12,8 @@ fn kind_text(kind: Kind) -> &'static [u8]
     ensures { result.now ≡ text_of kind }
 {
     match kind {
-        Kind::Pcap => b"a pcap file: run tools/btcap FILE",
-        Kind::Pcapng => b"a pcapng file: run tools/btcap FILE",
+        Kind::Pcap => b"a pcap file; this may read it: bt_tool capture FILE",
+        Kind::Pcapng => b"a pcapng file; this may read it: bt_tool capture FILE",
         Kind::Gzip => b"gzip; this may read it: gunzip -c FILE | bt_tool show",
         Kind::Tls => b"TLS, which is encrypted",
         Kind::Http => b"HTTP, and no connection of peers",
