@@ -12,7 +12,7 @@ use Rattle.bt_text.specs.declared.ended.ToolFault.TheVariants as fault
 use Rattle.bt_text.specs.Lines.{fault_line, verdict_line}
 use Rattle.bt_run.specs.Runs.{IsSaid}
 use Rattle.bt_bencode.specs.Trees.{Pairs}
-use Rattle.bt_serve.specs.Files.{IsFileOf, IsInfoKept}
+use Rattle.bt_torrent.specs.Files.{IsFileOf, IsInfoKept}
 use Rattle.bt_serve.specs.declared.door.Parting.{Parting}
 use Rattle.bt_serve.specs.declared.guest.Ending.{Ending}
 use Rattle.bt_serve.specs.declared.guest.Ending.TheVariants as ending

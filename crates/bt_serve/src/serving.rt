@@ -7,10 +7,10 @@ ghost use Rattle.bt_serve.specs.Doors.{AreEnough, AreMore, AreServed, AreTold, A
 ghost use Rattle.bt_serve.specs.Guests.{IsHospitality, IsServed, IsTurned};
 
 use crate::door::{Door, Parting};
-use crate::file::piece_count;
 use crate::guest::{Ending, Guest, Hospitality, Pace};
 use bt_exchange::Connection;
 use bt_io::Memory;
+use bt_torrent::piece_count;
 use std::alloc::Global;
 use std::rc::Rc;
 

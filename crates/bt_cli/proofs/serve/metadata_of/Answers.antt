@@ -1,5 +1,5 @@
 use Rattle.std.proofs.Common.{arith, rules}
-use Rattle.bt_serve.specs.Files.{IsInfo}
+use Rattle.bt_torrent.specs.Files.{IsInfo}
 use Rattle.bt_cli.proofs.serve.metadata_of.Goals as goal
 
 pub returns-then-len-gt-MAX_METADATA : goal.returns-then-len-gt-MAX_METADATA

@@ -1,0 +1,4 @@
+pub mod Unique
+pub mod Passing
+pub mod Lookups
+pub mod Files
