@@ -34,6 +34,18 @@ first own f le e =
       items = refl;
       refusal = refl;
       held = λ _. record { comes = λ later v k. k; waits = hand_open own };
+      unread = record {
+        front = [];
+        later = [];
+        parts = refl;
+        rest = λ _. refl;
+        verdict = stopped (stage.Handshake own) [] None;
+        is = open_comes (stage.Handshake own) [] (omega (arith, le)) (hand_open own);
+        items = refl;
+        refusal = refl;
+        start = refl;
+        tail = refl;
+      };
     })
 
 -- ---- a piece more
@@ -57,34 +69,70 @@ goes_on own b xs f g piece ys le limit h m waits =
     let told = fed_verdict own b xs f g piece ys h m in
     let last = stopped g.stage (g.held ++ []) None in
     let P : List ℕ → Type 0 = λ l. IsVerdict own l (with_items (xs ++ ys) last) in
+    let is = subst P (append-nil (b ++ piece)) (told [] last (open_comes g.stage (g.held ++ []) (omega (arith, limit))
+    (ap (is_closed g.stage) (append-nil g.held) ∙ waits))) in
     record {
       limit = le;
       now = with_items (xs ++ ys) last;
-      is = subst P (append-nil (b ++ piece)) (told [] last (open_comes g.stage (g.held ++ []) (omega (arith, limit))
-          (ap (is_closed g.stage) (append-nil g.held) ∙ waits)));
+      is = is;
       items = append-nil (xs ++ ys);
       refusal = refl;
       held = λ _. record { comes = told; waits = waits };
+      unread = record {
+        front = b ++ piece;
+        later = [];
+        parts = sym (append-nil (b ++ piece));
+        rest = λ _. refl;
+        verdict = with_items (xs ++ ys) last;
+        is = is;
+        items = append-nil (xs ++ ys);
+        refusal = refl;
+        start = refl;
+        tail = append-nil g.held;
+      };
     }
+
+-- the verdict of what went in up to a refusal, and of what follows
+refused_then : (own : Own) (b : List ℕ) (xs : List (ℕ × Item)) (f g : FeedState) (bytes : List ℕ) (ys : List (ℕ × Item)) (r : Refusal)
+    → limit_of g.stage ≤ 1048576 → IsHeld own b xs f → IsFed f bytes ys g → IsAnswer g (Err r) → (rest : List ℕ)
+    → IsVerdict own ((b ++ bytes) ++ rest) (with_items (xs ++ ys) (stopped g.stage (g.held ++ rest) (Some r)))
+refused_then own b xs f g bytes ys r limit h m a rest =
+    let P : Refusal → Type 0 = λ x. Comes g.stage (g.held ++ rest) (stopped g.stage (g.held ++ rest) (Some x)) in
+    let comes = subst P (sym a.2) (fault_comes g.stage (g.held ++ rest) a.0 (omega (arith, limit)) (fault_more g.stage g.held rest a.0 a.1)) in
+    fed_verdict own b xs f g bytes ys h m rest (stopped g.stage (g.held ++ rest) (Some r)) comes
 
 stops : (own : Own) (b : List ℕ) (xs : List (ℕ × Item)) (f g : FeedState) (piece : List ℕ) (ys : List (ℕ × Item)) (n : ℕ) (r : Refusal)
     → own.limit ≤ 1048576 → limit_of g.stage ≤ 1048576 → IsHeld own b xs f → IsFed f (take n piece) ys g → IsAnswer g (Err r)
     → IsJudged own (b ++ piece) (xs ++ ys) (reading_state g (Some r))
 stops own b xs f g piece ys n r le limit h m a =
+    let front = b ++ take n piece in
     let rest = drop n piece in
     let last = stopped g.stage (g.held ++ rest) (Some r) in
-    let P : Refusal → Type 0 = λ x. Comes g.stage (g.held ++ rest) (stopped g.stage (g.held ++ rest) (Some x)) in
-    let comes = subst P (sym a.2) (fault_comes g.stage (g.held ++ rest) a.0 (omega (arith, limit)) (fault_more g.stage g.held rest a.0 a.1)) in
-    let parts : (b ++ take n piece) ++ rest ≡ b ++ piece =
+    let here = stopped g.stage (g.held ++ []) (Some r) in
+    let parts : front ++ rest ≡ b ++ piece =
     append_assoc b (take n piece) rest ∙ ap (λ (l : List ℕ). b ++ l) (take-append-drop n piece) in
+    let told = refused_then own b xs f g (take n piece) ys r limit h m a in
+    let P : List ℕ → Type 0 = λ l. IsVerdict own l (with_items (xs ++ ys) here) in
     let Q : List ℕ → Type 0 = λ l. IsVerdict own l (with_items (xs ++ ys) last) in
     record {
       limit = le;
       now = with_items (xs ++ ys) last;
-      is = subst Q parts (fed_verdict own b xs f g (take n piece) ys h m rest last comes);
+      is = subst Q parts (told rest);
       items = append-nil (xs ++ ys);
       refusal = refl;
       held = λ none. absurd (let bad : Some r ≡ None = none in cc);
+      unread = record {
+        front = front;
+        later = rest;
+        parts = sym parts;
+        rest = λ none. absurd (let bad : Some r ≡ None = none in cc);
+        verdict = with_items (xs ++ ys) here;
+        is = subst P (append-nil front) (told []);
+        items = append-nil (xs ++ ys);
+        refusal = refl;
+        start = refl;
+        tail = append-nil g.held;
+      };
     }
 
 is_refused : (o : Option Refusal) (r : Refusal) → o ≡ Some r → IsSome o
@@ -101,6 +149,7 @@ pub passes : (own : Own) (b : List ℕ) (xs : List (ℕ × Item)) (s : ReadingSt
     → IsJudged own (b ++ more) (xs ++ []) s
 passes own b xs s more some j =
     let limit = j.limit in
+    let u = j.unread in
     let P : Option Refusal → Type 0 = λ o. IsSome o in
     record {
       limit = limit;
@@ -109,6 +158,18 @@ passes own b xs s more some j =
       items = j.items ∙ sym (append-nil xs);
       refusal = j.refusal;
       held = λ none. absurd (let bad = subst P none some in cc);
+      unread = record {
+        front = u.front;
+        later = u.later ++ more;
+        parts = ap (λ (l : List ℕ). l ++ more) u.parts ∙ append_assoc u.front u.later more;
+        rest = λ none. absurd (let bad = subst P none some in cc);
+        verdict = u.verdict;
+        is = u.is;
+        items = u.items ∙ sym (append-nil xs);
+        refusal = u.refusal;
+        start = u.start;
+        tail = u.tail;
+      };
     }
 
 pub none_by : (o : Option Refusal) → is_some o ≡ false → o ≡ None

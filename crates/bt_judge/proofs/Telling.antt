@@ -1,5 +1,5 @@
 -- The verdict of a stream, if it ends here.
-use Rattle.std.proofs.Common.{◌≡◌, ℕ, ◌-◌, ◌+◌, List, [], ◌++◌, length, Option, Some, None, Result, Ok, Err}
+use Rattle.std.proofs.Common.{◌≡◌, ℕ, ◌-◌, ◌+◌, if◌then◌else◌, List, [], ◌++◌, length, Option, Some, None, Result, Ok, Err}
 use Rattle.std.proofs.Common.{refl, sym, ap, subst, ◌∙◌, arith, inl, inr}
 use Rattle.std.proofs.lemmas.Bool.{cases_lt}
 use Rattle.std.proofs.lemmas.List.{append-nil, length-append}
@@ -8,7 +8,7 @@ use Rattle.bt_wire.specs.declared.fault.Refused.{Refused as Fault}
 use Rattle.bt_wire.specs.declared.item.Item.{Item}
 use Rattle.bt_wire.specs.declared.item.Refusal.{Refusal}
 use Rattle.bt_wire.specs.Handshakes.{hand, hand_fault}
-use Rattle.bt_wire.specs.Streams.{Outcome, IsVerdict, IsVerdictBy, refusal_at_end}
+use Rattle.bt_wire.specs.Streams.{Outcome, IsVerdict, IsVerdictBy, is_complete, end_inside, refusal_at_end}
 use Rattle.bt_wire.proofs.HandLaws.{hand-length}
 use Rattle.bt_text.specs.declared.ended.Ended.TheVariants.{Accepted, Refused}
 use Rattle.bt_text.specs.Lines.{ended_by}
@@ -22,7 +22,7 @@ use Rattle.bt_feed.specs.Pumps.{IsEndOf}
 use Rattle.bt_feed.specs.Stages.{number_of, Comes}
 use Rattle.bt_feed.specs.Transcripts.{with_items}
 use Rattle.bt_feed.proofs.Moving.{end_of_open}
-use Rattle.bt_judge.specs.Readings.{IsHeld, IsTold}
+use Rattle.bt_judge.specs.Readings.{ReadingState, IsHeld, IsJudged, IsTold}
 
 -- ---- how long a stream is
 
@@ -45,6 +45,19 @@ length_by None own b v h =
 
 verdict_length : (own : Own) (b : List ℕ) (v : Outcome) → IsVerdict own b v → v.start + length v.tail ≡ length b
 verdict_length own b v h = length_by (hand_fault own b) own b v h
+
+-- ---- a refusal that is kept
+
+pub told_refused : (own : Own) (b : List ℕ) (xs : List (ℕ × Item)) (s : ReadingState) (r : Refusal) → s.refused ≡ Some r → IsJudged own b xs s
+    → IsTold own b xs (Refused r)
+told_refused own b xs s r e j =
+    let v = j.now in (
+      v,
+      j.is,
+      j.items,
+      sym (ap (λ (o : Option Refusal). ended_by (elim o [ Some q ↦ Some q | None ↦ if is_complete v then None else Some (end_inside v) ]) v.number (length b))
+          (j.refusal ∙ e)),
+    )
 
 -- ---- where nothing is refused
 

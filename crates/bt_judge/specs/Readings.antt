@@ -10,7 +10,7 @@ use Rattle.bt_feed.specs.declared.sink.SinkFault.{SinkFault}
 use Rattle.bt_feed.specs.Answers.{IsAnswer}
 use Rattle.bt_feed.specs.Feeds.{FeedState}
 use Rattle.bt_feed.specs.Pumps.{IsFed}
-use Rattle.bt_feed.specs.Stages.{is_all, is_closed, Comes}
+use Rattle.bt_feed.specs.Stages.{start_of, is_all, is_closed, Comes}
 use Rattle.bt_feed.specs.Transcripts.{with_items}
 
 -- a parser, and the refusal after which it gets no more bytes
@@ -26,6 +26,19 @@ pub record IsHeld (own : Own) (b : List ℕ) (xs : List (ℕ × Item)) (f : Feed
   pub comes : (later : List ℕ) (v : Outcome) → Comes f.stage (f.held ++ later) v → IsVerdict own (b ++ later) (with_items xs v)
   pub waits : is_closed f.stage f.held ≡ false
 
+-- A front of b has these items and this refusal, or none, and then these bytes, which start at this offset. Only a refusal leaves more of b.
+pub record IsUnread (own : Own) (b : List ℕ) (xs : List (ℕ × Item)) (refused : Option Refusal) (from : ℕ) (bytes : List ℕ) : Type 0 where
+  pub front : List ℕ
+  pub later : List ℕ
+  pub parts : b ≡ front ++ later
+  pub rest : refused ≡ None → later ≡ []
+  pub verdict : Outcome
+  pub is : IsVerdict own front verdict
+  pub items : verdict.items ≡ xs
+  pub refusal : verdict.refusal ≡ refused
+  pub start : verdict.start ≡ from
+  pub tail : verdict.tail ≡ bytes
+
 -- b was taken, and these are its items. Its verdict has the refusal that is kept, or none; without one the feed holds the rest of b.
 pub record IsJudged (own : Own) (b : List ℕ) (xs : List (ℕ × Item)) (r : ReadingState) : Type 0 where
   pub limit : own.limit ≤ 1048576
@@ -34,6 +47,7 @@ pub record IsJudged (own : Own) (b : List ℕ) (xs : List (ℕ × Item)) (r : Re
   pub items : now.items ≡ xs
   pub refusal : now.refusal ≡ r.refused
   pub held : r.refused ≡ None → IsHeld own b xs r.feed
+  pub unread : IsUnread own b xs r.refused (start_of r.feed.stage) r.feed.held
 
 -- b begins with these items, whatever they are followed by
 abbrev pub BeginsWith : Own → List ℕ → List (ℕ × Item) → Type 0

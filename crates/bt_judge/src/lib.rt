@@ -9,4 +9,4 @@ mod piece;
 mod reading;
 
 pub use judge::{Judge, Verdicts};
-pub use reading::Reading;
+pub use reading::{Reading, Unread};

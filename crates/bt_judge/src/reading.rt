@@ -5,7 +5,7 @@ ghost use Rattle.bt_wire.specs.declared.item.Item.{Item};
 ghost use Rattle.bt_feed.specs.Pumps.{Took, IsMissed};
 ghost use Rattle.bt_feed.specs.Stages.{limit_of};
 ghost use Rattle.bt_io.specs.Counts.{Grew};
-ghost use Rattle.bt_judge.specs.Readings.{IsJudged, BeginsWith, IsTold, IsStanding, IsPieceTaken};
+ghost use Rattle.bt_judge.specs.Readings.{IsJudged, BeginsWith, IsTold, IsStanding, IsUnread, IsPieceTaken};
 
 use crate::piece::Piece;
 use bt_feed::{Feed, Finish, PumpError, Sink, SinkFault, pump_with, refusal_in};
@@ -76,6 +76,15 @@ fn read_piece<S: Sink>(
         Err(PumpError::ReadFault) => unreachable!(),
         Ok(_) => unreachable!(),
     }
+}
+
+/// The item of a stream that isn't read.
+#[derive(Clone, Copy)]
+pub struct Unread<'a> {
+    /// The offset at which it starts.
+    pub start: u64,
+    /// Its bytes that have come.
+    pub bytes: &'a [u8],
 }
 
 /// A stream that is read by one rule set, as its bytes come.
@@ -175,5 +184,19 @@ impl Reading {
         ensures { (own : Own) (b : List ℕ) (xs : List (ℕ × Item)) → IsJudged own b xs self.now → IsStanding own b result }
     {
         self.refused
+    }
+
+    /// Returns what follows the items that were read.
+    ///
+    /// After a refusal that is the refused item, with its bytes up to the one with which it is refused. Else it is the item that
+    /// isn't whole yet, with all bytes of it that have come.
+    pub fn unread(&self) -> Unread<'_>
+        ensures { (own : Own) (b : List ℕ) (xs : List (ℕ × Item)) → IsJudged own b xs self.now
+            → IsUnread own b xs self.now.refused result.start result.bytes.now }
+    {
+        Unread {
+            start: self.feed.start(),
+            bytes: self.feed.buffered(),
+        }
     }
 }

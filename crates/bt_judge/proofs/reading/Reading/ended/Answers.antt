@@ -1,7 +1,12 @@
 use Rattle.std.proofs.Common.{◌∙◌, Err, sym, subst, ap}
-use Rattle.bt_judge.specs.Readings.{ReadingState, IsJudged}
-use Rattle.bt_judge.proofs.Telling.{told_accepted, told_inside}
+use Rattle.bt_judge.specs.Readings.{ReadingState, reading_state, IsJudged}
+use Rattle.bt_judge.proofs.Telling.{told_accepted, told_inside, told_refused}
 use Rattle.bt_judge.proofs.reading.Reading.ended.Goals as goal
+
+pub returns-in-Some : goal.returns-in-Some
+returns-in-Some c = λ own b xs j.
+    let P : ReadingState → Type 0 = λ s. IsJudged own b xs s in
+    told_refused own b xs (reading_state c.self.inside.feed c.self.inside.refused) c.in-Some.refusal c.in-Some.is (subst P (sym c.self.view_is) j)
 
 pub returns-in-Ok : goal.returns-in-Ok
 returns-in-Ok c = λ own b xs j.
