@@ -1,5 +1,7 @@
 //! Events of two sides with the remarks that they get. All values are by hand.
-use bt_remarks::{Block, Ending, Event, Found, Heard, Matcher, Remarks, Side, Tally};
+use bt_remarks::{
+    Block, Ending, Event, Found, Heard, Matcher, Remarks, Request, Side, Tally, Unanswered,
+};
 use std::process::Abort;
 use std::test::Fail;
 
@@ -85,6 +87,13 @@ fn found(count: u64, first: u64) -> Found {
     }
 }
 
+fn unanswered(count: u64, mark: u64, block: Block) -> Unanswered {
+    Unanswered {
+        count,
+        first: Some(Request { mark, block }),
+    }
+}
+
 /// Takes the rows' events, whose marks are their numbers from 0 on, and compares the remarks.
 fn check(rt: &impl Abort, matcher: &mut Matcher, rows: &[Row]) -> Result<(), Fail> {
     for (mark, row) in rows.iter().enumerate() {
@@ -159,10 +168,16 @@ fn remarks_on_known_events(rt: HostRuntime) -> Result<(), Fail> {
         closed_first: true,
         stopped: true,
     };
-    assert_eq!(&rt; matcher.unanswered(Side::A, OPEN), found(2, 7));
-    assert_eq!(&rt; matcher.unanswered(Side::A, closed), found(3, 7));
-    assert_eq!(&rt; matcher.unanswered(Side::A, stopped), Found::NOTHING);
-    assert_eq!(&rt; matcher.unanswered(Side::B, closed), Found::NOTHING);
+    assert_eq!(&rt;
+        matcher.unanswered(Side::A, OPEN),
+        unanswered(2, 7, block(1, 0, 16384))
+    );
+    assert_eq!(&rt;
+        matcher.unanswered(Side::A, closed),
+        unanswered(3, 7, block(1, 0, 16384))
+    );
+    assert_eq!(&rt; matcher.unanswered(Side::A, stopped), Unanswered::NOTHING);
+    assert_eq!(&rt; matcher.unanswered(Side::B, closed), Unanswered::NOTHING);
     Ok(())
 }
 
@@ -196,7 +211,10 @@ fn chokes_without_a_reject(rt: HostRuntime) -> Result<(), Fail> {
         known(Side::A, Event::Request(block(0, 1, 1)), CHOKED),
     ];
     check(&rt, &mut matcher, &rows)?;
-    assert_eq!(&rt; matcher.unanswered(Side::A, OPEN), found(1, 1));
+    assert_eq!(&rt;
+        matcher.unanswered(Side::A, OPEN),
+        unanswered(1, 1, block(0, 0, 1))
+    );
     Ok(())
 }
 
@@ -228,6 +246,6 @@ fn bounds_the_requests(rt: HostRuntime) -> Result<(), Fail> {
         closed_first: true,
         stopped: false,
     };
-    assert_eq!(&rt; matcher.unanswered(Side::A, closed), Found::NOTHING);
+    assert_eq!(&rt; matcher.unanswered(Side::A, closed), Unanswered::NOTHING);
     Ok(())
 }

@@ -16,12 +16,10 @@ use Rattle.std.proofs.lemmas.Bool.Decides.{nat_tests}
 use Rattle.std.proofs.lemmas.List.Sums.{length-filter}
 use Rattle.std.proofs.lemmas.Map.Entries.{length-keys_of, length-values_of, lookup-filter-values, lookup_from_place, option_filter}
 use Rattle.bt_remarks.specs.declared.requests.Asked.{Asked}
-use Rattle.bt_remarks.specs.Requests.{Pending, is_late, sooner}
-use Rattle.bt_remarks.specs.Ends.{late_one, late_of, is_same_block, IsFirst, IsFoundOf}
+use Rattle.bt_remarks.specs.declared.tallies.Request.{Request}
+use Rattle.bt_remarks.specs.Requests.{Pending, Entry, is_late, sooner, request_of}
+use Rattle.bt_remarks.specs.Ends.{late_one, late_of, is_same_block, IsFirst, AreFoundOf}
 use Rattle.bt_remarks.proofs.RequestProofs.{key_test}
-
-abbrev Entry : Type 0
-Entry = (ℕ × ℕ) × Asked
 
 abbrev key_cmp : ℕ × ℕ → ℕ × ℕ → Ordering
 key_cmp x y = ordering_then (nat_cmp x.0 y.0) (nat_cmp x.1 y.1)
@@ -33,75 +31,72 @@ same_key : eq_by_cmp key_cmp ≡ is_same_block
 same_key = fun_ext (λ x. fun_ext (λ y. key_test (record { index = x.0; begin = x.1; length = 0 }) y.0 y.1))
 
 -- ---- the oldest of some requests
-least : Asked → List Entry → Asked
+least : Entry → List Entry → Entry
 least f [] = f
-least f (e ∷ es) = least (if leb f.number e.1.number then f else e.1) es
+least f (e ∷ es) = least (if leb f.1.number e.1.number then f else e) es
 
-some_if : (b : Bool) (x y : Asked) → (if b then Some x else Some y) ≡ Some (if b then x else y)
+some_if : (b : Bool) (x y : Entry) → (if b then Some x else Some y) ≡ Some (if b then x else y)
 some_if true x y = refl
 some_if false x y = refl
 
-fold_is : (f : Asked) (es : List Entry) → fold sooner (Some f) (values_of es) ≡ Some (least f es)
+fold_is : (f : Entry) (es : List Entry) → fold sooner (Some f) es ≡ Some (least f es)
 unfolding least
 fold_is f [] = refl
-fold_is f (e ∷ es) = ap (λ o. fold sooner o (values_of es)) (some_if (leb f.number e.1.number) f e.1) ∙ fold_is (if leb f.number e.1.number then f else e.1) es
+fold_is f (e ∷ es) = ap (λ o. fold sooner o es) (some_if (leb f.1.number e.1.number) f e) ∙ fold_is (if leb f.1.number e.1.number then f else e) es
 
 abbrev AllFrom : ℕ → List Entry → Type 0
 AllFrom n [] = Unit {0}
 AllFrom n (e ∷ es) = (n ≤ e.1.number) × AllFrom n es
 
-pick_le : (f g : Asked) → ((if leb f.number g.number then f else g).number ≤ f.number) × ((if leb f.number g.number then f else g).number ≤ g.number)
+pick_le : (f g : Entry)
+    → ((if leb f.1.number g.1.number then f else g).1.number ≤ f.1.number) × ((if leb f.1.number g.1.number then f else g).1.number ≤ g.1.number)
 pick_le f g =
-    ⊎_elim (λ (h : g.number < f.number). (grind (arith, nat_tests, h), grind (arith, nat_tests, h))) (λ (h : f.number ≤ g.number). (
+    ⊎_elim (λ (h : g.1.number < f.1.number). (grind (arith, nat_tests, h), grind (arith, nat_tests, h))) (λ (h : f.1.number ≤ g.1.number). (
       grind
           (arith, nat_tests, h),
       grind (arith, nat_tests, h),
     ))
-    (cases_lt g.number f.number)
+    (cases_lt g.1.number f.1.number)
 
-pick_is : (b : Bool) (f g : Asked) → ((if b then f else g) ≡ f) ⊎ ((if b then f else g) ≡ g)
+pick_is : (b : Bool) (f g : Entry) → ((if b then f else g) ≡ f) ⊎ ((if b then f else g) ≡ g)
 pick_is true f g = inl refl
 pick_is false f g = inr refl
 
-least_le : (f : Asked) (es : List Entry) → (least f es).number ≤ f.number
+least_le : (f : Entry) (es : List Entry) → (least f es).1.number ≤ f.1.number
 unfolding least
 least_le f [] = omega arith
-least_le f (e ∷ es) = let h = least_le (if leb f.number e.1.number then f else e.1) es in let g = pick_le f e.1 in omega arith
+least_le f (e ∷ es) = let h = least_le (if leb f.1.number e.1.number then f else e) es in let g = pick_le f e in omega arith
 
-least_all : (f : Asked) (es : List Entry) → AllFrom (least f es).number es
+least_all : (f : Entry) (es : List Entry) → AllFrom (least f es).1.number es
 unfolding least
 least_all f [] = tt
 least_all f (e ∷ es) =
-    let h = least_le (if leb f.number e.1.number then f else e.1) es in let g = pick_le f e.1 in (
+    let h = least_le (if leb f.1.number e.1.number then f else e) es in let g = pick_le f e in (
       omega arith,
       least_all
-          (if leb f.number e.1.number then f else e.1) es,
+          (if leb f.1.number e.1.number then f else e) es,
     )
 
 -- where the oldest one stands
-abbrev Stands : List Entry → Asked → Type 0
-Stands es r = (i : ℕ) × (k : ℕ × ℕ) × (slice_get es i ≡ Some (k, r))
+abbrev Stands : List Entry → Entry → Type 0
+Stands es e = (i : ℕ) × (slice_get es i ≡ Some e)
 
-least_in : (f : Asked) (es : List Entry) → (least f es ≡ f) ⊎ Stands es (least f es)
+least_in : (f : Entry) (es : List Entry) → (least f es ≡ f) ⊎ Stands es (least f es)
 unfolding least
 least_in f [] = inl refl
 least_in f (e ∷ es) =
-    let pick = if leb f.number e.1.number then f else e.1 in
+    let pick = if leb f.1.number e.1.number then f else e in
     ⊎_elim
     (λ (same : least pick es ≡ pick).
-    ⊎_elim (λ (first : pick ≡ f). inl (same ∙ first)) (λ (this : pick ≡ e.1). inr (
-      0,
-      e.0,
-      ap (λ r. Some (e.0, r)) (sym (same
-          ∙ this)),
-    )) (pick_is (leb f.number e.1.number) f e.1))
-    (λ (later : Stands es (least pick es)). inr (suc later.0, later.1, later.2))
+    ⊎_elim (λ (first : pick ≡ f). inl (same ∙ first)) (λ (this : pick ≡ e). inr (0, ap Some (sym (same ∙ this)))) (pick_is
+    (leb f.1.number e.1.number) f e))
+    (λ (later : Stands es (least pick es)). inr (suc later.0, later.1))
     (least_in pick es)
 
-stands_first : (e : Entry) (es : List Entry) → Stands (e ∷ es) (least e.1 es)
+stands_first : (e : Entry) (es : List Entry) → Stands (e ∷ es) (least e es)
 stands_first e es =
-    ⊎_elim (λ (same : least e.1 es ≡ e.1). (0, e.0, ap (λ r. Some (e.0, r)) (sym same))) (λ (later : Stands es (least e.1 es)).
-    (suc later.0, later.1, later.2)) (least_in e.1 es)
+    ⊎_elim (λ (same : least e es ≡ e). (0, ap Some (sym same))) (λ (later : Stands es (least e es)).
+    (suc later.0, later.1)) (least_in e es)
 
 looked_up : (n : ℕ) (test : ℕ × ℕ → Bool) (es : List Entry) → AllFrom n es → IfSome (lookup test es) (λ r. n ≤ r.number)
 looked_up n test [] h = tt
@@ -133,35 +128,34 @@ looks_late closed later i b es sorted =
     lookup-filter-values key_laws (is_late closed later) (i, b) es (IsDistinct-from_sorted key_cmp (keys_of es) sorted)
     ∙ late_is closed later (lookup (eq_by_cmp key_cmp (i, b)) es)
 
-abbrev pub marked : Option Asked → Option ℕ
-marked None = None
-marked (Some request) = Some request.mark
+abbrev pub requested : Option Entry → Option Request
+requested None = None
+requested (Some entry) = Some (request_of entry)
 
 -- the first of the late entries, as the fold gives it
-first_is : (requests : Pending) (es : List Entry) (first : Option Asked) → IsDistinct (eq_by_cmp key_cmp) (keys_of es)
-    → ((i b : ℕ) → lookup (eq_by_cmp key_cmp (i, b)) es ≡ requests i b) → first ≡ fold sooner None (values_of es) → IsFirst requests (marked first)
+first_is : (requests : Pending) (es : List Entry) (first : Option Entry) → IsDistinct (eq_by_cmp key_cmp) (keys_of es)
+    → ((i b : ℕ) → lookup (eq_by_cmp key_cmp (i, b)) es ≡ requests i b) → first ≡ fold sooner None es → IsFirst requests (requested first)
 first_is requests [] first distinct looks is_fold =
-    subst (λ o. IsFirst requests (marked o)) (sym is_fold) (λ i b. sym (looks i b))
+    subst (λ o. IsFirst requests (requested o)) (sym is_fold) (λ i b. sym (looks i b))
 first_is requests (e ∷ es) first distinct looks is_fold =
-    let r = least e.1 es in
+    let r : Entry = least e es in
     let there : Stands (e ∷ es) r = stands_first e es in
-    subst (λ o. IsFirst requests (marked o)) (sym (is_fold ∙ fold_is e.1 es)) (record {
-      index = there.1.0;
-      begin = there.1.1;
-      request = r;
-      there = sym (looks there.1.0 there.1.1) ∙ lookup_from_place key_laws (e ∷ es) there.0 there.1 r distinct there.2;
-      marked = refl;
-      oldest = λ i b. subst (λ o. IfSome o (λ q. r.number ≤ q.number)) (looks i b) (looked_up r.number (eq_by_cmp key_cmp (i, b)) (e ∷ es)
-          (least_le e.1 es, least_all e.1 es));
+    subst (λ o. IsFirst requests (requested o)) (sym (is_fold ∙ fold_is e es)) (record {
+      request = r.1;
+      there = sym (looks r.0.0 r.0.1) ∙ lookup_from_place key_laws (e ∷ es) there.0 r.0 r.1 distinct there.1;
+      length = refl;
+      mark = refl;
+      oldest = λ i b. subst (λ o. IfSome o (λ q. r.1.number ≤ q.number)) (looks i b) (looked_up r.1.number (eq_by_cmp key_cmp (i, b)) (e ∷ es)
+          (least_le e es, least_all e es));
     })
 
 -- what a table says of its late requests
-pub found_late : (closed : Bool) (later : ℕ) (es : List Entry) (first : Option Asked) → IsStrictlySortedBy key_cmp (keys_of es)
-    → first ≡ fold sooner None (filter (is_late closed later) (values_of es))
-    → IsFoundOf (late_of false closed later (λ i b. lookup (eq_by_cmp key_cmp (i, b)) es)) (record {
+pub found_late : (closed : Bool) (later : ℕ) (es : List Entry) (first : Option Entry) → IsStrictlySortedBy key_cmp (keys_of es)
+    → first ≡ fold sooner None (filter (λ e. is_late closed later e.1) es)
+    → AreFoundOf (late_of false closed later (λ i b. lookup (eq_by_cmp key_cmp (i, b)) es)) (record {
       count = count_by (is_late closed later)
           (values_of es);
-      first = marked first;
+      first = requested first;
     })
 found_late closed later es first sorted is_fold =
     let kept = filter (λ (e : Entry). is_late closed later e.1) es in
@@ -173,8 +167,7 @@ found_late closed later es first sorted is_fold =
           ap (λ t. list_any (t (i, b)) (keys_of kept)) (sym same_key) ∙ sym (is_some-lookup (eq_by_cmp key_cmp (i, b)) kept)
           ∙ ap is_some (looks_late closed later i b es sorted);
       count = counted (is_late closed later) es;
-      first = first_is _ kept first apart (λ i b. looks_late closed later i b es sorted) (is_fold
-          ∙ ap (fold sooner None) (filter_values (is_late closed later) es));
+      first = first_is _ kept first apart (λ i b. looks_late closed later i b es sorted) is_fold;
     }
 
 nothing_apart : IsDistinct is_same_block []
@@ -182,18 +175,18 @@ unfolding IsDistinct
 nothing_apart = tt
 
 pub none_found : (unknown closed : Bool) (later : ℕ) (pending : Pending) → unknown ≡ true
-    → IsFoundOf (late_of unknown closed later pending) (record { count = 0; first = None })
+    → AreFoundOf (late_of unknown closed later pending) (record { count = 0; first = None })
 none_found unknown closed later pending is_unknown =
-    subst (λ u. IsFoundOf (late_of u closed later pending) (record { count = 0; first = None })) (sym is_unknown)
+    subst (λ u. AreFoundOf (late_of u closed later pending) (record { count = 0; first = None })) (sym is_unknown)
     (record { blocks = []; distinct = nothing_apart; each = λ _ _. refl; count = refl; first = λ _ _. refl })
 
-pub late_found : (unknown closed : Bool) (later at count : ℕ) (es : List Entry) (first : Option Asked) → unknown ≡ false → at ≡ later
+pub late_found : (unknown closed : Bool) (later at count : ℕ) (es : List Entry) (first : Option Entry) → unknown ≡ false → at ≡ later
     → IsStrictlySortedBy key_cmp (keys_of es)
-    → count ≡ count_by (is_late closed at) (values_of es) → first ≡ fold sooner None (filter (is_late closed at) (values_of es))
-    → IsFoundOf (late_of unknown closed later (λ i b. lookup (eq_by_cmp key_cmp (i, b)) es)) (record { count = count; first = marked first })
+    → count ≡ count_by (is_late closed at) (values_of es) → first ≡ fold sooner None (filter (λ e. is_late closed at e.1) es)
+    → AreFoundOf (late_of unknown closed later (λ i b. lookup (eq_by_cmp key_cmp (i, b)) es)) (record { count = count; first = requested first })
 late_found unknown closed later at count es first is_known is_at sorted is_count is_first =
     let looks : Pending = λ i b. lookup (eq_by_cmp key_cmp (i, b)) es in
-    subst (λ u. IsFoundOf (late_of u closed later looks) (record { count = count; first = marked first })) (sym is_known)
-    (subst (λ n. IsFoundOf (late_of false closed n looks) (record { count = count; first = marked first })) is_at
-    (subst (λ n. IsFoundOf (late_of false closed at looks) (record { count = n; first = marked first })) (sym is_count)
+    subst (λ u. AreFoundOf (late_of u closed later looks) (record { count = count; first = requested first })) (sym is_known)
+    (subst (λ n. AreFoundOf (late_of false closed n looks) (record { count = count; first = requested first })) is_at
+    (subst (λ n. AreFoundOf (late_of false closed at looks) (record { count = n; first = requested first })) (sym is_count)
     (found_late closed at es first sorted is_first)))

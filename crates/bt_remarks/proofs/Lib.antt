@@ -3,3 +3,4 @@ pub mod RequestProofs
 pub mod HistoryProofs
 pub mod EndProofs
 pub mod LawProofs
+pub mod AskedProofs

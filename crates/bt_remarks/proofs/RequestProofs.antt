@@ -10,7 +10,7 @@ use Rattle.bt_remarks.specs.Requests.{Pending, has_length, is_at, closed, later_
 pub key_test : (block : Block) (i b : ℕ) → is_eq (ordering_then (nat_cmp block.index i) (nat_cmp block.begin b)) ≡ is_at block i b
 key_test block i b = grind (arith, nat_tests)
 
-at_same : (block : Block) (i b : ℕ) → is_at block i b ≡ true → (block.index ≡ i) × (block.begin ≡ b)
+pub at_same : (block : Block) (i b : ℕ) → is_at block i b ≡ true → (block.index ≡ i) × (block.begin ≡ b)
 at_same block i b h = grind (arith, nat_tests)
 
 closed_cases : (at : Bool) (request : Option Asked) (n : ℕ) → (at ≡ true → has_length n request ≡ true)

@@ -2,6 +2,7 @@
 use Rattle.std.specs.Prelude.{ℕ, ◌==◌, ◌&&◌, ◌||◌, not, ◌+◌, ◌-◌, max, nat_le, nat_lt, is_some, Bool, false, Option, Some, None, if◌then◌else◌}
 use Rattle.bt_remarks.specs.declared.events.Block.{Block}
 use Rattle.bt_remarks.specs.declared.requests.Asked.{Asked}
+use Rattle.bt_remarks.specs.declared.tallies.Request.{Request}
 
 -- the pending request of a block, by the piece's index and the block's begin
 abbrev pub Pending : Type 0
@@ -61,12 +62,14 @@ is_again (Some block) overflowed pending = not overflowed && is_some (pending bl
 abbrev pub is_late : Bool → ℕ → Asked → Bool
 is_late closes later request = closes || nat_lt request.number later
 
--- the older one of two requests
-abbrev pub sooner : Option Asked → Asked → Option Asked
-sooner None request = Some request
-sooner (Some first) request = if nat_le first.number request.number then Some first else Some request
+-- a pending request with its block's index and begin
+abbrev pub Entry : Type 0
+Entry = (ℕ × ℕ) × Asked
 
--- the first of two requests with their keys
-abbrev pub first_entry : Option ((ℕ × ℕ) × Asked) → (ℕ × ℕ) × Asked → Option ((ℕ × ℕ) × Asked)
-first_entry (Some found) entry = Some found
-first_entry None entry = Some entry
+-- the older one of two requests
+abbrev pub sooner : Option Entry → Entry → Option Entry
+sooner None entry = Some entry
+sooner (Some first) entry = if nat_le first.1.number entry.1.number then Some first else Some entry
+
+abbrev pub request_of : Entry → Request
+request_of entry = record { mark = entry.1.mark; block = record { index = entry.0.0; begin = entry.0.1; length = entry.1.length } }

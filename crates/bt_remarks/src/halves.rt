@@ -4,14 +4,14 @@ ghost use Rattle.bt_remarks.specs.declared.events.Side.{Side};
 ghost use Rattle.bt_remarks.specs.Said.{Told, Other, message_of, other, metadata_piece};
 ghost use Rattle.bt_remarks.specs.Sets.{is_noted};
 ghost use Rattle.bt_remarks.specs.Remarked.{is_choked, is_elsewhere};
-ghost use Rattle.bt_remarks.specs.Ends.{unanswered, IsFoundOf};
+ghost use Rattle.bt_remarks.specs.Ends.{unanswered, AreFoundOf};
 ghost use Rattle.bt_remarks.specs.Steps.{has, unasks, asks_again, IsHalfAfter};
 ghost use Rattle.bt_remarks.specs.Matched.{IsHalf};
 
 use crate::events::{Block, Ending, Event};
 use crate::pieces::{self, PieceSet};
 use crate::requests::Requests;
-use crate::tallies::Found;
+use crate::tallies::Unanswered;
 use std::alloc::{AllocError, Global};
 
 /// Returns a piece of the metadata as a block.
@@ -187,13 +187,13 @@ impl Half {
             && !self.came.contains(piece)
     }
 
-    /// Returns how many requests of blocks got no answer, and the first one's mark.
-    pub fn unanswered(&self, theirs: &Half, ending: Ending) -> Found
+    /// Returns how many requests of blocks got no answer, and the first one.
+    pub fn unanswered(&self, theirs: &Half, ending: Ending) -> Unanswered
         ensures { (side : Side) → (events : List Told) → IsHalf side events self.now → IsHalf (other side) events theirs.now
-            → IsFoundOf (unanswered ending.closed_first ending.stopped side events) result }
+            → AreFoundOf (unanswered ending.closed_first ending.stopped side events) result }
     {
         if ending.stopped {
-            return Found::NOTHING;
+            return Unanswered::NOTHING;
         }
         self.blocks.late(ending.closed_first, theirs.choke)
     }

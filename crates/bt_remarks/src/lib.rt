@@ -11,4 +11,4 @@ mod tallies;
 
 pub use events::{Block, Ending, Event, Heard, Remarks, Side};
 pub use matcher::Matcher;
-pub use tallies::{Found, Tally};
+pub use tallies::{Found, Request, Tally, Unanswered};

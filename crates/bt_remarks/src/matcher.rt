@@ -1,16 +1,16 @@
 //! What the events of a connection show together.
-ghost use Rattle.std.specs.Prelude.{◌≡◌, ◌||◌, ℕ, Bool, List, [], ◌∷◌, OnOk, OnErr, IfOk};
+ghost use Rattle.std.specs.Prelude.{◌≡◌, ◌||◌, ℕ, Bool, List, [], ◌∷◌, OnOk, OnErr, IfOk, IfSome};
 ghost use Rattle.bt_remarks.specs.declared.events.Side.{Side};
 ghost use Rattle.bt_remarks.specs.Said.{Told, Other, told, message_of, other, Blocks, Metadata};
 ghost use Rattle.bt_remarks.specs.Known.{number_after, overflowed};
 ghost use Rattle.bt_remarks.specs.Remarked.{remarks_on, tally_of};
 ghost use Rattle.bt_remarks.specs.Steps.{IsHalfAfter};
-ghost use Rattle.bt_remarks.specs.Ends.{unanswered, IsFoundOf};
+ghost use Rattle.bt_remarks.specs.Ends.{unanswered, AreFoundOf, IsAsked};
 ghost use Rattle.bt_remarks.specs.Matched.{IsHalf, IsTurn};
 
 use crate::events::{Ending, Event, Heard, Remarks, Side};
 use crate::halves::Half;
-use crate::tallies::{Found, Tally};
+use crate::tallies::{Tally, Unanswered};
 use std::alloc::{AllocError, Global};
 
 /// Takes an event of the first side.
@@ -140,11 +140,12 @@ impl Matcher {
         }
     }
 
-    /// Returns how many requests of a side got no answer, and the first one's mark.
+    /// Returns how many requests of a side got no answer, and the first one.
     ///
     /// Only requests of blocks count. Call it at the end of a connection in which both sides have the Fast Extension.
-    pub fn unanswered(&self, side: Side, ending: Ending) -> Found
-        ensures { (events : List Told) → IsMatched events self.now → IsFoundOf (unanswered ending.closed_first ending.stopped side events) result }
+    pub fn unanswered(&self, side: Side, ending: Ending) -> Unanswered
+        ensures found { (events : List Told) → IsMatched events self.now → AreFoundOf (unanswered ending.closed_first ending.stopped side events) result }
+        ensures asked { IfSome result.first (λ request. (events : List Told) → IsMatched events self.now → IsAsked side events request) }
     {
         match side {
             Side::A => self.a.unanswered(&self.b, ending),

@@ -1,13 +1,13 @@
 //! The pending requests of a side.
-ghost use Rattle.std.specs.Prelude.{◌≡◌, ℕ, None, Some, OnOk, OnErr, count_by, fold, filter, max, ◌==◌};
+ghost use Rattle.std.specs.Prelude.{◌≡◌, ℕ, None, Some, OnOk, OnErr, count_by, fold, filter, max};
 ghost use Rattle.std.specs.BTreeMap.{btree_map_len, values, IsOrdered};
 ghost use Rattle.std.specs.Ordering.{nat_cmp, ordering_then};
-ghost use Rattle.bt_remarks.specs.Requests.{has_length, is_unasked, is_again, is_too_much, is_late, sooner, first_entry};
-ghost use Rattle.bt_remarks.specs.Ends.{late_of, IsFoundOf};
+ghost use Rattle.bt_remarks.specs.Requests.{has_length, is_unasked, is_again, is_too_much, is_late, sooner, request_of};
+ghost use Rattle.bt_remarks.specs.Ends.{late_of, AreFoundOf};
 ghost use Rattle.bt_remarks.specs.Tables.{request_at, IsNew, IsAfter};
 
 use crate::events::Block;
-use crate::tallies::Found;
+use crate::tallies::{Request, Unanswered};
 use std::alloc::{AllocError, Global};
 use std::collections::BTreeMap;
 
@@ -30,26 +30,31 @@ fn is_late(asked: Asked, closed: bool, later: u64) -> bool
     closed || asked.number < later
 }
 
-/// Returns the first of two requests.
-fn sooner(first: Option<Asked>, asked: Asked) -> Option<Asked>
-    ensures { result ≡ sooner first asked }
-{
-    match first {
-        Some(request) if request.number <= asked.number => Some(request),
-        _ => Some(asked),
-    }
-}
-
-/// Returns the first of two requests with their keys.
-fn first_entry(
+/// Returns the earlier of two requests, which have their keys.
+fn sooner(
     first: Option<((u32, u32), Asked)>,
     entry: ((u32, u32), Asked),
 ) -> Option<((u32, u32), Asked)>
-    ensures { result ≡ first_entry first entry }
+    ensures { result ≡ sooner first entry }
 {
     match first {
-        Some(found) => Some(found),
-        None => Some(entry),
+        Some(found) if found.1.number <= entry.1.number => Some(found),
+        _ => Some(entry),
+    }
+}
+
+/// Returns a request with its key as a block with its mark.
+fn request_of(entry: ((u32, u32), Asked)) -> Request
+    ensures { result ≡ request_of entry }
+{
+    let ((index, begin), asked) = entry;
+    Request {
+        mark: asked.mark,
+        block: Block {
+            index,
+            begin,
+            length: asked.length,
+        },
     }
 }
 
@@ -150,19 +155,6 @@ impl Requests {
         self.answered = self.answered.max(number);
     }
 
-    /// Returns the first pending request with this mark, by its piece's index and its begin.
-    fn find_mark(&self, mark: u64) -> Option<((u32, u32), Asked)>
-        ensures { result ≡ fold first_entry None (filter (λ e. e.1.mark == mark) self.now.pending.entries) }
-    {
-        self.pending
-            .iter()
-            .filter(|entry| entry.1.mark == mark)
-            .fold(
-                None,
-                |first, entry| first_entry(first, (*entry.0, *entry.1)),
-            )
-    }
-
     /// Counts the pending requests that are late.
     fn count_late(&self, closed: bool, later: u64) -> usize
         ensures count { result ≡ count_by (is_late closed later) (values self.now.pending) }
@@ -174,31 +166,31 @@ impl Requests {
             .count()
     }
 
-    /// Returns the first of the pending requests that are late.
-    fn first_late(&self, closed: bool, later: u64) -> Option<Asked>
-        ensures { result ≡ fold sooner None (filter (is_late closed later) (values self.now.pending)) }
+    /// Returns the first of the pending requests that are late, with its key.
+    fn first_late(&self, closed: bool, later: u64) -> Option<((u32, u32), Asked)>
+        ensures { result ≡ fold sooner None (filter (λ e. is_late closed later e.1) self.now.pending.entries) }
     {
         self.pending
-            .values()
-            .filter(|asked| is_late(**asked, closed, later))
-            .fold(None, |first, asked| sooner(first, *asked))
+            .iter()
+            .filter(|entry| is_late(*entry.1, closed, later))
+            .fold(None, |first, entry| sooner(first, (*entry.0, *entry.1)))
     }
 
-    /// Returns how many pending requests are late, and the first one's mark.
-    pub fn late(&self, closed: bool, later: u64) -> Found
-        ensures { IsFoundOf (late_of self.now.overflowed closed (max later self.now.answered) (request_at self.now)) result }
+    /// Returns how many pending requests are late, and the first one.
+    pub fn late(&self, closed: bool, later: u64) -> Unanswered
+        ensures { AreFoundOf (late_of self.now.overflowed closed (max later self.now.answered) (request_at self.now)) result }
     {
         if self.overflowed {
-            return Found::NOTHING;
+            return Unanswered::NOTHING;
         }
         let later = later.max(self.answered);
         let count = self.count_late(closed, later) as u64;
         match self.first_late(closed, later) {
-            Some(asked) => Found {
+            Some(entry) => Unanswered {
                 count,
-                first: Some(asked.mark),
+                first: Some(request_of(entry)),
             },
-            None => Found { count, first: None },
+            None => Unanswered { count, first: None },
         }
     }
 }

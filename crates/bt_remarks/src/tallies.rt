@@ -3,7 +3,7 @@ ghost use Rattle.std.specs.Prelude.{◌≡◌, [], IfOk};
 ghost use Rattle.bt_remarks.specs.declared.events.Side.{Side};
 ghost use Rattle.bt_remarks.specs.Remarked.{found_after, tally_after, tally_of};
 
-use crate::events::Remarks;
+use crate::events::{Block, Remarks};
 use std::alloc::AllocError;
 
 /// The events of a side that have a remark.
@@ -12,6 +12,22 @@ pub struct Found {
     pub count: u64,
     /// The first one's mark.
     pub first: Option<u64>,
+}
+
+/// A request of a block.
+#[derive(Clone, Copy, Debug, PartialEq, Eq)]
+pub struct Request {
+    /// The mark of its event.
+    pub mark: u64,
+    pub block: Block,
+}
+
+/// The requests of a side that got no answer.
+#[derive(Clone, Copy, Debug, PartialEq, Eq)]
+pub struct Unanswered {
+    pub count: u64,
+    /// The oldest of them.
+    pub first: Option<Request>,
 }
 
 /// The events of a side by their remarks.
@@ -45,6 +61,14 @@ impl Found {
             }),
         }
     }
+}
+
+impl Unanswered {
+    /// No request.
+    pub const NOTHING: Unanswered = Unanswered {
+        count: 0,
+        first: None,
+    };
 }
 
 impl Tally {

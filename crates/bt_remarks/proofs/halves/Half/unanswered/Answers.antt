@@ -1,14 +1,14 @@
 use Rattle.std.proofs.Common.{max, subst, ap, ◌||◌}
 use Rattle.bt_remarks.specs.Said.{other, Blocks}
 use Rattle.bt_remarks.specs.Known.{last_choke, last_answered, pending, overflowed}
-use Rattle.bt_remarks.specs.Ends.{IsFoundOf}
+use Rattle.bt_remarks.specs.Ends.{AreFoundOf}
 use Rattle.bt_remarks.proofs.EndProofs.{none_found}
 use Rattle.bt_remarks.proofs.HistoryProofs.{unanswered_is}
 use Rattle.bt_remarks.proofs.halves.Half.unanswered.Goals as goal
 
 pub returns : goal.returns
 returns c = λ side events h g.
-    subst (λ requests. IsFoundOf requests c.late.result) (unanswered_is c.args.ending.closed_first c.args.ending.stopped side events c.args.self.now
+    subst (λ requests. AreFoundOf requests c.late.result) (unanswered_is c.args.ending.closed_first c.args.ending.stopped side events c.args.self.now
     c.args.theirs.now c.if-ending.false h g) c.late.ensures
 
 pub returns-then-ending : goal.returns-then-ending
