@@ -1,2 +1,4 @@
 pub mod Near
+pub mod Flows
 pub mod Ids
+pub mod States
