@@ -1,5 +1,5 @@
 -- Lemmas on spans, and on a span more.
-use Rattle.std.proofs.Common.{◌≡◌, ℕ, suc, ◌+◌, ◌-◌, ◌<◌, ◌≤◌, Bool, true, false, List, [], ◌∷◌, ◌++◌, length, take, drop, set, refl, sym, ap, ◌∙◌, arith}
+use Rattle.std.proofs.Common.{◌≡◌, ℕ, zero, suc, get_or, ◌+◌, ◌-◌, ◌<◌, ◌≤◌, Bool, true, false, List, [], ◌∷◌, ◌++◌, length, take, drop, set, refl, sym, ap, ◌∙◌, arith}
 use Rattle.std.specs.Prelude.{if◌then◌else◌, nat_lt}
 use Rattle.std.proofs.lemmas.Grind.{common_steps}
 use Rattle.std.proofs.Common.{length-take, length-drop, length-append, append_assoc}
@@ -7,6 +7,7 @@ use Rattle.std.proofs.lemmas.List.{drop-take, take-take, set-append_left, take_m
 use Rattle.std.proofs.lemmas.List.Edits.{take-paste}
 use Rattle.std.proofs.Math.Seq.{paste, take-set-lt}
 use Rattle.std.specs.List.{copy_within}
+use Rattle.std.specs.List.Sorted.{IsNonDecreasingBy}
 use Rattle.bt_tcp.specs.declared.covered.Span.{Span}
 use Rattle.bt_tcp.specs.Covered.{in_span, is_covered, AreApart, Adds, IsAlone, hull, join, add}
 
@@ -168,3 +169,32 @@ table-alone spans before after s h a b c e =
       length-take before spans,
       length-drop after spans,
     ))
+
+-- ---- where a span goes
+
+end_past : (least : ℕ) (spans : List Span) (j : ℕ) (d : Span) → AreApart least spans → j < length spans → least ≤ (get_or spans j d).to
+end_past least [] j d a h = absurd (omega arith)
+end_past least (t ∷ spans) zero d a h = omega (arith, a.0, a.1)
+end_past least (t ∷ spans) (suc j) d a h =
+    let r : t.to + 1 ≤ (get_or spans j d).to = end_past (t.to + 1) spans j d a.2 (omega arith) in
+    omega (arith, a.0, a.1)
+
+-- Spans end in order.
+pub ends-rise : (least : ℕ) (spans : List Span) → AreApart least spans → IsNonDecreasingBy (λ t. t.to) spans
+ends-rise least [] a i j d l h = absurd (omega arith)
+ends-rise least (t ∷ spans) a zero zero d l h = omega arith
+ends-rise least (t ∷ spans) a zero (suc j) d l h =
+    let r : t.to + 1 ≤ (get_or spans j d).to = end_past (t.to + 1) spans j d a.2 (omega arith) in
+    omega arith
+ends-rise least (t ∷ spans) a (suc i) zero d l h = absurd (omega arith)
+ends-rise least (t ∷ spans) a (suc i) (suc j) d l h = ends-rise (t.to + 1) spans a.2 i j d (omega arith) (omega arith)
+
+-- The first ones end before it, and the others don't.
+pub add-after : (s : Span) (spans : List Span) (n : ℕ) → n ≤ length spans → ((k : ℕ) (d : Span) → 0 ≤ k → k < n → nat_lt (get_or spans k d).to s.from ≡ true)
+    → ((k : ℕ) (d : Span) → n ≤ k → k < length spans → nat_lt (get_or spans k d).to s.from ≡ false) → add s spans ≡ take n spans ++ join s (drop n spans)
+add-after s [] zero h p q = refl
+add-after s [] (suc n) h p q = absurd (omega arith)
+add-after s (t ∷ spans) zero h p q = ap (λ b. if b then t ∷ add s spans else join s (t ∷ spans)) (q 0 t (omega arith) (omega arith))
+add-after s (t ∷ spans) (suc n) h p q =
+    ap (λ b. if b then t ∷ add s spans else join s (t ∷ spans)) (p 0 t (omega arith) (omega arith))
+    ∙ ap (λ x. t ∷ x) (add-after s spans n (omega arith) (λ k d l m. p (suc k) d (omega arith) (omega arith)) (λ k d l m. q (suc k) d (omega arith) (omega arith)))

@@ -1,7 +1,7 @@
 //! Places whose bytes were captured after a gap that is final: spans in the caller's memory, and the gaps that they leave.
-ghost use Rattle.std.specs.Prelude.{◌≡◌, ℕ, ◌+◌, ◌-◌, ◌<◌, ◌≤◌, false, List, ◌∷◌, ◌++◌, length, take, drop, OnOk, OnErr};
+ghost use Rattle.std.specs.Prelude.{◌≡◌, ℕ, ◌+◌, ◌-◌, ◌<◌, ◌≤◌, false, List, ◌∷◌, ◌++◌, length, take, drop, OnOk, OnErr, nat_lt};
 ghost use Rattle.bt_tcp.specs.declared.covered.Span.{Span};
-ghost use Rattle.bt_tcp.specs.Covered.{is_covered, IsTable, spans_of, Adds, IsAlone, join, add, AreGaps, sent_end, with_gap};
+ghost use Rattle.bt_tcp.specs.Covered.{is_covered, AreApart, IsTable, spans_of, Adds, IsAlone, join, add, AreGaps, sent_end, with_gap};
 
 /// The places from `from` on and before `to`.
 #[derive(Clone, Copy, Debug, PartialEq, Eq)]
@@ -50,15 +50,15 @@ impl Gaps {
 
 /// Counts the spans that end before another one begins, and don't touch it.
 fn count_before(spans: &[Span], span: Span) -> usize
+    requires { AreApart 0 spans.now }
     ensures within { result ≤ length spans.now }
     ensures added { add span spans.now ≡ take result spans.now ++ join span (drop result spans.now) }
 {
-    for (k, it) in spans.iter().enumerate() {
-        if it.to >= span.from {
-            return k;
-        }
-    }
-    spans.len()
+    spans.partition_point(
+        |it: &Span| -> bool
+            ensures { result ≡ nat_lt it.now.to span.from }
+        { it.to < span.from },
+    )
 }
 
 /// Joins a span to those that it touches, which stand in front, and returns it and their number.
@@ -89,6 +89,7 @@ struct Fit {
 
 /// Finds what a span becomes.
 fn find_fit(spans: &[Span], span: Span) -> Fit
+    requires { AreApart 0 spans.now }
     ensures order { result.before ≤ result.after }
     ensures within { result.after ≤ length spans.now }
     ensures added { add span spans.now ≡ take result.before spans.now ++ result.hull ∷ drop result.after spans.now }

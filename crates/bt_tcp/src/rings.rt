@@ -1,7 +1,7 @@
 //! The reassembly window as a ring over the caller's memory.
 ghost use Rattle.std.specs.Prelude.{◌≡◌, ℕ, ◌+◌, ◌-◌, ◌<◌, ◌≤◌, ◌^◌, Bool, true, false, List, [], length, slice_index_or, slice_get, None, IsSome};
 ghost use Rattle.bt_tcp.specs.Segments.{Segment, or_else, byte_in};
-ghost use Rattle.bt_tcp.specs.Cells.{slot_of, is_known, ring, IsRing};
+ghost use Rattle.bt_tcp.specs.Cells.{slot_of, is_known, ring, IsRing, IsWritten};
 ghost use Rattle.bt_tcp.specs.Rings.{ahead, IsSound};
 ghost use Rattle.bt_tcp.specs.Windows.{IsTaken, IsPutOf, IsReady, TakesOneMore, HandsOutMore, EndsStream, BeginsAnew, GoesOn};
 ghost use Rattle.bt_tcp.specs.History.{differs, conflicts, held};
@@ -63,6 +63,45 @@ fn store(known: &mut [bool], bytes: &mut [u8], head: usize, gap: usize, part: &[
             known[i] = true;
             bytes[i] = *b;
         }
+    }
+}
+
+/// Writes bytes, and notes that they have come.
+fn write(known: &mut [bool], bytes: &mut [u8], from: usize, part: &[u8])
+    requires known { from + length part.now ≤ length known.old }
+    requires bytes { from + length part.now ≤ length bytes.old }
+    ensures { IsWritten known.old bytes.old from part.now known.new bytes.new }
+{
+    known[from..from + part.len()].fill(true);
+    bytes[from..from + part.len()].copy_from_slice(part);
+}
+
+/// Puts bytes from an offset on, if there is none from there on.
+fn append(known: &mut [bool], bytes: &mut [u8], head: usize, gap: usize, part: &[u8])
+    requires ring { IsRing known.old bytes.old head }
+    requires room { gap + length part.now ≤ length known.old }
+    requires some { 0 < length part.now }
+    requires unknown { (k : ℕ) → gap ≤ k → is_known known.old head k ≡ false }
+    ensures { (k : ℕ) → ring known.new bytes.new head k ≡ or_else (ring known.old bytes.old head k) (byte_in (record { place = gap; bytes = part.now }) k) }
+{
+    let from = slot(known.len(), head, gap);
+    let (fitting, rest) = part.split_at(part.len().min(known.len() - from));
+    write(known, bytes, from, fitting);
+    write(known, bytes, 0, rest);
+}
+
+/// Puts bytes where there are none from an offset on. If `is_last`, there is none from there on.
+fn keep(known: &mut [bool], bytes: &mut [u8], head: usize, gap: usize, part: &[u8], is_last: bool)
+    requires ring { IsRing known.old bytes.old head }
+    requires room { gap + length part.now ≤ length known.old }
+    requires some { 0 < length part.now }
+    requires last { is_last ≡ true → (k : ℕ) → gap ≤ k → is_known known.old head k ≡ false }
+    ensures { (k : ℕ) → ring known.new bytes.new head k ≡ or_else (ring known.old bytes.old head k) (byte_in (record { place = gap; bytes = part.now }) k) }
+{
+    if is_last {
+        append(known, bytes, head, gap, part);
+    } else {
+        store(known, bytes, head, gap, part);
     }
 }
 
@@ -211,7 +250,7 @@ impl Ring {
             if rest.len() > known.len() - gap as usize {
                 return Put::Full;
             }
-            store(known, bytes, head, gap as usize, rest);
+            keep(known, bytes, head, gap as usize, rest, at >= self.end);
         }
         self.head = head;
         self.next += len as u64;
