@@ -34,7 +34,6 @@ fn drain(
 /// A ring and its memory.
 #[derive(Drop)]
 pub struct Window {
-    alloc: Global,
     ring: Ring,
     known: Vec<bool>,
     ahead: Vec<u8>,
@@ -60,12 +59,7 @@ impl Window {
         let mut ahead = Vec::new(alloc);
         ahead.resize(1, 0)?;
         let ring = Ring::new(base, &mut known, &ahead);
-        Ok(Window {
-            alloc,
-            ring,
-            known,
-            ahead,
-        })
+        Ok(Window { ring, known, ahead })
     }
 
     /// Returns the place that is handed out next.
@@ -113,31 +107,6 @@ impl Window {
         self.ring.put(&mut self.known, &mut self.ahead, at, part)
     }
 
-    /// Moves the bytes ahead to memory for `count` places, if it has less.
-    fn grow(&mut self, count: usize) -> Result<(), AllocError>
-        ensures next { next_of self.new ≡ next_of self.old }
-        ensures room { OnOk result (count ≤ capacity_of self.new) }
-        ensures taken { GoesOn (next_of self.old) (seen self.old) (next_of self.new) (seen self.new) }
-    {
-        if count <= self.known.len() {
-            return Ok(());
-        }
-        let mut known = Vec::new(self.alloc);
-        known.resize(count, false)?;
-        let mut ahead = Vec::new(self.alloc);
-        ahead.resize(count, 0)?;
-        let ring = self
-            .ring
-            .moved(&self.known, &self.ahead, &mut known, &mut ahead);
-        *self = Window {
-            alloc: self.alloc,
-            ring,
-            known,
-            ahead,
-        };
-        Ok(())
-    }
-
     /// Makes room for bytes before a place, if there may be as much. It is at least doubled.
     fn make_room(&mut self, end: u64) -> Result<(), AllocError>
         ensures next { next_of self.new ≡ next_of self.old }
@@ -149,7 +118,8 @@ impl Window {
             return Ok(());
         }
         let twice = (self.known.len() as u64).saturating_mul(2).min(MOST);
-        self.grow(need.max(twice) as usize)
+        let count = need.max(twice) as usize;
+        self.ring.lengthen(&mut self.known, &mut self.ahead, count)
     }
 
     /// Takes a segment, and makes room if it needs more. It is full only if more than `MOST` places are needed.

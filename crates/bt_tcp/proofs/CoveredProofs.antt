@@ -3,7 +3,7 @@ use Rattle.std.proofs.Common.{◌≡◌, ℕ, zero, suc, get_or, ◌+◌, ◌-�
 use Rattle.std.specs.Prelude.{if◌then◌else◌, nat_lt}
 use Rattle.std.proofs.lemmas.Grind.{common_steps}
 use Rattle.std.proofs.Common.{length-take, length-drop, length-append, append_assoc}
-use Rattle.std.proofs.lemmas.List.{drop-take, take-take, set-append_left, take_more_set}
+use Rattle.std.proofs.lemmas.List.{drop-take, drop-drop, take-take, take-append-drop, set-append_left, take_more_set}
 use Rattle.std.proofs.lemmas.List.Edits.{take-paste}
 use Rattle.std.proofs.Math.Seq.{paste, take-set-lt}
 use Rattle.std.specs.List.{copy_within}
@@ -149,6 +149,15 @@ replaced table count from to s a b c d =
     ∙ ap (λ x. x ++ take n (drop to table)) (sym (take-set-lt (from + 1) table from s k) ∙ take_more_set table from s g)
     ∙ append_assoc (take from table) (s ∷ []) (take n (drop to table))
     ∙ ap (λ x. take from table ++ s ∷ x) f
+
+-- Spans that stay where they are needn't be copied.
+pub copied-here : (table : List Span) (count from to : ℕ) → to ≡ from + 1 → copy_within table to count (from + 1) ≡ table
+copied-here table count from to e =
+    let n : ℕ = count - to in
+    ap (λ x. take x table ++ take n (drop to table) ++ drop (x + n) table) (sym e)
+    ∙ ap (λ x. take to table ++ take n (drop to table) ++ x) (sym (drop-drop n to table))
+    ∙ append_assoc (take to table) (take n (drop to table)) (drop n (drop to table))
+    ∙ ap (λ x. take to table ++ x) (take-append-drop n (drop to table)) ∙ take-append-drop to table
 
 pub table-add : (table table' : List Span) (count before after : ℕ) (s h : Span) → before ≤ after → after ≤ length (take count table)
     → add s (take count table) ≡ take before (take count table) ++ h ∷ drop after (take count table)

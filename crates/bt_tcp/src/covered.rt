@@ -111,7 +111,9 @@ fn replace(table: &mut [Span], count: usize, from: usize, to: usize, span: Span)
     requires room { from + 1 + (count - to) ≤ length table.old }
     ensures { take (from + 1 + (count - to)) table.new ≡ take from table.old ++ span ∷ drop to (take count table.old) }
 {
-    table.copy_within(to..count, from + 1);
+    if to != from + 1 {
+        table.copy_within(to..count, from + 1);
+    }
     table[from] = span;
 }
 

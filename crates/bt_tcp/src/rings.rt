@@ -1,10 +1,12 @@
 //! The reassembly window as a ring over the caller's memory.
-ghost use Rattle.std.specs.Prelude.{◌≡◌, ℕ, ◌+◌, ◌-◌, ◌<◌, ◌≤◌, ◌^◌, Bool, true, false, List, [], length, slice_index_or, slice_get, None, IsSome};
+ghost use Rattle.std.specs.Prelude.{◌≡◌, ℕ, ◌+◌, ◌-◌, ◌<◌, ◌≤◌, ◌^◌, Bool, true, false, List, [], length, slice_index_or, slice_get, None, IsSome, OnOk};
 ghost use Rattle.bt_tcp.specs.Segments.{Segment, or_else, byte_in};
 ghost use Rattle.bt_tcp.specs.Cells.{slot_of, is_known, ring, IsRing, IsWritten};
 ghost use Rattle.bt_tcp.specs.Rings.{ahead, IsSound};
 ghost use Rattle.bt_tcp.specs.Windows.{IsTaken, IsPutOf, IsReady, TakesOneMore, HandsOutMore, EndsStream, BeginsAnew, GoesOn};
 ghost use Rattle.bt_tcp.specs.History.{differs, conflicts, held};
+
+use std::alloc::AllocError;
 
 /// What became of a segment.
 #[derive(Clone, Copy, Debug, PartialEq, Eq)]
@@ -156,6 +158,16 @@ fn unroll<T: Copy>(cells: &[T], head: usize, to: &mut [T])
     let (first, rest) = to.split_at_mut(back.len());
     first.copy_from_slice(back);
     rest[..head].copy_from_slice(front);
+}
+
+/// Turns the first cells, so that the one at `head` is the first.
+fn turn<T: Copy>(cells: &mut [T], len: usize, head: usize)
+    requires head { head < len }
+    requires len { len ≤ length cells.old }
+    ensures turned { (k : ℕ) (d : T) → k < len → slice_index_or cells.new k d ≡ slice_index_or cells.old (slot_of len head k) d }
+    ensures rest { (k : ℕ) (d : T) → len ≤ k → slice_index_or cells.new k d ≡ slice_index_or cells.old k d }
+{
+    cells[..len].rotate_left(head);
 }
 
 /// Copies a ring to the front of larger memory that has no byte.
@@ -354,5 +366,38 @@ impl Ring {
             head: 0,
             end: self.end,
         }
+    }
+
+    /// Makes the memory longer, if it has less than `count` places. The bytes ahead stay the same.
+    ///
+    /// So a segment that didn't fit may be put.
+    ///
+    /// # Errors
+    /// `AllocError` when out of memory. Nothing has changed then.
+    pub fn lengthen(
+        &mut self,
+        known: &mut Vec<bool>,
+        bytes: &mut Vec<u8>,
+        count: usize,
+    ) -> Result<(), AllocError>
+        requires { IsSound self.old known.old.items bytes.old.items }
+        ensures sound { IsSound self.new known.new.items bytes.new.items }
+        ensures next { self.new.next ≡ self.old.next }
+        ensures room { OnOk result (count ≤ length known.new.items) }
+        ensures ahead { (k : ℕ) → ahead self.new known.new.items bytes.new.items k ≡ ahead self.old known.old.items bytes.old.items k }
+        ensures taken { GoesOn self.old.next (ahead self.old known.old.items bytes.old.items) self.new.next (ahead self.new known.new.items bytes.new.items) }
+    {
+        let len = known.len();
+        if count <= len {
+            return Ok(());
+        }
+        known.reserve_exact(count - len)?;
+        bytes.reserve_exact(count - len)?;
+        known.resize(count, false)?;
+        bytes.resize(count, 0)?;
+        turn(known, len, self.head);
+        turn(bytes, len, self.head);
+        self.head = 0;
+        Ok(())
     }
 }
