@@ -1,12 +1,12 @@
 -- One more id: what is near it, and how many more of them have another one near.
-use Rattle.std.proofs.Common.{◌≡◌, ◌≢◌, ℕ, ◌+◌, ◌-◌, ◌^◌, ◌%◌, ◌<◌, ◌≤◌, ◌⊎◌, inl, inr, Bool, true, false, ◌&&◌, ◌||◌, not, cond, if◌then◌else◌, eqb, ltb, nat_lt, List, [], ◌∷◌, ◌++◌}
+use Rattle.std.proofs.Common.{◌≡◌, ◌≢◌, ℕ, ◌+◌, ◌-◌, ◌^◌, ◌%◌, ◌<◌, ◌≤◌, inl, inr, Bool, true, false, ◌&&◌, ◌||◌, not, cond, if◌then◌else◌, nat_lt, List, [], ◌∷◌, ◌++◌}
 use Rattle.std.proofs.Common.{Option, Some, None, is_some, unwrap_or, refl, sym, ◌∙◌, ap, subst, arith, min}
 use Rattle.std.specs.Prelude.{count_by, ◌==◌}
-use Rattle.std.specs.List.{AllByRecursion, list_any, sum_by}
+use Rattle.std.specs.List.{AllByRecursion, list_any}
 use mathlib.Core.Path.{fun_ext}
 use Rattle.std.specs.Option.{option_map}
 use Rattle.std.specs.Ordering.{nat_cmp, is_eq}
-use Rattle.std.proofs.lemmas.Bool.{cases_Bool, cases_eq, cases_lt}
+use Rattle.std.proofs.lemmas.Bool.{cases_eq, cases_lt}
 use Rattle.std.proofs.lemmas.Bool.Decides.{nat_tests}
 use Rattle.std.proofs.lemmas.List.Sums.{sum_by_push, sum_by-cons}
 use Rattle.std.proofs.lemmas.List.Folds.{list_any-append}
@@ -64,10 +64,10 @@ same_as k ids = count_by (λ j. k == j) ids
 abbrev pub near_to : ℕ → List ℕ → ℕ
 near_to k ids = count_by (is_near k) ids
 
-front : (p : ℕ → Bool) (x : ℕ) (xs : List ℕ) → count_by p (x ∷ xs) ≡ bit (p x) + count_by p xs
+pub front : (p : ℕ → Bool) (x : ℕ) (xs : List ℕ) → count_by p (x ∷ xs) ≡ bit (p x) + count_by p xs
 front p x xs = sum_by-cons (λ j. bit (p j)) x xs
 
-pushed : (p : ℕ → Bool) (xs : List ℕ) (x : ℕ) → count_by p (xs ++ x ∷ []) ≡ count_by p xs + bit (p x)
+pub pushed : (p : ℕ → Bool) (xs : List ℕ) (x : ℕ) → count_by p (xs ++ x ∷ []) ≡ count_by p xs + bit (p x)
 pushed p xs x = sum_by_push (λ j. bit (p j)) xs x
 
 sum_of : (p q r : ℕ → Bool) → ((j : ℕ) → bit (p j) ≡ bit (q j) + bit (r j)) → (xs : List ℕ) → count_by p xs ≡ count_by q xs + count_by r xs
@@ -86,7 +86,7 @@ bit_le : (a b : Bool) → (a ≡ true → b ≡ true) → bit a ≤ bit b
 bit_le true b h = rw (h refl) (omega arith)
 bit_le false b h = omega arith
 
-fewer : (p q : ℕ → Bool) → ((j : ℕ) → p j ≡ true → q j ≡ true) → (xs : List ℕ) → count_by p xs ≤ count_by q xs
+pub fewer : (p q : ℕ → Bool) → ((j : ℕ) → p j ≡ true → q j ≡ true) → (xs : List ℕ) → count_by p xs ≤ count_by q xs
 fewer p q h [] = omega arith
 fewer p q h (x ∷ xs) = omega (arith, front p x xs, front q x xs, bit_le (p x) (q x) (h x), fewer p q h xs)
 
@@ -304,16 +304,16 @@ alone_stepped k n l q near ids h small e =
     let d = apart k n l h in
     elim (cases_eq k q) [
       | inl here ↦
-        rw (test k q here, no_test n q (λ f. d.0 (here ∙ sym f)), no_test l q (λ f. d.1 (here ∙ sym f)))
-        (subst (λ i. Some (not near) ≡ is_alone (ids ++ k ∷ []) i) here (after_own ids k near e))
+          rw (test k q here, no_test n q (λ f. d.0 (here ∙ sym f)), no_test l q (λ f. d.1 (here ∙ sym f)))
+          (subst (λ i. Some (not near) ≡ is_alone (ids ++ k ∷ []) i) here (after_own ids k near e))
       | inr k' ↦ let other : (q == k) ≡ false = no_test q k (λ f. k' (sym f)) in elim (cases_eq n q) [
         | inl here ↦
-          let fits : q < 65536 = omega (arith, here, h.1) in
-          rw (no_test k q k', test n q here, no_test l q (λ f. d.2 (here ∙ sym f))) (after_near ids k q other (near_next k n l q h fits here))
+            let fits : q < 65536 = omega (arith, here, h.1) in
+            rw (no_test k q k', test n q here, no_test l q (λ f. d.2 (here ∙ sym f))) (after_near ids k q other (near_next k n l q h fits here))
         | inr n' ↦ elim (cases_eq l q) [
           | inl here ↦
-            let fits : q < 65536 = omega (arith, here, h.2) in
-            rw (no_test k q k', no_test n q n', test l q here) (after_near ids k q other (near_last k n l q h fits here))
+              let fits : q < 65536 = omega (arith, here, h.2) in
+              rw (no_test k q k', no_test n q n', test l q here) (after_near ids k q other (near_last k n l q h fits here))
           | inr l' ↦ rw (no_test k q k', no_test n q n', no_test l q l') (elim (cases_lt q 65536) [
             | inl fits ↦ after_far ids k q other (not_near k n l q h fits k' n' l')
             | inr big ↦ after_big ids k q other big small
@@ -347,7 +347,6 @@ module _ (k n l : ℕ) (near : Bool) (ids : List ℕ) (before put_in mid end : �
     (are : (q : ℕ) → before q ≡ is_alone ids q)
     (first : (q : ℕ) → put_in q ≡ cond (is_eq (nat_cmp k q)) (Some (not near)) (before q))
     (second : (q : ℕ) → mid q ≡ joined n q (put_in q)) where
-
   put_is : (q : ℕ) → put_in q ≡ put k q near (is_alone ids q)
   put_is q = first q ∙ ap (λ t. cond t (Some (not near)) (before q)) (test_is k q) ∙ ap (put k q near) (are q)
 

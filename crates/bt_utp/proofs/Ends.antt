@@ -1,14 +1,12 @@
 -- Datagrams with the same ends, and with the same id too.
-use Rattle.std.proofs.Common.{rules, ◌≡◌, ℕ, Bool, true, false, ◌&&◌, ◌||◌, cond, eqb, List, [], ◌∷◌, ◌++◌, length, Option, Some, None, refl, sym, ◌∙◌, ap, subst, arith, ◌⊎◌, inl, inr}
+use Rattle.std.proofs.Common.{rules, ◌≡◌, ℕ, Bool, true, false, ◌&&◌, ◌||◌, List, [], ◌∷◌, refl, sym, ◌∙◌, ap, arith, ◌⊎◌, inl, inr}
 use Rattle.std.specs.Prelude.{◌==◌}
 use Rattle.std.specs.List.{list_any}
-use Rattle.std.specs.Cmp.{IsEquivalence, IsTotalOrder}
+use Rattle.std.specs.Cmp.{IsEquivalence}
 use Rattle.std.specs.Ordering.{is_eq, ordering_then}
 use Rattle.std.specs.declared.cmp.Ordering.{Ordering}
 use Rattle.std.specs.declared.cmp.Ordering.TheVariants.{Less, Equal, Greater}
-use Rattle.std.proofs.lemmas.Bool.{cases_Bool, cases_eq}
 use Rattle.std.proofs.lemmas.Bool.Decides.{nat_tests}
-use Rattle.bt_packet.specs.declared.address.Host.{Host}
 use Rattle.bt_packet.specs.declared.address.Address.{Address}
 use Rattle.bt_packet.specs.declared.utp.Utp.{Utp}
 use Rattle.bt_packet.specs.contracts.address.AddressEq.TheImpl.Laws as address_laws
@@ -82,11 +80,11 @@ same_congr : (a b c : Utp) → same_ends a b ≡ true → same_ends a c ≡ same
 unfolding same_ends
 same_congr a b c h = elim (either (is_from a.source a.target b) (is_from a.target a.source b) h) [
   | inl there ↦
-    let e = both (same_address a.source b.source) (same_address a.target b.target) there in
-    rw (same_is a.source b.source e.0, same_is a.target b.target e.1) refl
+      let e = both (same_address a.source b.source) (same_address a.target b.target) there in
+      rw (same_is a.source b.source e.0, same_is a.target b.target e.1) refl
   | inr back ↦
-    let e = both (same_address a.target b.source) (same_address a.source b.target) back in
-    rw (same_is a.target b.source e.0, same_is a.source b.target e.1) (or_comm (is_from b.target b.source c) (is_from b.source b.target c))
+      let e = both (same_address a.target b.source) (same_address a.source b.target) back in
+      rw (same_is a.target b.source e.0, same_is a.source b.target e.1) (or_comm (is_from b.target b.source c) (is_from b.source b.target c))
 ]
 
 pub ends_laws : IsEquivalence same_ends

@@ -1,7 +1,7 @@
 -- The first ones of each kind, and which of the datagrams are kept, after one more.
-use Rattle.std.proofs.Common.{◌≡◌, ℕ, ◌+◌, ◌-◌, ◌^◌, ◌<◌, ◌≤◌, Bool, true, false, ◌&&◌, ◌||◌, not, cond, if◌then◌else◌, nat_lt, List, [], ◌∷◌, ◌++◌, length, map, Option, Some, None, refl, sym, ◌∙◌, ap, subst, arith, ◌⊎◌, inl, inr}
-use Rattle.std.specs.Prelude.{◌==◌, fold}
-use Rattle.std.specs.List.{filter, list_any, slice_get, IsDistinct, AllByRecursion}
+use Rattle.std.proofs.Common.{◌≡◌, ℕ, ◌+◌, ◌<◌, ◌≤◌, Bool, true, false, ◌&&◌, ◌||◌, cond, if◌then◌else◌, nat_lt, List, [], ◌∷◌, ◌++◌, length, map, refl, sym, ◌∙◌, ap, subst, arith, inl, inr}
+use Rattle.std.specs.Prelude.{◌==◌}
+use Rattle.std.specs.List.{filter, list_any, IsDistinct}
 use Rattle.std.specs.Cmp.{IsEquivalence}
 use Rattle.std.proofs.lemmas.Bool.{cases_Bool}
 use Rattle.std.proofs.lemmas.Bool.Decides.{nat_tests}
@@ -10,7 +10,7 @@ use Rattle.std.proofs.lemmas.List.Folds.{list_any-append}
 use Rattle.std.proofs.lemmas.Map.Keys.{IsDistinct-push}
 use Rattle.bt_packet.specs.declared.utp.Utp.{Utp}
 use Rattle.bt_utp.specs.Flows.{same_ends, same_id, firsts, has_room, kept, ids_of}
-use Rattle.bt_utp.proofs.Ends.{ends_laws, id_laws, same_symm}
+use Rattle.bt_utp.proofs.Ends.{ends_laws}
 
 append_none : (ds : List Utp) → ds ++ [] ≡ ds
 append_none [] = refl
@@ -74,12 +74,12 @@ module _ {same : Utp → Utp → Bool} (laws : IsEquivalence same) where
       → list_any (same x) (firsts same (ds ++ d ∷ [])) ≡ list_any (same x) (ds ++ d ∷ [])
   more_first x ds d h = elim (cases_Bool (list_any (same d) (firsts same ds))) [
     | inl there ↦
-      ap (list_any (same x)) (known same ds d there) ∙ h
-      ∙ absorbed (list_any (same x) ds) (same x d) (λ e. sym h ∙ any_alike x d (firsts same ds) e ∙ there)
-      ∙ sym (any_push (same x) ds d)
+        ap (list_any (same x)) (known same ds d there) ∙ h
+        ∙ absorbed (list_any (same x) ds) (same x d) (λ e. sym h ∙ any_alike x d (firsts same ds) e ∙ there)
+        ∙ sym (any_push (same x) ds d)
     | inr none ↦
-      ap (list_any (same x)) (fresh same ds d none) ∙ any_push (same x) (firsts same ds) d
-      ∙ ap (λ t. t || same x d) h ∙ sym (any_push (same x) ds d)
+        ap (list_any (same x)) (fresh same ds d none) ∙ any_push (same x) (firsts same ds) d
+        ∙ ap (λ t. t || same x d) h ∙ sym (any_push (same x) ds d)
   ]
 
   pub any_first : (x : Utp) (ds : List Utp) → list_any (same x) (firsts same ds) ≡ list_any (same x) ds
@@ -135,13 +135,13 @@ none_kept h = refl
 more_kept : (ds : List Utp) (d : Utp) → AllKept ds → AllKept (ds ++ d ∷ [])
 more_kept ds d h few = elim (cases_Bool (has_room (kept ds) d)) [
   | inl room ↦
-    let few' : length (firsts same_id (kept ds ++ d ∷ [])) < 65536 = rw (sym (kept_more ds d room)) few in
-    let before : length (firsts same_id (kept ds)) < 65536 = omega (arith, no_fewer same_id (kept ds) d, few') in
-    kept_more ds d room ∙ ap (λ l. l ++ d ∷ []) (h before)
+      let few' : length (firsts same_id (kept ds ++ d ∷ [])) < 65536 = rw (sym (kept_more ds d room)) few in
+      let before : length (firsts same_id (kept ds)) < 65536 = omega (arith, no_fewer same_id (kept ds) d, few') in
+      kept_more ds d room ∙ ap (λ l. l ++ d ∷ []) (h before)
   | inr full ↦
-    let before : length (firsts same_id (kept ds)) < 65536 = rw (sym (kept_same ds d full)) few in
-    let room : has_room (kept ds) d ≡ true = room_left (kept ds) d before in
-    cc
+      let before : length (firsts same_id (kept ds)) < 65536 = rw (sym (kept_same ds d full)) few in
+      let room : has_room (kept ds) d ≡ true = room_left (kept ds) d before in
+      cc
 ]
 
 pub all_kept : (ds : List Utp) → AllKept ds

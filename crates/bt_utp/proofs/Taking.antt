@@ -1,5 +1,5 @@
 -- The flows, after one more datagram.
-use Rattle.std.proofs.Common.{◌≡◌, ◌≢◌, ℕ, ◌+◌, ◌-◌, ◌^◌, ◌<◌, ◌≤◌, zero, suc, Bool, true, false, ◌&&◌, ◌||◌, not, cond, if◌then◌else◌, nat_lt, List, [], ◌∷◌, ◌++◌, length, set, get_or, map, min, Option, Some, None, refl, sym, ◌∙◌, ap, subst, arith, ◌⊎◌, inl, inr}
+use Rattle.std.proofs.Common.{◌≡◌, ℕ, ◌+◌, ◌-◌, ◌^◌, ◌<◌, ◌≤◌, zero, suc, Bool, true, false, ◌&&◌, ◌||◌, not, cond, if◌then◌else◌, nat_lt, List, [], ◌∷◌, ◌++◌, length, set, get_or, map, min, Option, Some, None, refl, sym, ◌∙◌, ap, subst, arith, inl, inr}
 use Rattle.std.specs.Prelude.{◌==◌}
 use Rattle.std.specs.Ordering.{is_eq}
 use Rattle.std.specs.BTreeMap.{BTreeMap, get}
@@ -32,14 +32,14 @@ unfolding place
 place_found p [] i h = cc
 place_found p (x ∷ fs) i h = elim (cases_Bool (p x)) [
   | inl t ↦
-    let e : Some 0 ≡ Some i = rw t at h in
-    let z : 0 ≡ i = cc in
-    subst (λ n. (f : Utp) × (slice_get (x ∷ fs) n ≡ Some f) × (p f ≡ true)) z (x, refl, t)
+      let e : Some 0 ≡ Some i = rw t at h in
+      let z : 0 ≡ i = cc in
+      subst (λ n. (f : Utp) × (slice_get (x ∷ fs) n ≡ Some f) × (p f ≡ true)) z (x, refl, t)
   | inr f ↦
-    let k = shifted (place p fs) i (rw f at h) in
-    let there = place_found p fs k.0 k.1 in
-    let next : suc k.0 ≡ i = omega (arith, k.2) in
-    subst (λ n. (f : Utp) × (slice_get (x ∷ fs) n ≡ Some f) × (p f ≡ true)) next there
+      let k = shifted (place p fs) i (rw f at h) in
+      let there = place_found p fs k.0 k.1 in
+      let next : suc k.0 ≡ i = omega (arith, k.2) in
+      subst (λ n. (f : Utp) × (slice_get (x ∷ fs) n ≡ Some f) × (p f ≡ true)) next there
 ]
 
 no_place : (o : Option ℕ) → option_map (λ k. k + 1) o ≡ None → o ≡ None
@@ -236,7 +236,7 @@ ids_after ds d f n w w' adds own is takes =
     let room : (list_any (same_id d) (kept ds) || nat_lt n 65536) ≡ has_room (kept ds) d = ap (λ t. t || nat_lt n 65536) (sym any) ∙ room_is ds d f n own is in
     elim (cases_Bool (has_room (kept ds) d)) [
       | inl t ↦ counted_so (list_any (same_id d) (kept ds)) (nat_lt n 65536) adds n _ (room ∙ t) more
-        (ids_taken ds d t ∙ ap (λ k. k + (if list_any (same_id d) (kept ds) then 0 else 1)) (sym is))
+          (ids_taken ds d t ∙ ap (λ k. k + (if list_any (same_id d) (kept ds) then 0 else 1)) (sym is))
       | inr e ↦ not_counted (list_any (same_id d) (kept ds)) (nat_lt n 65536) adds n (room ∙ e) more ∙ is ∙ ap (λ l. length (firsts same_id l)) (sym (kept_same ds d e))
     ]
 
@@ -297,7 +297,7 @@ begun ds d w none few source target ids least =
     let room = room_left (kept ds) d few in
     let all : kept (ds ++ d ∷ []) ≡ ds ++ d ∷ [] = kept_more ds d room ∙ ap (λ l. l ++ d ∷ []) (all_kept ds few) in
     let own : ids_of d (kept (ds ++ d ∷ [])) ≡ d.id ∷ [] =
-        ap (ids_of d) (kept_more ds d room) ∙ ids_with d (kept ds) d (same_self d) ∙ ap (λ l. l ++ d.id ∷ []) (no_ids d (kept ds) none) in
+    ap (ids_of d) (kept_more ds d room) ∙ ids_with d (kept ds) d (same_self d) ∙ ap (λ l. l ++ d.id ∷ []) (no_ids d (kept ds) none) in
     record {
       source = source;
       target = target;
@@ -319,13 +319,13 @@ placed : (fs : List Utp) (d : Utp) (n : ℕ) (a b : Address) → list_any (same_
     → cond (is_eq (order (d.source, d.target) (a, b))) (Some n) (place (is_from a b) fs) ≡ place (is_from a b) (fs ++ d ∷ [])
 placed fs d n a b none is =
     let test : is_eq (order (d.source, d.target) (a, b)) ≡ is_from a b d =
-        key_test d.source d.target a b ∙ ap (λ t. t && same_address d.target b) (address_symm d.source a) ∙ ap (λ t. same_address a d.source && t) (address_symm d.target b) in
+    key_test d.source d.target a b ∙ ap (λ t. t && same_address d.target b) (address_symm d.source a) ∙ ap (λ t. same_address a d.source && t) (address_symm d.target b) in
     ap (λ t. cond t (Some n) (place (is_from a b) fs)) test
     ∙ elim (cases_Bool (is_from a b d)) [
       | inl t ↦
-        let e = and_true (same_address a d.source) (same_address b d.target) t in
-        let missed : place (is_from a b) fs ≡ None = none_passes (is_from a b) fs (none_stricter (same_ends d) (is_from a b) (from_ends a b d (same_is a d.source e.0) (same_is b d.target e.1)) fs none) in
-        rw t (ap Some is ∙ sym (place_push (is_from a b) fs d ∙ ap (λ o. option_or o (if is_from a b d then Some (length fs) else None)) missed ∙ ap (λ t. if t then Some (length fs) else None) t))
+          let e = and_true (same_address a d.source) (same_address b d.target) t in
+          let missed : place (is_from a b) fs ≡ None = none_passes (is_from a b) fs (none_stricter (same_ends d) (is_from a b) (from_ends a b d (same_is a d.source e.0) (same_is b d.target e.1)) fs none) in
+          rw t (ap Some is ∙ sym (place_push (is_from a b) fs d ∙ ap (λ o. option_or o (if is_from a b d then Some (length fs) else None)) missed ∙ ap (λ t. if t then Some (length fs) else None) t))
       | inr f ↦ rw f (none_added (place (is_from a b) fs) ∙ sym (place_push (is_from a b) fs d ∙ ap (λ t. option_or (place (is_from a b) fs) (if t then Some (length fs) else None)) f))
     ]
 

@@ -1,4 +1,4 @@
-use Rattle.std.proofs.Common.{◌+◌, ◌<◌, ◌≡◌, ℕ, arith, ap, sym, refl, subst, if◌then◌else◌}
+use Rattle.std.proofs.Common.{◌+◌, ◌<◌, ℕ, ap, sym, refl, subst, if◌then◌else◌}
 use Rattle.bt_utp.specs.Flows.{firsts, kept, same_ends}
 use Rattle.bt_utp.proofs.Taking.{within, goes_on_at, stays}
 use Rattle.bt_utp.proofs.flows.UtpFlows.go_on.Goals as goal

@@ -1,4 +1,4 @@
-use Rattle.std.proofs.Common.{◌∙◌, sym}
+use Rattle.std.proofs.Common.{◌∙◌}
 use Rattle.bt_utp.proofs.Taking.{flows_are}
 use Rattle.bt_utp.proofs.flows.UtpFlows.len.Goals as goal
 

@@ -1,5 +1,5 @@
-use Rattle.std.proofs.Common.{refl, ap, subst, sym, []}
-use Rattle.bt_utp.specs.Flows.{firsts, kept, same_ends}
+use Rattle.std.proofs.Common.{refl, subst, sym, []}
+use Rattle.bt_utp.specs.Flows.{firsts, kept}
 use Rattle.bt_utp.specs.States.{AreFlows, place}
 use Rattle.bt_utp.proofs.flows.UtpFlows.new.Goals as goal
 

@@ -1,6 +1,5 @@
-use Rattle.std.proofs.Common.{◌≡◌, ◌+◌, ◌%◌, ◌∙◌, ℕ, Option, Bool, sym, ap, arith, refl, nat_cmp, unwrap_or, false, if◌then◌else◌}
+use Rattle.std.proofs.Common.{◌+◌, ◌%◌, ◌∙◌, ℕ, Option, Bool, ap, arith, refl, nat_cmp, unwrap_or, false}
 use Rattle.std.specs.BTreeMap.{get}
-use Rattle.bt_utp.specs.Ids.{is_alone}
 use Rattle.bt_utp.proofs.Counting.{AreAround, near_from, at_next, at_last, each, small_more, count_stepped, four, bit}
 use Rattle.bt_utp.proofs.ids.Ids.take.Goals as goal
 

@@ -1,0 +1,161 @@
+-- The laws of the flows.
+use Rattle.std.proofs.Common.{◌≡◌, ℕ, ◌+◌, ◌-◌, ◌^◌, ◌≤◌, Bool, true, false, ◌||◌, nat_lt, List, [], ◌∷◌, ◌++◌, length, map, min, refl, sym, ◌∙◌, ap, subst, arith, inl, inr}
+use Rattle.std.specs.Prelude.{count_by}
+use Rattle.std.specs.List.{list_any}
+use Rattle.std.proofs.lemmas.Bool.{cases_Bool}
+use Rattle.std.proofs.lemmas.Bool.Decides.{nat_tests}
+use Rattle.bt_packet.specs.declared.utp.Utp.{Utp}
+use Rattle.bt_utp.specs.declared.flow.Counted.{Counted}
+use Rattle.bt_utp.specs.Near.{is_near, count_near}
+use Rattle.bt_utp.specs.Flows.{same_ends, same_id, firsts, has_room, kept, ids_of, flow, flows}
+use Rattle.bt_utp.specs.Laws.{whole_flow, AllAreCounted, NoneIsTooMuch, LeastIsTold}
+use Rattle.bt_utp.proofs.Counting.{fewer, pushed}
+use Rattle.bt_utp.proofs.Ends.{id_laws}
+use Rattle.bt_utp.proofs.Firsts.{by_last, kept_more, kept_same, fresh, any_first, no_fewer, room_left, length_push, ids_with, ids_without, at_most, length_ids}
+
+-- ---- up to 65,536 ids
+
+abbrev IsWhole : List Utp → Type 0
+IsWhole ds = length (firsts same_id ds) ≤ 65536 → kept ds ≡ ds
+
+none_whole : IsWhole []
+unfolding kept
+none_whole h = refl
+
+has_id : (ds : List Utp) (d : Utp) → list_any (same_id d) ds ≡ true → has_room ds d ≡ true
+unfolding has_room
+has_id ds d h = ap (λ t. t || nat_lt (length (firsts same_id ds)) 65536) h
+
+room_for : (ds : List Utp) (d : Utp) → length (firsts same_id (ds ++ d ∷ [])) ≤ 65536 → has_room ds d ≡ true
+room_for ds d few = elim (cases_Bool (list_any (same_id d) ds)) [
+  | inl there ↦ has_id ds d there
+  | inr none ↦
+      let longer : length (firsts same_id (ds ++ d ∷ [])) ≡ length (firsts same_id ds) + 1 =
+      ap length (fresh same_id ds d (any_first id_laws d ds ∙ none)) ∙ length_push (firsts same_id ds) d in
+      room_left ds d (omega (arith, longer, few))
+]
+
+more_whole : (ds : List Utp) (d : Utp) → IsWhole ds → IsWhole (ds ++ d ∷ [])
+more_whole ds d h few =
+    let whole : kept ds ≡ ds = h (omega (arith, no_fewer same_id ds d, few)) in
+    let room : has_room (kept ds) d ≡ true = subst (λ l. has_room l d ≡ true) (sym whole) (room_for ds d few) in
+    kept_more ds d room ∙ ap (λ l. l ++ d ∷ []) whole
+
+is_whole : (ds : List Utp) → IsWhole ds
+is_whole ds = by_last IsWhole more_whole none_whole ds
+
+no_less : (n : ℕ) → nat_lt n n ≡ false
+no_less n = grind (arith, nat_tests)
+
+whole_one : (ds : List Utp) (f : Utp) → ids_of f (kept ds) ≡ ids_of f ds → flow ds f ≡ whole_flow ds f
+unfolding flow whole_flow
+whole_one ds f e = rw (e, no_less (length (ids_of f ds))) refl
+
+map_alike : (g h : Utp → Counted) (fs : List Utp) → ((f : Utp) → g f ≡ h f) → map g fs ≡ map h fs
+map_alike g h [] e = refl
+map_alike g h (f ∷ fs) e = rw (e f, map_alike g h fs e) refl
+
+pub all_counted : AllAreCounted
+unfolding flows
+all_counted ds few =
+    let whole = is_whole ds few in
+    map_alike (flow ds) (whole_flow ds) (firsts same_ends (kept ds)) (λ f. whole_one ds f (ap (ids_of f) whole))
+    ∙ ap (λ l. map (whole_flow ds) (firsts same_ends l)) whole
+
+-- ---- not more than came
+
+abbrev IsIn : List ℕ → List ℕ → Type 0
+IsIn a b = (p : ℕ → Bool) → count_by p a ≤ count_by p b
+
+more_in : (a b : List ℕ) (k : ℕ) → IsIn a b → IsIn (a ++ k ∷ []) (b ++ k ∷ [])
+more_in a b k h p = omega (arith, pushed p a k, pushed p b k, h p)
+
+longer_in : (a b : List ℕ) (k : ℕ) → IsIn a b → IsIn a (b ++ k ∷ [])
+longer_in a b k h p = omega (arith, pushed p b k, h p)
+
+more_than : (n m : ℕ) → n ≤ m → nat_lt 1 n ≡ true → nat_lt 1 m ≡ true
+more_than n m h e = grind (arith, nat_tests, h, e)
+
+near_in : (a b : List ℕ) → IsIn a b → count_near a ≤ count_near b
+unfolding count_near
+near_in a b h =
+    let first = fewer (λ k. nat_lt 1 (count_by (is_near k) a)) (λ k. nat_lt 1 (count_by (is_near k) b)) (λ k e. more_than (count_by (is_near k) a) (count_by (is_near k) b) (h (is_near k)) e) a in
+    omega (arith, first, h (λ k. nat_lt 1 (count_by (is_near k) b)))
+
+module _ (f : Utp) where
+  abbrev AreIn : List Utp → Type 0
+  AreIn ds = IsIn (ids_of f (kept ds)) (ids_of f ds)
+
+  none_in : AreIn []
+  unfolding kept
+  none_in p = omega arith
+
+  step_in : (ds : List Utp) (d : Utp) → AreIn ds → AreIn (ds ++ d ∷ [])
+  step_in ds d h = elim (cases_Bool (same_ends f d)) [
+    | inl own ↦ elim (cases_Bool (has_room (kept ds) d)) [
+      | inl room ↦ rw (kept_more ds d room, ids_with f (kept ds) d own, ids_with f ds d own) (more_in (ids_of f (kept ds)) (ids_of f ds) d.id h)
+      | inr full ↦ rw (kept_same ds d full, ids_with f ds d own) (longer_in (ids_of f (kept ds)) (ids_of f ds) d.id h)
+    ]
+    | inr other ↦ elim (cases_Bool (has_room (kept ds) d)) [
+      | inl room ↦ rw (kept_more ds d room, ids_without f (kept ds) d other, ids_without f ds d other) h
+      | inr full ↦ rw (kept_same ds d full, ids_without f ds d other) h
+    ]
+  ]
+
+  are_in : (ds : List Utp) → AreIn ds
+  are_in ds = by_last AreIn step_in none_in ds
+
+least_of : (n m k : ℕ) → n ≤ m → min n k ≤ m
+least_of n m k h = grind (arith, h)
+
+pub none_too_much : NoneIsTooMuch
+unfolding flow
+none_too_much ds f = least_of (count_near (ids_of f (kept ds))) (count_near (ids_of f ds)) (2 ^ 64 - 1) (near_in (ids_of f (kept ds)) (ids_of f ds) (are_in f ds))
+
+-- ---- none was left out
+
+module _ (f : Utp) where
+  abbrev AreSame : List Utp → Type 0
+  AreSame ds = length (ids_of f ds) ≤ length (ids_of f (kept ds)) → ids_of f (kept ds) ≡ ids_of f ds
+
+  none_same : AreSame []
+  unfolding kept
+  none_same h = refl
+
+  step_same : (ds : List Utp) (d : Utp) → AreSame ds → AreSame (ds ++ d ∷ [])
+  step_same ds d h few = elim (cases_Bool (same_ends f d)) [
+    | inl own ↦
+        let after = ap length (ids_with f ds d own) ∙ length_ids (ids_of f ds) d.id in
+        elim (cases_Bool (has_room (kept ds) d)) [
+          | inl room ↦
+              let now = ap (ids_of f) (kept_more ds d room) ∙ ids_with f (kept ds) d own in
+              let long = ap length now ∙ length_ids (ids_of f (kept ds)) d.id in
+              now ∙ ap (λ l. l ++ d.id ∷ []) (h (omega (arith, few, after, long))) ∙ sym (ids_with f ds d own)
+          | inr full ↦
+              let long = ap (λ l. length (ids_of f l)) (kept_same ds d full) in
+              absurd (omega (arith, few, after, long, at_most f ds))
+        ]
+    | inr other ↦
+        let after = ids_without f ds d other in
+        elim (cases_Bool (has_room (kept ds) d)) [
+          | inl room ↦
+              let now = ap (ids_of f) (kept_more ds d room) ∙ ids_without f (kept ds) d other in
+              now ∙ h (omega (arith, few, ap length after, ap length now)) ∙ sym after
+          | inr full ↦
+              let now = ap (ids_of f) (kept_same ds d full) in
+              now ∙ h (omega (arith, few, ap length after, ap length now)) ∙ sym after
+        ]
+  ]
+
+  are_same : (ds : List Utp) → AreSame ds
+  are_same ds = by_last AreSame step_same none_same ds
+
+not_less : (n m : ℕ) → nat_lt n m ≡ false → m ≤ n
+not_less n m h = grind (arith, nat_tests, h)
+
+no_least : (ds : List Utp) (f : Utp) → (flow ds f).is_least ≡ false → nat_lt (length (ids_of f (kept ds))) (length (ids_of f ds)) ≡ false
+unfolding flow
+no_least ds f h = h
+
+pub least_told : LeastIsTold
+least_told ds f h = whole_one ds f (are_same f ds (not_less (length (ids_of f (kept ds))) (length (ids_of f ds)) (no_least ds f h)))
