@@ -78,3 +78,17 @@ takes_in at bytes n a given from len n1 a1 given1 n2 a2 given2 p e o =
 -- A window that was full is the same.
 pub goes_same : (n : ℕ) (a : ℕ → Option ℕ) (n1 : ℕ) (a1 : ℕ → Option ℕ) → n1 ≡ n → ((k : ℕ) → a1 k ≡ a k) → GoesOn n a n1 a1
 goes_same n a n1 a1 e f segs base out h = subst (λ x. IsTaken segs base out x a1) (sym e) (taken_on segs base out n a a1 f h)
+
+-- The window is another one now, with the same bytes ahead.
+pub takes_in_same : (at : ℕ) (bytes : List ℕ) (n : ℕ) (a : ℕ → Option ℕ) (given : List ℕ) (n1 : ℕ) (a1 : ℕ → Option ℕ) (n2 : ℕ) (a2 : ℕ
+    → Option ℕ) (given' : List ℕ) → n2 ≡ n1 → ((k : ℕ) → a2 k ≡ a1 k) → TakesIn at bytes n a given n1 a1 given' → TakesIn at bytes n a given n2 a2 given'
+takes_in_same at bytes n a given n1 a1 n2 a2 given' e f t =
+    let s : Segment = record { place = at; bytes = bytes } in
+    record {
+      more = t.more;
+      is = t.is;
+      next_is = e ∙ t.next_is;
+      taken = λ segs base out h. (
+          let both = t.taken segs base out h in
+          (goes_same n1 a1 n2 a2 e f (segs ++ s ∷ []) base (out ++ t.more) both.0, both.1));
+    }

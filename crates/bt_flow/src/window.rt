@@ -1,5 +1,5 @@
 //! A ring with its memory, which grows when a segment needs it.
-ghost use Rattle.std.specs.Prelude.{◌≡◌, ℕ, ◌+◌, ◌<◌, ◌≤◌, ◌^◌, [], length, false, None, IfOk, OnOk};
+ghost use Rattle.std.specs.Prelude.{◌≡◌, ℕ, ◌+◌, ◌<◌, ◌≤◌, ◌^◌, [], length, true, false, None, IfOk, OnOk};
 ghost use Rattle.bt_tcp.specs.Cells.{is_known};
 ghost use Rattle.bt_tcp.specs.Rings.{ahead, IsSound};
 ghost use Rattle.bt_tcp.specs.History.{conflicts, held};
@@ -10,6 +10,9 @@ use std::alloc::{AllocError, Global};
 
 /// The most places that a ring may have.
 pub const MOST: u64 = 16_777_216;
+
+/// How many places it keeps when no byte is ahead.
+const KEPT: usize = 65_536;
 
 /// Appends what is ready, until nothing is.
 fn drain(
@@ -89,6 +92,7 @@ impl Window {
     pub fn close(&mut self)
         ensures next { next_of self.new ≡ next_of self.old }
         ensures none { (k : ℕ) → seen self.new k ≡ None }
+        ensures held { capacity_of self.new ≡ 1 }
     {
         let next = self.ring.next();
         self.known.truncate(1);
@@ -143,21 +147,34 @@ impl Window {
         drain(&mut self.ring, &mut self.known, &self.ahead, out)
     }
 
+    /// Gives memory back, if there is much and no byte is ahead.
+    fn release(&mut self)
+        ensures next { next_of self.new ≡ next_of self.old }
+        ensures same { (k : ℕ) → seen self.new k ≡ seen self.old k }
+        ensures held { self.new.ring.end ≤ next_of self.new → capacity_of self.new ≤ 65536 }
+    {
+        if self.known.len() > KEPT && self.ring.is_empty() {
+            self.close();
+        }
+    }
+
     /// Takes a segment, and appends what it makes ready; returns whether it did.
     ///
-    /// It doesn't if more than `MOST` places are needed.
+    /// It doesn't if more than `MOST` places are needed. If no byte is ahead then, it has memory for at most 65,536 places.
     ///
     /// # Errors
     /// `AllocError` when out of memory.
     pub fn take(&mut self, at: u64, part: &[u8], out: &mut Vec<u8>) -> Result<bool, AllocError>
         requires { at + length part.now < 2 ^ 64 }
-        ensures { IfOk result (λ was_taken. Takes at part.now (next_of self.old) (seen self.old) out.old.items was_taken (next_of self.new) (seen self.new) out.new.items) }
+        ensures taken { IfOk result (λ was_taken. Takes at part.now (next_of self.old) (seen self.old) out.old.items was_taken (next_of self.new) (seen self.new) out.new.items) }
+        ensures held { IfOk result (λ was_taken. was_taken ≡ true → self.new.ring.end ≤ next_of self.new → capacity_of self.new ≤ 65536) }
     {
         match self.place(at, part)? {
             Put::Full => Ok(false),
             Put::Taken { from, len } => {
                 out.extend_from_slice(&part[from..from + len])?;
                 self.drain(out)?;
+                self.release();
                 Ok(true)
             }
         }

@@ -1,5 +1,5 @@
 //! The reassembly window as a ring over the caller's memory.
-ghost use Rattle.std.specs.Prelude.{◌≡◌, ℕ, ◌+◌, ◌-◌, ◌<◌, ◌≤◌, ◌^◌, Bool, true, false, List, [], length, slice_index_or, slice_get, None, IsSome, OnOk};
+ghost use Rattle.std.specs.Prelude.{◌≡◌, ℕ, ◌+◌, ◌-◌, ◌*◌, ◌<◌, ◌≤◌, ◌^◌, Bool, true, false, List, [], length, slice_index_or, slice_get, None, IsSome, OnOk, nat_le};
 ghost use Rattle.bt_tcp.specs.Segments.{Segment, or_else, byte_in};
 ghost use Rattle.bt_tcp.specs.Cells.{slot_of, is_known, ring, IsRing, IsWritten};
 ghost use Rattle.bt_tcp.specs.Rings.{ahead, IsSound};
@@ -16,6 +16,9 @@ pub enum Put {
     /// It reaches past the ring. Nothing has changed.
     Full,
 }
+
+/// How many bytes are looked at together.
+const BLOCK: usize = 64;
 
 /// Returns where an offset lies.
 fn slot(capacity: usize, head: usize, k: usize) -> usize
@@ -107,8 +110,34 @@ fn keep(known: &mut [bool], bytes: &mut [u8], head: usize, gap: usize, part: &[u
     }
 }
 
-/// Counts the bytes at the front that have come.
-fn count_known(known: &[bool]) -> usize
+/// Tells whether all of some bytes have come. It has no early end, so that it looks at many at once.
+fn are_known(known: &[bool]) -> bool
+    ensures all { result ≡ true → (k : ℕ) → k < length known.now → slice_index_or known.now k false ≡ true }
+    ensures some { result ≡ false → (k : ℕ) × (k < length known.now) × (slice_index_or known.now k false ≡ false) }
+{
+    let mut all = true;
+    for b in known {
+        all = all && *b;
+    }
+    all
+}
+
+/// Counts blocks at the front whose bytes have all come.
+fn count_blocks(known: &[bool]) -> usize
+    ensures within { result * 64 ≤ length known.now }
+    ensures known { (k : ℕ) → k < result * 64 → slice_index_or known.now k false ≡ true }
+{
+    let blocks = known.len() / BLOCK;
+    for k in 0..blocks {
+        if !known[k * BLOCK] || !are_known(&known[k * BLOCK..(k + 1) * BLOCK]) {
+            return k;
+        }
+    }
+    blocks
+}
+
+/// Counts the bytes at the front that have come, one by one.
+fn count_front(known: &[bool]) -> usize
     ensures within { result ≤ length known.now }
     ensures known { (k : ℕ) → k < result → slice_index_or known.now k false ≡ true }
     ensures ends { slice_index_or known.now result false ≡ false }
@@ -121,6 +150,16 @@ fn count_known(known: &[bool]) -> usize
     known.len()
 }
 
+/// Counts the bytes at the front that have come.
+fn count_known(known: &[bool]) -> usize
+    ensures within { result ≤ length known.now }
+    ensures known { (k : ℕ) → k < result → slice_index_or known.now k false ≡ true }
+    ensures ends { slice_index_or known.now result false ≡ false }
+{
+    let whole = count_blocks(known) * BLOCK;
+    whole + count_front(&known[whole..])
+}
+
 /// Forgets that bytes have come.
 fn clear(known: &mut [bool], from: usize, count: usize)
     requires { from + count ≤ length known.old }
@@ -128,9 +167,7 @@ fn clear(known: &mut [bool], from: usize, count: usize)
     ensures before { (k : ℕ) → k < from → slice_index_or known.new k false ≡ slice_index_or known.old k false }
     ensures after { (k : ℕ) → from + count ≤ k → slice_index_or known.new k false ≡ slice_index_or known.old k false }
 {
-    for i in from..from + count {
-        known[i] = false;
-    }
+    known[from..from + count].fill(false);
 }
 
 /// Returns the head after offsets without a byte, as many as there may be.
@@ -225,7 +262,7 @@ impl Ring {
         ensures most { result ≤ most }
         ensures unknown { (k : ℕ) → k < result → is_known known.now self.now.head k ≡ false }
     {
-        if self.end <= self.next {
+        if self.is_empty() {
             return most;
         }
         count_unknown(known, self.head, most)
@@ -286,6 +323,13 @@ impl Ring {
         self.head = advanced(known, head, count);
         self.next += count as u64;
         &bytes[head..head + count]
+    }
+
+    /// Tells whether it is known that no byte is ahead: all that segments covered was handed out or given up.
+    pub fn is_empty(&self) -> bool
+        ensures { result ≡ nat_le self.now.end self.now.next }
+    {
+        self.end <= self.next
     }
 
     /// Gives up the gap before the first byte ahead, and returns how many places that are. The stream goes on after them, as one of its own.
@@ -373,7 +417,8 @@ impl Ring {
     /// So a segment that didn't fit may be put.
     ///
     /// # Errors
-    /// `AllocError` when out of memory. Nothing has changed then.
+    /// `AllocError` when out of memory. The bytes ahead are the same then, too.
+    #[cold]
     pub fn lengthen(
         &mut self,
         known: &mut Vec<bool>,

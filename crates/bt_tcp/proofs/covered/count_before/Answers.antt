@@ -1,6 +1,5 @@
 use Rattle.std.proofs.Common.{rules, of_calls}
 use Rattle.std.specs.Prelude.{nat_lt}
-use Rattle.std.proofs.lemmas.Fn.{always_returns_same}
 use Rattle.std.proofs.lemmas.List.Sorted.{IsPartitionedBy-ltb, IsPartitionPoint-from_clause}
 use Rattle.bt_tcp.proofs.CoveredProofs.{ends-rise, add-after}
 use Rattle.bt_tcp.proofs.covered.count_before.Goals as goal

@@ -16,7 +16,7 @@ pub returns-in_ok-remember : goal.returns-in_ok-remember
 returns-in_ok-remember c =
     let t = subst (λ b. Takes c.args.at c.args.part.now (next_of c.args.self.now.window) (seen c.args.self.now.window) c.args.out.now.items b
     (next_of c.take.new.self) (seen c.take.new.self) c.take.new.out.items)
-    c.if-branch.true c.in_ok-take.ensures in
+    c.if-branch.true c.in_ok-take.ensures.taken in
     let e : c.deref.result.now ≡ c.args.out.now.items ++ t.more = c.deref.ensures.value ∙ t.is in
     let k : length c.deref.result.now ≡ length c.args.out.now.items + length t.more = ap length e ∙ length-append c.args.out.now.items t.more in
     advance c.args.at c.args.part.now c.args.self.now c.args.out.now.items _ c.take.new.out.items (take (length c.deref.result.now - (c.len.result -
@@ -30,5 +30,5 @@ pub returns-else-branch : goal.returns-else-branch
 returns-else-branch c =
     let t = subst (λ b. Takes c.args.at c.args.part.now (next_of c.args.self.now.window) (seen c.args.self.now.window) c.args.out.now.items b
     (next_of c.take.new.self) (seen c.take.new.self) c.take.new.out.items)
-    c.if-branch.false c.in_ok-take.ensures in
+    c.if-branch.false c.in_ok-take.ensures.taken in
     advance_lost c.args.at c.args.part.now c.args.self.now c.args.out.now.items _ c.take.new.out.items refl refl refl (c.close.ensures.next ∙ t.1) refl t.2 t.0
