@@ -4,7 +4,8 @@
 usage: tests/captures.py [PROGRAM]
 
 PROGRAM is the built bt_tool, or else the script at the top of the repository. The model is written from the standards and from
-docs/CAPTURES.md and docs/RULES.md: it keeps all bytes, and looks at all of them again for each packet. The captures have lost, swapped,
+docs/CAPTURES.md and docs/RULES.md: it keeps all bytes, and looks at all of them again for each packet. Of the remarks it has requests
+that got no answer. The captures have lost, swapped,
 repeated, overlapping, changed and cut segments, sequence numbers that wrap, several connections between the same ports, both formats
 and byte orders; two files are cut after each byte. The seed is fixed. The limits of memory are those of tests/limits.py.
 """
@@ -189,6 +190,13 @@ class Side:
         runs = [k for k, place in enumerate(missing) if not k or missing[k - 1] != place - 1] + [len(missing)]
         return [(missing[k] - (first - self.length), n - k) for k, n in zip(runs, runs[1:])]
 
+    def has_hole(self):
+        """Whether bytes after the stream are known to be sent."""
+        first = self.next()
+        if first is None:
+            return False
+        return first < (self.fin if self.fin is not None else max(self.end, self.acked if self.acked > first + 1 else first))
+
     def is_closed(self):
         return self.fin is not None and self.next() is not None and self.fin <= self.next() and self.fin < self.acked
 
@@ -199,6 +207,7 @@ class Connection:
         self.ends = it.ends[::-1] if it.flags & SYN and it.flags & ACK else it.ends
         self.sides = {end: Side() for end in self.ends}
         self.has_bytes = False
+        self.marks = []  # a side and the length of its stream, for each segment
 
     def opens_again(self, it):
         side = self.sides[it.ends[0]]
@@ -210,6 +219,7 @@ class Connection:
             if it.flags & ACK:
                 self.sides[it.ends[1]].hear(it.acked % 2 ** 32, it.flags & SYN)
             self.sides[it.ends[0]].take(it)
+            self.marks.append((it.ends[0], self.sides[it.ends[0]].length))
         if it.flags & (FIN | RST) and self.closed is None:
             self.closed = it.ends[0], "RST" if it.flags & RST else "FIN", it.nanos
         if self.over is None and (it.flags & RST or all(side.is_closed() for side in self.sides.values())):
@@ -223,7 +233,50 @@ class Connection:
                     self.said[end] = Said(side.stream())
             self.settled = over or is_settled(*self.said.values())
 
-    def direction(self, end, other):
+    def receiver(self, end):
+        """Who the stream of a side with a handshake is judged for."""
+        other = self.said[self.ends[1 - self.ends.index(end)]]
+        if other.reserved is None:
+            return Receiver(self.said[end].reserved, guessed=True)
+        metadata, donthave = other.ids
+        return Receiver(other.reserved, 262144, metadata or 0, None if donthave == metadata else donthave)
+
+    def read(self, end, rules="free"):
+        return read(self.sides[end].stream()[self.said[end].start:], self.receiver(end), rules)
+
+    def events(self):
+        """The messages of both sides, in the order of the segments that complete them: segment, offset, side and message."""
+        found = []
+        for end in self.ends:
+            offset = HANDSHAKE
+            for body in self.read(end)[0]:
+                last = self.said[end].start + offset + 4 + len(body)
+                found.append((next(k for k, (side, length) in enumerate(self.marks) if side == end and length >= last), offset, end, body))
+                offset += 4 + len(body)
+        return sorted(found)
+
+    def unanswered(self, end, other):
+        """The line on a side's requests that got no answer (BEP 6), if there are any."""
+        if not all((self.said[it].reserved or 0) & FAST for it in self.ends) or self.read(other)[1] or self.sides[other].has_hole():
+            return ""
+        opened, later = {}, -1  # by index and begin the number of a request, its offset and its length; what came later
+        for number, (_, offset, sender, body) in enumerate(self.events()):
+            kind, key, size = body[:1], body[1:9], struct.pack(">I", len(body) - 9) if body[:1] == b"\7" else body[9:]
+            if sender == end and kind == b"\6":
+                opened[key] = number, offset, size
+            elif sender == other and kind == b"\0":
+                later = number
+            elif sender == other and kind in (b"\7", b"\x10") and opened.get(key, (0, 0, None))[2] == size:
+                later = max(later, opened.pop(key)[0])
+        is_closer = bool(self.closed) and self.closed[0] == other
+        late = sorted((*it, key) for key, it in opened.items() if is_closer or it[0] < later)
+        if not late:
+            return ""
+        words = "%d request %d %d %d\n" % (late[0][1], *struct.unpack(">III", late[0][3] + late[0][2]))
+        what = "a request that got no answer" if len(late) == 1 else "%d requests that got no answer, the first" % len(late)
+        return "  %s sent %s: %s" % ("AB"[self.ends.index(end)], what, words)
+
+    def direction(self, end):
         """The lines of a direction, and whether it is refused."""
         side, own, letter = self.sides[end], self.said[end], "AB"[self.ends.index(end)]
         gaps, stream = side.gaps(), side.stream()
@@ -237,15 +290,10 @@ class Connection:
             lines += "    gap at %d: %d bytes aren't in the capture%s\n" % (max(0, gaps[0][0] - (own.start or 0)), gaps[0][1], more)
         if own.reserved is None:
             return "  %s sent %d bytes and no whole handshake\n%s" % (letter, len(stream), lines), False
-        if self.said[other].reserved is None:
-            receiver = Receiver(own.reserved, guessed=True)
-        else:
-            metadata, donthave = self.said[other].ids
-            donthave = None if donthave == metadata else donthave
-            receiver = Receiver(self.said[other].reserved, 262144, metadata or 0, donthave)
+        receiver = self.receiver(end)
         refused = False
         for rules in ("free", "bep"):
-            found, why = read(stream[own.start:], receiver, rules)
+            found, why = self.read(end, rules)
             note, cut = "", why is not None and why[2] == "EndInside"
             if gaps:
                 note = " (cut by the gap)" if cut else " (up to the gap)" if why is None else ""
@@ -263,13 +311,14 @@ class Connection:
         names = "connection %d  A %s > B %s" % (self.number, *("%s:%d" % end for end in self.ends))
         if all(said.start is None for said in self.said.values()):
             return names + "  no BitTorrent handshake: encrypted, another protocol, or begun before the capture\n", False, False
-        (a, bad_a), (b, bad_b) = self.direction(*self.ends), self.direction(*self.ends[::-1])
+        (a, bad_a), (b, bad_b) = map(self.direction, self.ends)
         close = "  still open at the capture's end\n"
         if self.closed:
             end, means, nanos = self.closed
             micros = max(0, nanos - start) // 1000
             close = "  %s closed first, by %s, at %d.%06d s\n" % ("AB"[self.ends.index(end)], means, *divmod(micros, 10 ** 6))
-        return names + "\n" + a + b + close, True, bad_a or bad_b
+        unanswered = self.unanswered(*self.ends) + self.unanswered(*self.ends[::-1])
+        return names + "\n" + a + b + close + unanswered, True, bad_a or bad_b
 
 
 def reports(packets):
@@ -306,14 +355,16 @@ def message(*parts):
     return struct.pack(">I", len(body)) + body
 
 
-def any_message(rng):
+def any_message(rng, reserved):
     """A message after the first ones, and where its block begins."""
-    index = struct.pack(">I", rng.randrange(9))
+    index, size = struct.pack(">I", rng.randrange(9)), struct.pack(">I", rng.choice((0, 1, 40)))
     kind = rng.random()
-    if kind < 0.3:
+    if kind < 0.2:
+        return message(b"\x10" if reserved & FAST and rng.random() < 0.3 else b"\6", index, bytes(4), size), None
+    if kind < 0.5:
         return message(b"\x07", index, bytes(4), rng.randbytes(rng.choice((0, 1, 40, 900, 3000)))), 13
     if kind < 0.97:
-        return rng.choice((message(), message(b"\1"), message(b"\2"), message(b"\4", index), message(b"\6", index, bytes(8)),
+        return rng.choice((message(), message(b"\0"), message(b"\1"), message(b"\2"), message(b"\4", index),
                            message(b"\x09\x1a\xe1"), message(b"\x14\x7f", b"any"))), None
     return rng.choice((message(b"\4", bytes(3)), b"\0\4\0\1\7", message(b"\x15", b"new"), message(b"\5\xff"), message(b"\x0e"))), None
 
@@ -334,7 +385,7 @@ def stream_of(rng):
         parts.insert(rng.randrange(len(parts) + 1), message(b"\x14\0d1:md", ids, b"e", b"1:v5:Seven" * rng.randrange(2), b"e"))
     stream += b"".join(parts)
     for _ in range(rng.choice((0, 2, 6, 15))):
-        part, block = any_message(rng)
+        part, block = any_message(rng, reserved)
         if block is not None:
             free |= set(range(len(stream) + block, len(stream) + len(part)))
         stream += part
@@ -450,8 +501,8 @@ def rows():
             yield ("%r cut after %d bytes" % (form, cut), file[:cut], *wanted[whole])
 
 
-# What the model doesn't have: remarks, and what a side had sent at the close. tests/capture.py compares these.
-UNKNOWN = re.compile(r"^(?:    [AB] had sent |  [AB] sent (?!\d+ bytes and no whole handshake)).*\n", re.M)
+# What the model doesn't have: other remarks, and what a side had sent at the close. tests/capture.py compares these.
+UNKNOWN = re.compile(r"^(?:    [AB] had sent |  [AB] sent (?!\d+ bytes and no whole handshake|.* that got no answer)).*\n", re.M)
 
 
 def main():
