@@ -7,3 +7,4 @@ pub mod Cuts
 pub mod Replays
 pub mod Talks
 pub mod Closes
+pub mod AskedItems

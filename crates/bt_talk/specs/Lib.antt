@@ -9,3 +9,4 @@ pub mod Replays
 pub mod Ends
 pub mod Closing
 pub mod Talks
+pub mod Unanswered

@@ -11,6 +11,7 @@ mod room;
 mod stage;
 mod talk;
 mod terms;
+mod unanswered;
 mod watch;
 
 pub use bt_remarks::Side;

@@ -14,15 +14,16 @@ use crate::replay::{Mark, Opened, judge_both};
 use crate::room::Room;
 use crate::stage::receiver_between;
 use crate::terms::Terms;
+use crate::unanswered::{has_closed, has_fast, is_accepted, other, unanswered_of};
 use crate::watch::Watch;
 use bt_flow::Given;
 use bt_intro::{Receiver, is_settled};
 use bt_jobs::Announced;
 use bt_judge::Verdicts;
 use bt_packet::{Flags, Segment};
-use bt_remarks::Side;
+use bt_remarks::{Ending, Side};
 use bt_tcp::Gaps;
-use bt_told::{Last, Remarked};
+use bt_told::{Last, Noted, Remarked};
 use bt_wire::Handshake;
 use std::alloc::{AllocError, Global};
 
@@ -146,6 +147,7 @@ impl Talk {
     ghost use Rattle.bt_talk.specs.Replays.{IsOpened};
     ghost use Rattle.bt_talk.specs.Stages.{IsHeard};
     ghost use Rattle.bt_talk.specs.Watching.{AreRemarked};
+    ghost use Rattle.bt_talk.specs.Unanswered.{HaveFast, IsEnding, AreUnanswered};
 
     /// Returns the connection that begins with a segment, of which nothing was taken yet.
     ///
@@ -447,13 +449,52 @@ impl Talk {
         self.direction(side).receiver()
     }
 
-    /// Returns the remarks on what a side sent, without requests that got no answer.
-    ///
-    /// There are none in the opening.
-    pub fn remarked(&self, side: Side) -> Remarked
-        ensures { (a b : Past) (i : IsTalk a b self.now) → AreRemarked side i.said.events (i.said.items side) result }
+    /// Tells whether both sides have the Fast Extension (BEP 6).
+    fn have_fast(&self) -> bool
+        ensures { (a b : Past) → IsTalk a b self.now → HaveFast a b result }
     {
-        self.watch.remarked(side)
+        let a = self.handshake(Side::A);
+        let b = self.handshake(Side::B);
+        has_fast(&a) && has_fast(&b)
+    }
+
+    /// Returns how a side's direction ended, if nothing more comes.
+    fn ending(&self, side: Side) -> Ending
+        ensures { (a b : Past) → IsTalk a b self.now → IsEnding side a b self.now result }
+    {
+        let verdicts = self.verdicts(side);
+        let has_hole = self.has_hole(side);
+        Ending {
+            closed_first: has_closed(side, &self.closing.closed),
+            stopped: !is_accepted(&verdicts) || has_hole,
+        }
+    }
+
+    /// Returns the requests of a side that got no answer.
+    fn unanswered(&self, side: Side) -> Option<Noted>
+        ensures { (a b : Past) (i : IsTalk a b self.now) → AreUnanswered side a b self.now i.said.events (i.said.items side) result }
+    {
+        if !self.have_fast() {
+            return None;
+        }
+        unanswered_of(&self.watch.matcher, side, self.ending(other(side)))
+    }
+
+    /// Returns the remarks on what a side sent, as if the connection ended here.
+    ///
+    /// There are none in the opening. Requests that got no answer are told only if both sides have the Fast Extension (BEP 6), and only
+    /// those that the other side should have answered: it answered a later one, choked after them, or closed first. They aren't told
+    /// if the other side's stream ends inside a message, is refused by the lenient rules, or lacks bytes that were sent.
+    pub fn remarked(&self, side: Side) -> Remarked
+        ensures remarked { (a b : Past) (i : IsTalk a b self.now) → AreRemarked side i.said.events (i.said.items side) result }
+        ensures unanswered { (a b : Past) (i : IsTalk a b self.now)
+            → AreUnanswered side a b self.now i.said.events (i.said.items side) result.unanswered }
+    {
+        let unanswered = self.unanswered(side);
+        Remarked {
+            unanswered,
+            ..self.watch.remarked(side)
+        }
     }
 
     /// Returns the handshake of a side, once all of it came in the opening.

@@ -207,7 +207,7 @@ impl Watch {
         }
     }
 
-    /// Returns the items of a side with a remark.
+    /// Returns the items of a side with a remark, except requests that got no answer.
     pub(crate) fn remarked(&self, side: Side) -> Remarked
         ensures { (events : List Told) (items : Side → List (ℕ × Item)) → IsWatched events items self.now
             → AreRemarked side events (items side) result }
