@@ -4,7 +4,7 @@
 usage: tests/capture.py [PROGRAM]
 
 PROGRAM is the built bt_tool, or else the script at the top of the repository. The expected reports are those that tests/btcap.py
-states, without the lines that only btcap has: sentences on reasons, and uTP.
+states, without the lines that only btcap has: uTP.
 The objects of `--json` say what these lines say, and nothing else.
 The sentences on reasons that bt_told defines have the words of tools/reasons.json.
 """
@@ -21,7 +21,7 @@ sys.dont_write_bytecode = True
 ROOT = os.path.dirname(os.path.dirname(os.path.abspath(__file__)))
 # Options that only btcap has.
 OTHERS = {"--show", "--torrent", "--tool", "--piece"}
-ONLY_BTCAP = re.compile(r"    why |uTP ")
+ONLY_BTCAP = re.compile(r"uTP ")
 # The status of a file that is no capture: a fault, as in all commands of bt_tool.
 FAULT = {2: 3}
 

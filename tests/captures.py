@@ -28,15 +28,15 @@ FAST, EXT = 0x4, 0x100000
 HISTORY, QUIET = 16384, 4_000_000_000
 
 
-def module_of(name):
-    """The script of this name beside this one."""
-    loader = importlib.machinery.SourceFileLoader(name, os.path.join(ROOT, "tests", name + ".py"))
+def module_of(name, folder="tests"):
+    """The script of this name."""
+    loader = importlib.machinery.SourceFileLoader(os.path.basename(name), os.path.join(ROOT, folder, name))
     module = importlib.util.module_from_spec(importlib.util.spec_from_loader(name, loader))
     loader.exec_module(module)
     return module
 
 
-WRITER = module_of("btcap")
+WRITER, WORDS = module_of("btcap.py"), module_of("btcap", "tools")
 
 
 # ---- the model: messages
@@ -93,6 +93,14 @@ def read(stream, receiver, rules):
             counted = True
         at += 4 + length
     return found, None
+
+
+def sentence(stream, found, refused):
+    """A refusal in the words of tools/reasons.json."""
+    number, at, reason = refused
+    start = HANDSHAKE + sum(4 + len(it) for it in found) if number else 0
+    end = start + 4 + int.from_bytes(stream[start:start + 4], "big") if number else HANDSHAKE
+    return WORDS.reason_words(reason, number, at, start, stream[start:end], None)
 
 
 def number_in(dictionary, key):
@@ -291,7 +299,7 @@ class Connection:
         if own.reserved is None:
             return "  %s sent %d bytes and no whole handshake\n%s" % (letter, len(stream), lines), False
         receiver = self.receiver(end)
-        refused = False
+        refused, verdicts = False, []
         for rules in ("free", "bep"):
             found, why = self.read(end, rules)
             note, cut = "", why is not None and why[2] == "EndInside"
@@ -300,8 +308,11 @@ class Connection:
             elif cut and (self.closed is None or self.closed[0] != end):
                 note = " (cut by the capture's end)" if self.closed is None else " (cut by the close of the other end)"
             verdict = "refused message=%d at=%d %s" % why if why else "ok messages=%d bytes=%d" % (len(found), len(stream) - own.start)
-            lines += "    %-4s %s%s\n" % (rules, verdict, note)
+            verdicts.append((rules, verdict, note, sentence(stream[own.start:], found, why) if why and not note else None))
             refused |= rules == "free" and why is not None and not (cut and note)
+        for rules, verdict, note, words in verdicts:
+            lines += "    %-4s %s%s\n" % (rules, verdict, note)
+            lines += "    why  %s.\n" % words if words and (rules == "bep" or verdict != verdicts[1][1]) else ""
         guess = " (guessed: its receiver's handshake isn't there)" if receiver.guessed else ""
         return "  %s %s\n%s    options %s%s\n" % (letter, own.name.decode(), lines, receiver.options, guess), refused
 

@@ -588,7 +588,8 @@ ROWS += [
 # A capture of one connection: A names piece 38.
 with open(os.path.join(ROOT, "examples", "refused.pcap"), "rb") as file:
     REFUSED = file.read()
-REFUSED_38 = b'"free":{%s},"bep":{%s}' % (2 * (b'"verdict":"refused","message":2,"offset":78,"reason":"BadIndex"',))
+REFUSED_38 = b'"free":{%s},"bep":{%s}' % (2 * (b'"verdict":"refused","message":2,"offset":78,"reason":"BadIndex",'
+                                               b'"why":"The have message names piece 38, and the torrent has 38 pieces, so the last index is 37"',))
 BITS_38 = b'"receiver":{"reserved":"0000000000100005","pieces":38}'
 # The object of --json for it, if the torrent has 38 pieces.
 REPORT_38 = (b'{"connection":0,"a":"10.0.0.1:51413","b":"10.0.0.2:6881","bittorrent":true,'

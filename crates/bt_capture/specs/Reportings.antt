@@ -71,10 +71,15 @@ pub record IsTitleOf (p : Past) (t : Title) : Type 0 where
   pub named_is : IsSaid p.front named
   pub text : title_text t ≡ title_by (last_client named.items) hello
 
--- The verdicts and the receiver are those of the side's stream.
+-- The verdicts, the messages that they refuse, and the receiver are those of the side's stream.
 pub record IsJudgedOf (side : Side) (a b : Past) (t : Talk) (j : Judged) : Type 0 where
   pub title : IsTitleOf (of_side side a b) j.title
-  pub verdicts : AreVerdicts (is_in_opening t) (terms_of t) (of_side side a b) (of_side (other side) a b) (Some (record { free = j.free; bep = j.bep }))
+  pub verdicts : AreVerdicts (is_in_opening t) (terms_of t) (of_side side a b) (of_side (other side) a b) (Some (record {
+    free = j.free;
+    bep = j.bep;
+    free_message = j.free_message;
+    bep_message = j.bep_message;
+  }))
   pub receiver : IsReceiverNow (is_in_opening t) (terms_of t) (of_side side a b) (of_side (other side) a b) (Some (record { own = j.receiver; is_guessed = j.is_guessed }))
 
 abbrev pub IsSenderOf : Side → Past → Past → Talk → Sender → Type 0

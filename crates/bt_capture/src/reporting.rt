@@ -73,8 +73,8 @@ fn sender_of(talk: &Talk, side: Side) -> Sender
         title: title_of(talk.client(side), &handshake),
         free: verdicts.free,
         bep: verdicts.bep,
-        free_message: None,
-        bep_message: None,
+        free_message: verdicts.free_message,
+        bep_message: verdicts.bep_message,
         receiver: receiver.own,
         is_guessed: receiver.is_guessed,
     })

@@ -1,4 +1,4 @@
-//! A capture file from its bytes to the report of its connection. The text is that which tools/btcap prints, without sentences.
+//! A capture file from its bytes to the report of its connection. The text is that which tools/btcap prints.
 use bt_capture::{CaptureEnd, CaptureFault, CaptureJob, run_capture};
 use bt_io::{MemSource, MemTarget};
 use bt_talk::Terms;
@@ -24,6 +24,7 @@ const FOUR: &[u8] = b"connection 0  A 10.0.0.1:1000 > B 10.0.0.2:6881\n\
 \x20 A -AA0001-aaaaaaaaaaaa\n\
 \x20   free refused message=1 at=73 BadIndex\n\
 \x20   bep  refused message=1 at=73 BadIndex\n\
+\x20   why  The have message names piece 9, and the torrent has 4 pieces, so the last index is 3.\n\
 \x20   options --reserved 0000000000000000 --metadata-id 0 --pieces 4\n\
 \x20 B -BB0001-bbbbbbbbbbbb\n\
 \x20   free ok messages=0 bytes=68\n\

@@ -1,4 +1,5 @@
 pub mod Pasts
+pub mod Refusals
 pub mod Receivers
 pub mod Stages
 pub mod Watching

@@ -42,7 +42,7 @@ first_same : (front : List ℕ) (j k : ℕ) → IsFirstHello front j → IsFirst
 first_same front j k f g =
     elim (cases_lt j k) [
       | inl lt ↦ absurd (g.first j lt f.here)
-      | inr le ↦ elim (cases_lt k j) [ | inl lt ↦ absurd (f.first k lt g.here) | inr ge ↦ omega (arith, le, ge) ]
+      | inr le ↦ elim (cases_lt k j) [ inl lt ↦ absurd (f.first k lt g.here) | inr ge ↦ omega (arith, le, ge) ]
     ]
 
 -- What is said has one verdict.

@@ -1,5 +1,6 @@
 pub mod Pasts
 pub mod Terms
+pub mod Refusals
 pub mod Receivers
 pub mod Events
 pub mod Watching

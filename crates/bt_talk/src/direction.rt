@@ -14,12 +14,13 @@ ghost use Rattle.bt_talk.specs.Stages.{IsDirection, IsStage, AreItemsIn, Speaks,
 ghost use Rattle.bt_talk.specs.Cuts.{IsCutBy, IsLastBefore, cut_length};
 ghost use Rattle.bt_talk.specs.Watching.{IsLast, Watches};
 
+use crate::refused::{Judgement, judgement_of};
 use crate::replay::{Opened, Replay};
 use crate::stage::{Cut, Stage, judge_bytes};
 use crate::watch::Watch;
 use bt_flow::{Flow, Given};
 use bt_intro::{Introduction, Receiver};
-use bt_judge::{Judge, Verdicts};
+use bt_judge::Judge;
 use bt_told::{Last, Said};
 use std::alloc::{AllocError, Global};
 
@@ -232,14 +233,14 @@ impl Direction {
         }
     }
 
-    /// Returns the verdicts of the stream, if it is judged.
-    pub(crate) fn verdicts(&self) -> Option<Verdicts>
+    /// Returns the verdicts of the stream, if it is judged, and what is there of the messages that they refuse.
+    pub(crate) fn verdicts(&self) -> Option<Judgement>
         ensures { (terms : Terms) (p other : Past) → IsDirection terms p other self.now
             → AreVerdicts (is_opening self.now.stage) terms p other result }
     {
         match &self.stage {
             Stage::Opening(_) => None,
-            Stage::Open(judged) => Some(judged.judge.ended()),
+            Stage::Open(judged) => Some(judgement_of(&judged.judge)),
             Stage::Stranger => None,
         }
     }

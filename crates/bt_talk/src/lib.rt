@@ -6,6 +6,7 @@
 mod closing;
 mod direction;
 mod ends;
+mod refused;
 mod replay;
 mod room;
 mod stage;
@@ -17,6 +18,7 @@ mod watch;
 pub use bt_remarks::Side;
 pub use closing::{Closed, When};
 pub use ends::Ends;
+pub use refused::Judgement;
 pub use room::Room;
 pub use talk::Talk;
 pub use terms::{Terms, Torrent};

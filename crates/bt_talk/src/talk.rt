@@ -10,6 +10,7 @@ ghost use Rattle.bt_talk.specs.Talks.{is_over as is_over_by, IsEnd, Turns};
 use crate::closing::{Closed, Closing, When, is_end, opens};
 use crate::direction::Direction;
 use crate::ends::Ends;
+use crate::refused::Judgement;
 use crate::replay::{Mark, Opened, judge_both};
 use crate::room::Room;
 use crate::stage::receiver_between;
@@ -19,7 +20,6 @@ use crate::watch::Watch;
 use bt_flow::Given;
 use bt_intro::{Receiver, is_settled};
 use bt_jobs::Announced;
-use bt_judge::Verdicts;
 use bt_packet::{Flags, Segment};
 use bt_remarks::{Ending, Side};
 use bt_tcp::Gaps;
@@ -428,11 +428,11 @@ impl Talk {
         }
     }
 
-    /// Returns the verdicts of a side's stream, as if it ended here.
+    /// Returns the verdicts of a side's stream, as if it ended here, and what is there of the messages that they refuse.
     ///
     /// The stream is that from the side's handshake on, and its receiver is the one that the other side announced in the opening.
     /// There are none in the opening, and without a whole handshake of the side.
-    pub fn verdicts(&self, side: Side) -> Option<Verdicts>
+    pub fn verdicts(&self, side: Side) -> Option<Judgement>
         ensures { (a b : Past) → IsTalk a b self.now
             → AreVerdicts (is_in_opening self.now) (terms_of self.now) (of_side side a b) (of_side (other side) a b) result }
     {

@@ -1,9 +1,9 @@
-use Rattle.std.proofs.Common.{◌≡◌, ◌∙◌, ℕ, Option, Some, sym, ap}
+use Rattle.std.proofs.Common.{◌≡◌, ◌∙◌, ℕ, Option, sym, ap}
 use Rattle.bt_wire.specs.Streams.{Outcome}
 use Rattle.bt_jobs.specs.Others.{first_of, own_of_other}
 use Rattle.bt_intro.specs.Listening.{handshake_of}
 use Rattle.bt_intro.specs.Settling.{receiver_by}
-use Rattle.bt_talk.specs.Terms.{limit_of, pieces_for}
+use Rattle.bt_talk.specs.Terms.{pieces_for}
 use Rattle.bt_talk.proofs.Receivers.{limited, said_only}
 use Rattle.bt_talk.proofs.stage.receiver_between.Goals as goal
 

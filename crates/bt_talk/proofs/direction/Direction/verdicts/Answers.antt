@@ -8,7 +8,7 @@ pub returns-in-Open : goal.returns-in-Open
 returns-in-Open c = λ terms p other d.
     let s = subst (λ (s : Stage). IsStage terms p other s) c.in-Open.is d.stage in
     let own = c.in-Open.judged.receiver.own in
-    subst (λ (o : Bool). AreVerdicts o terms p other (Some c.ended.result)) (sym (ap is_opening c.in-Open.is)) (
+    subst (λ (o : Bool). AreVerdicts o terms p other (Some c.judgement_of.result)) (sym (ap is_opening c.in-Open.is)) (
       c.in-Open.judged.receiver,
       s.0,
       record {
@@ -16,6 +16,6 @@ returns-in-Open c = λ terms p other d.
         first = s.1.first;
         free = s.1.free;
         bep = s.1.bep;
-        told = c.ended.ensures own (drop s.1.start p.out) s.1.free s.1.bep s.1.judged;
+        told = c.judgement_of.ensures own (drop s.1.start p.out) s.1.free s.1.bep s.1.judged;
       },
     )
