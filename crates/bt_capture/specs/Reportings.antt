@@ -14,6 +14,7 @@ use Rattle.bt_talk.specs.Receivers.{AreVerdicts, IsReceiverNow}
 use Rattle.bt_talk.specs.Closing.{high_at}
 use Rattle.bt_talk.specs.Cuts.{IsLastBefore}
 use Rattle.bt_talk.specs.Talks.{IsTalk, of_side, flow_of, cut_of, is_in_opening, terms_of, ends_of, closing_of}
+use Rattle.bt_talk.specs.Unanswered.{AreUnanswered}
 use Rattle.bt_talk.specs.Watching.{AreRemarked}
 use Rattle.bt_talk.specs.declared.talk.Talk.{Talk}
 use Rattle.bt_tcp.specs.declared.covered.Gap.{Gap}
@@ -147,10 +148,15 @@ IsClosedBy from a b t (Some c) (Some r) = IsClosing from a b t c r
 abbrev pub no_remarks : Remarked
 no_remarks = record { unasked = None; choked = None; again = None; unanswered = None; elsewhere = None }
 
--- The remarks are those on the items of both sides; there are none if a side has no whole handshake.
+-- The remarks are those on a side's items, and its requests that got no answer.
+abbrev pub AreRemarksOn : Side → (a b : Past) (t : Talk) → IsTalk a b t → Remarked → Type 0
+AreRemarksOn side a b t i r =
+    AreRemarked side i.said.events (i.said.items side) r × AreUnanswered side a b t i.said.events (i.said.items side) r.unanswered
+
+-- The remarks are those on what both sides sent; there are none if a side has no whole handshake.
 abbrev pub AreRemarksOf : Past → Past → Talk → Remarked → Remarked → Type 0
 AreRemarksOf a b t x y =
-    ((i : IsTalk a b t) × AreRemarked A i.said.events (i.said.items A) x × AreRemarked B i.said.events (i.said.items B) y)
+    ((i : IsTalk a b t) × AreRemarksOn A a b t i x × AreRemarksOn B a b t i y)
     ⊎ ((x ≡ no_remarks) × (y ≡ no_remarks) × (IsReceiverOf A a b t None ⊎ IsReceiverOf B a b t None))
 
 -- It is a BitTorrent connection if a side has begun a handshake.

@@ -187,7 +187,7 @@ pub fn body_of(talk: &Talk, from: u64) -> Body
 
 /// Returns the report on a connection.
 ///
-/// Its verdicts are those of both streams, as far as they were captured. Requests that got no answer aren't told.
+/// Its verdicts are those of both streams, as far as they were captured.
 /// `from` is the time of the capture's first packet.
 pub fn report_of(talk: &Talk, number: u64, from: u64) -> Report
     ensures { (a b : Past) → IsTalk a b talk.now → IsReportOf number from a b talk.now result }

@@ -11,7 +11,12 @@ one_none (Some r) None e = inr refl
 one_none (Some r) (Some s) e = absurd (cc)
 
 pub returns : goal.returns
-returns c = λ a b i. inl (i, c.remarked.ensures a b i, c.remarked-2.ensures a b i)
+returns c = λ a b i.
+    inl (
+      i,
+      (c.remarked.ensures.remarked a b i, c.remarked.ensures.unanswered a b i),
+      (c.remarked-2.ensures.remarked a b i, c.remarked-2.ensures.unanswered a b i),
+    )
 
 pub returns-then-not-are_both_judged : goal.returns-then-not-are_both_judged
 returns-then-not-are_both_judged c = λ a b i.
