@@ -1,5 +1,5 @@
 //! One direction of a captured TCP connection.
-ghost use Rattle.std.specs.Prelude.{◌≡◌, ℕ, ◌+◌, ◌<◌, ◌^◌, List, [], ◌∷◌, ◌++◌, length, IsSome, IsTrue, ◌↔◌, OnOk, OnErr};
+ghost use Rattle.std.specs.Prelude.{◌≡◌, ℕ, ◌+◌, ◌<◌, ◌≤◌, ◌^◌, List, [], ◌∷◌, ◌++◌, length, IsSome, IsTrue, ◌↔◌, OnOk, OnErr};
 ghost use Rattle.bt_flow.specs.Counts.{counts, is_closed_at, from_base};
 
 use crate::noted::Noted;
@@ -302,6 +302,20 @@ impl Flow {
         match &self.stream {
             Some(stream) => stream.held(),
             None => 0,
+        }
+    }
+
+    /// Returns how many bytes of memory it takes besides its own fields.
+    pub fn size(&self) -> usize
+        ensures { held_in self.now.stream ≤ result }
+    {
+        let stream = match &self.stream {
+            Some(stream) => stream.size(),
+            None => 0,
+        };
+        match &self.noted {
+            Some(noted) => stream.saturating_add(noted.size()),
+            None => stream,
         }
     }
 }

@@ -5,6 +5,7 @@ ghost use Rattle.bt_flow.specs.Apart.{AreApart-prop};
 
 use bt_tcp::{Gaps, Span, Spans};
 use std::alloc::{AllocError, Global};
+use std::mem::size_of;
 
 /// How many spans there may be.
 const SPANS: usize = 1024;
@@ -63,5 +64,12 @@ impl Noted {
         ensures { AreGaps (is_covered (spans_in self.now)) next (sent_end (spans_in self.now) sent) result }
     {
         self.spans.gaps(&self.table, next, sent)
+    }
+
+    /// Returns how many bytes of memory it takes besides its own fields.
+    pub fn size(&self) -> usize
+        ensures { length self.now.table.items ≤ result }
+    {
+        self.table.capacity().saturating_mul(size_of::<Span>())
     }
 }

@@ -1,5 +1,5 @@
 //! A stream from its base on, with the memory that it owns.
-ghost use Rattle.std.specs.Prelude.{◌≡◌, ℕ, ◌+◌, ◌-◌, ◌<◌, ◌^◌, List, [], ◌++◌, length, true, false, min, IfOk, OnOk, OnErr};
+ghost use Rattle.std.specs.Prelude.{◌≡◌, ℕ, ◌+◌, ◌-◌, ◌<◌, ◌≤◌, ◌^◌, List, [], ◌++◌, length, true, false, min, IfOk, OnOk, OnErr};
 ghost use Rattle.bt_tcp.specs.History.{IsHistory};
 
 use crate::window::Window;
@@ -73,6 +73,13 @@ impl Stream {
         ensures { result + 1 ≡ capacity_of self.now.window }
     {
         self.window.held()
+    }
+
+    /// Returns how many bytes of memory it takes.
+    pub fn size(&self) -> usize
+        ensures { capacity_of self.now.window ≤ result }
+    {
+        self.window.size().saturating_add(self.history.capacity())
     }
 
     /// Counts the bytes of a segment that differ from those that came first.

@@ -79,6 +79,13 @@ impl Window {
         self.known.len() - 1
     }
 
+    /// Returns how many bytes of memory it takes.
+    pub fn size(&self) -> usize
+        ensures { capacity_of self.now ≤ result }
+    {
+        self.known.capacity().saturating_add(self.ahead.capacity())
+    }
+
     /// Counts the bytes of a segment that differ from those ahead.
     pub fn count_conflicts(&self, at: u64, part: &[u8]) -> usize
         requires { at + length part.now < 2 ^ 64 }

@@ -187,6 +187,17 @@ impl Half {
             && !self.came.contains(piece)
     }
 
+    /// Returns about how many bytes of memory it takes besides its own fields.
+    pub fn size(&self) -> usize {
+        let sets = self
+            .named
+            .size()
+            .saturating_add(self.allowed.size())
+            .saturating_add(self.came.size());
+        sets.saturating_add(self.blocks.size())
+            .saturating_add(self.metadata.size())
+    }
+
     /// Returns how many requests of blocks got no answer, and the first one.
     pub fn unanswered(&self, theirs: &Half, ending: Ending) -> Unanswered
         ensures { (side : Side) → (events : List Told) → IsHalf side events self.now → IsHalf (other side) events theirs.now

@@ -140,6 +140,11 @@ impl Matcher {
         }
     }
 
+    /// Returns about how many bytes of memory it takes besides its own fields: sets of pieces, and pending requests.
+    pub fn size(&self) -> usize {
+        self.a.size().saturating_add(self.b.size())
+    }
+
     /// Returns how many requests of a side got no answer, and the first one.
     ///
     /// Only requests of blocks count. Call it at the end of a connection in which both sides have the Fast Extension.

@@ -83,4 +83,11 @@ impl PieceSet {
         }
         Ok(())
     }
+
+    /// Returns how many bytes of memory it takes.
+    pub fn size(&self) -> usize
+        ensures { vec_len self.now.field ≤ result }
+    {
+        self.field.capacity()
+    }
 }

@@ -1,5 +1,5 @@
 //! The pending requests of a side.
-ghost use Rattle.std.specs.Prelude.{◌≡◌, ℕ, None, Some, OnOk, OnErr, count_by, fold, filter, max};
+ghost use Rattle.std.specs.Prelude.{◌≡◌, ◌≤◌, ℕ, None, Some, OnOk, OnErr, count_by, fold, filter, max};
 ghost use Rattle.std.specs.BTreeMap.{btree_map_len, values, IsOrdered};
 ghost use Rattle.std.specs.Ordering.{nat_cmp, ordering_then};
 ghost use Rattle.bt_remarks.specs.Requests.{has_length, is_unasked, is_again, is_too_much, is_late, sooner, request_of};
@@ -13,6 +13,9 @@ use std::collections::BTreeMap;
 
 /// A side with this many pending requests takes no further one.
 const LIMIT: usize = 65536;
+
+/// How many bytes of memory a pending request takes at most, in a node of the map that is half full.
+const ENTRY: usize = 96;
 
 /// A request that was made.
 #[derive(Clone, Copy, Debug, PartialEq, Eq)]
@@ -174,6 +177,13 @@ impl Requests {
             .iter()
             .filter(|entry| is_late(*entry.1, closed, later))
             .fold(None, |first, entry| sooner(first, (*entry.0, *entry.1)))
+    }
+
+    /// Returns about how many bytes of memory it takes.
+    pub fn size(&self) -> usize
+        ensures { btree_map_len self.now.pending ≤ result }
+    {
+        self.pending.len().saturating_mul(ENTRY)
     }
 
     /// Returns how many pending requests are late, and the first one.
