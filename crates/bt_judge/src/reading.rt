@@ -87,6 +87,11 @@ pub struct Unread<'a> {
     pub bytes: &'a [u8],
 }
 
+/// Returns how many bytes a message has that begins with this length (BEP 3, peer messages).
+fn awaited_by(length: [u8; 4]) -> usize {
+    (u32::from_be_bytes(length) as usize).saturating_add(4)
+}
+
 /// A stream that is read by one rule set, as its bytes come.
 ///
 /// It has a parser, whose buffer is reserved once. However the stream is split into pieces, the items and the verdict are the same.
@@ -176,6 +181,21 @@ impl Reading {
             },
             Err(Finish::Refused(refusal)) => Ended::Refused(refusal),
             Err(Finish::Untaken) => unreachable!(),
+        }
+    }
+
+    /// Returns how many bytes the item has that isn't whole, if that is known, or how many of it came.
+    ///
+    /// The feed's memory is in use up to there.
+    pub fn awaited(&self) -> usize
+        ensures { length self.now.feed.held ≤ result }
+    {
+        let held = self.feed.buffered();
+        match held {
+            [a, b, c, d, ..] if self.refused.is_none() && self.feed.number() > 0 => {
+                awaited_by([*a, *b, *c, *d]).max(held.len())
+            }
+            _ => held.len(),
         }
     }
 
