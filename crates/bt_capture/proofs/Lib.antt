@@ -4,6 +4,7 @@ pub mod Walking
 pub mod Viewing
 pub mod Pairing
 pub mod InOrder
+pub mod FlowLines
 pub mod Titles
 pub mod Taking
 pub mod Entries

@@ -1,13 +1,17 @@
 -- What is told while a capture is read, and at its end.
-use Rattle.std.proofs.Common.{◌≡◌, ◌∙◌, ℕ, ◌+◌, ◌-◌, ◌^◌, min, List, [], ◌∷◌, ◌++◌, length, append-nil, Option, Some, None, unwrap_or, Result, Ok, Err, refl, sym, ap, subst, arith}
+use Rattle.std.proofs.Common.{◌≡◌, ◌∙◌, inl, inr, append_assoc, ℕ, ◌+◌, ◌-◌, ◌^◌, min, List, [], ◌∷◌, ◌++◌, length, append-nil, Option, Some, None, unwrap_or, Result, Ok, Err, refl, sym, ap, subst, arith}
 use Rattle.std.specs.List.{All}
 use Rattle.std.specs.List.Sorted.{IsPermutation}
 use Rattle.std.proofs.lemmas.List.Sorted.{IsPermutation-sym}
 use Rattle.std.specs.Map.{lookup}
 use Rattle.std.specs.Io.KnownBytes.{Appends, Consumes, Keeps}
 use Rattle.std.proofs.lemmas.List.Elements.{All-nil}
-use Rattle.std.proofs.KnownBytes.{Appends-nil, Consumes-nil, Consumes-trans, Consumes-kept}
-use Rattle.bt_io.specs.Seen.{TargetSeen}
+use Rattle.std.proofs.KnownBytes.{Appends-nil, Appends-trans, Consumes-nil, Consumes-trans, Consumes-kept}
+use Rattle.bt_io.specs.Counts.{Grew}
+use Rattle.bt_io.specs.Seen.{TargetSeen, AppendsPrefix, WriteFailed}
+use Rattle.bt_utp.specs.Flows.{flows}
+use Rattle.bt_utp.specs.States.{AreCounted}
+use Rattle.bt_capture.specs.FlowTexts.{datagrams, flow_texts}
 use Rattle.bt_pcap.specs.Formats.{Captured}
 use Rattle.bt_pcap.specs.Steps.{captured}
 use Rattle.bt_pcap.specs.declared.fault.FileFault.{FileFault}
@@ -23,7 +27,7 @@ use Rattle.bt_capture.specs.Following.{Finished, IsFinished, IsShare, IsShared, 
 use Rattle.bt_capture.specs.Readings.{Reading, IsReading, GoesOn, Hands, nothing_read, shown}
 use Rattle.bt_capture.specs.Tables.{Held, IsApart, same_pair}
 use Rattle.bt_capture.specs.Tellings.{Tells, IsStopped, IsEmpty, texts}
-use Rattle.bt_capture.specs.Runs.{Origin, HasRead, IsTelling, IsLeft, AreOver, AreAllOver, AreWritten, ArePartlyWritten, AfterFault, IsOfTelling, IsOfReading, IsToldTo}
+use Rattle.bt_capture.specs.Runs.{Origin, HasRead, IsTelling, IsLeft, AreOver, AreAllOver, AreWritten, ArePartlyWritten, AfterFault, Adds, whole_text, IsOfTelling, IsOfReading, IsToldTo}
 use Rattle.bt_capture.proofs.Entries.{apart_moved, lookup_moved}
 use Rattle.bt_capture.proofs.Going.{fresh}
 use Rattle.bt_capture.proofs.Reported.{follows_moved, follows_same, stops_of}
@@ -78,12 +82,13 @@ read_kept o left left' packets r r' same keeps i = record {
 
 pub told_read : (o : Origin) (left left' : Option (List ℕ)) (now : TargetSeen) (es : List (Pair × Held)) (run : Run) (r r' : Reading)
     → ((packets : List Captured) → HasRead o left packets r → HasRead o left' packets r') → IsTelling o left now es run r → IsTelling o left' now es run r'
-told_read o left left' now es run r r' reads i = record { packets = i.packets; read = reads i.packets i.read; terms = i.terms; json = i.json; time = i.time; follows = i.follows }
+told_read o left left' now es run r r' reads i = record { packets = i.packets; read = reads i.packets i.read; terms = i.terms; json = i.json; time = i.time; follows = i.follows; utp = i.utp }
 
 pub flushed : (o : Origin) (left : Option (List ℕ)) (now after : TargetSeen) (es : List (Pair × Held)) (old new : Run) (r : Reading) → new.terms ≡ old.terms
-    → new.teller.json ≡ old.teller.json → new.start ≡ old.start → new.lost ≡ old.lost → ((reports : List Report) → Tells o.target now old.teller reports → Tells o.target after new.teller reports)
+    → new.teller.json ≡ old.teller.json → new.start ≡ old.start → new.lost ≡ old.lost → new.utp ≡ old.utp
+    → ((reports : List Report) → Tells o.target now old.teller reports → Tells o.target after new.teller reports)
     → IsTelling o left now es old r → IsTelling o left after es new r
-flushed o left now after es old new r terms json begin lost tells i =
+flushed o left now after es old new r terms json begin lost utp tells i =
     let known = i.follows.known in
     record {
       packets = i.packets;
@@ -101,6 +106,7 @@ flushed o left now after es old new r terms json begin lost tells i =
         };
         shared = subst (λ x. (k : Pair) → IsShare x (arrivals i.packets) i.follows.fs k (lookup (same_pair k) es)) (sym terms) i.follows.shared;
       };
+      utp = subst (AreCounted (datagrams i.packets)) (sym utp) i.utp;
     }
 
 finished_by : (o : Origin) (packets : List Captured) (fs : List Finished) (run : Run) → run.terms ≡ o.terms → run.start ≡ first_time packets
@@ -112,17 +118,25 @@ over_by : (o : Origin) (now : TargetSeen) (packets : List Captured) (run : Run) 
     → (s : Stops o.target now (arrivals packets) run) → AreOver o packets s.fs
 over_by o now packets run terms time s = record { finished = finished_by o packets s.fs run terms time s.known.finished; shared = s.shared }
 
+-- no lines follow the reports yet
+no_lines : (o : Origin) (now : TargetSeen) (text : List ℕ) → AppendsPrefix o.target.held now.held text → AppendsPrefix o.target.held now.held (text ++ [])
+no_lines o now text front = subst (AppendsPrefix o.target.held now.held) (sym (append-nil text)) front
+
 pub left_by : (o : Origin) (left : Option (List ℕ)) (now after : TargetSeen) (es : List (Pair × Held)) (run : Run) (r : Reading)
     → ((reports : List Report) → Tells o.target now run.teller reports → IsStopped run.teller.json o.target after reports) → IsTelling o left now es run r → IsLeft o left after
 left_by o left now after es run r stopped i =
     let s = stops_of o.target now (arrivals i.packets) es run i.follows in
+    let is = subst (λ b. IsStopped b o.target after (reports_of s.fs)) i.json (stopped (reports_of s.fs) s.known.tells) in
     record {
       packets = i.packets;
       r = r;
       read = i.read;
       fs = s.fs;
       over = over_by o now i.packets run i.terms i.time s;
-      stopped = subst (λ b. IsStopped b o.target after (reports_of s.fs)) i.json (stopped (reports_of s.fs) s.known.tells);
+      lines = [];
+      are_lines = inl refl;
+      front = no_lines o after (texts o.json (reports_of s.fs)) is.front;
+      failed = is.failed;
     }
 
 pub given_up : (o : Origin) (left : Option (List ℕ)) (now : TargetSeen) (packets : List Captured) (run : Run) (r : Reading) → HasRead o left packets r
@@ -133,7 +147,9 @@ given_up o left now packets run r read terms json time s = let t = s.known.tells
   read = read;
   fs = s.fs;
   over = over_by o now packets run terms time s;
-  front = (t.written, run.teller.text.items, ap (λ b. texts b (reports_of s.fs)) (sym json) ∙ sym t.whole, t.held);
+  lines = [];
+  are_lines = inl refl;
+  front = no_lines o now (texts o.json (reports_of s.fs)) (t.written, run.teller.text.items, ap (λ b. texts b (reports_of s.fs)) (sym json) ∙ sym t.whole, t.held);
 }
 
 pub partly : (o : Origin) (left : Option (List ℕ)) (now : TargetSeen) (es : List (Pair × Held)) (run : Run) (r : Reading) → IsTelling o left now es run r
@@ -147,6 +163,8 @@ nothing_told o = record {
   read = read_nothing o;
   fs = [];
   over = record { finished = All-nil (IsFinished o.terms 0); shared = λ k. ([], refl) };
+  lines = [];
+  are_lines = inl refl;
   front = ([], [], refl, Appends-nil o.target.held);
 }
 
@@ -163,16 +181,57 @@ all_over o left now run r i = record {
   shared = λ k. let s = i.follows.shared k in subst (IsShared k (arrivals i.packets) i.follows.fs) s.is s.share;
 }
 
-all_written : (o : Origin) (left : Option (List ℕ)) (now : TargetSeen) (run : Run) (r : Reading) → IsEmpty run.teller → IsTelling o left now [] run r → AreWritten o left now
-all_written o left now run r empty i = record {
+-- the reports and the lines on uTP, one after the other
+pub whole_written : (o : Origin) (left : Option (List ℕ)) (before now : TargetSeen) (run : Run) (r : Reading) → IsEmpty run.teller → (i : IsTelling o left before [] run r)
+    → Appends before.held now.held (flow_texts run.teller.json (flows (datagrams i.packets))) → Appends o.target.held now.held (whole_text o i.packets i.follows.fs)
+whole_written o left before now run r empty i held =
+    let reports = reports_of i.follows.fs in
+    subst (λ b. Appends o.target.held now.held (texts b reports ++ flow_texts b (flows (datagrams i.packets)))) i.json
+    (Appends-trans o.target.held before.held now.held (texts run.teller.json reports) (flow_texts run.teller.json (flows (datagrams i.packets)))
+    (texts_written o.target before run.teller reports empty i.follows.known.tells) held)
+
+all_written : (o : Origin) (left : Option (List ℕ)) (before now : TargetSeen) (run : Run) (r : Reading) → IsEmpty run.teller → (i : IsTelling o left before [] run r)
+    → Appends before.held now.held (flow_texts run.teller.json (flows (datagrams i.packets))) → AreWritten o left now
+all_written o left before now run r empty i held = record {
   packets = i.packets;
   r = r;
   read = i.read;
   fs = i.follows.fs;
-  over = all_over o left now run r i;
-  written = subst (λ b. Appends o.target.held now.held (texts b (reports_of i.follows.fs))) i.json
-      (texts_written o.target now run.teller (reports_of i.follows.fs) empty i.follows.known.tells);
+  over = all_over o left before run r i;
+  written = whole_written o left before now run r empty i held;
 }
+
+-- The lines on uTP couldn't be made or written.
+part_written : (o : Origin) (left : Option (List ℕ)) (before now : TargetSeen) (run : Run) (r : Reading) → IsEmpty run.teller → (i : IsTelling o left before [] run r)
+    → AppendsPrefix before.held now.held (flow_texts run.teller.json (flows (datagrams i.packets))) → WriteFailed before now → IsLeft o left now
+part_written o left before now run r empty i p failed =
+    let reports = reports_of i.follows.fs in
+    let lines = flow_texts run.teller.json (flows (datagrams i.packets)) in
+    let known = i.follows.known in
+    record {
+      packets = i.packets;
+      r = r;
+      read = i.read;
+      fs = i.follows.fs;
+      over = over_by o before i.packets run i.terms i.time (stops_of o.target before (arrivals i.packets) [] run i.follows);
+      lines = flow_texts o.json (flows (datagrams i.packets));
+      are_lines = inr (all_over o left before run r i, refl);
+      front = subst (λ b. AppendsPrefix o.target.held now.held (texts b reports ++ flow_texts b (flows (datagrams i.packets)))) i.json (
+        texts run.teller.json reports ++ p.0,
+        p.1,
+        ap (λ l. texts run.teller.json reports ++ l) p.2 ∙ sym (append_assoc (texts run.teller.json reports) p.0 p.1),
+        Appends-trans o.target.held before.held now.held (texts run.teller.json reports) p.0 (texts_written o.target before run.teller reports empty known.tells) p.3,
+      );
+      failed = subst (λ (n : ℕ). Grew n now.failed) known.tells.calm failed;
+    }
+
+pub not_added : {T : Type 0} (f : CaptureFault) (o : Origin) (left : Option (List ℕ)) (before now : TargetSeen) (run : Run) (r : Reading) → IsEmpty run.teller
+    → (i : IsTelling o left before [] run r) → Adds {T = T} (flow_texts run.teller.json (flows (datagrams i.packets))) before now (Err f) → IsToldTo f o left now
+not_added Write o left before now run r empty i a = part_written o left before now run r empty i a.0 a.1
+not_added Memory o left before now run r empty i a = subst (ArePartlyWritten o left) (sym a) (partly o left before [] run r i)
+not_added (File f) o left before now run r empty i a = absurd a
+not_added Read o left before now run r empty i a = absurd a
+not_added Turns o left before now run r empty i a = absurd a
 
 -- The text couldn't be made or written.
 pub told_fault : (f : CaptureFault) (o : Origin) (left : Option (List ℕ)) (now : TargetSeen) (es : List (Pair × Held)) (run : Run) (r : Reading) → IsOfTelling f
@@ -184,13 +243,13 @@ told_fault Read o left now es run r x i = absurd x
 told_fault Turns o left now es run r x i = absurd x
 
 -- The file couldn't be read on.
-pub told_unread : (f : CaptureFault) (o : Origin) (left : Option (List ℕ)) (now : TargetSeen) (run : Run) (r : Reading) → IsOfReading f → IsEmpty run.teller
-    → IsTelling o left now [] run r → IsToldTo f o left now
-told_unread Write o left now run r x empty i = absurd x
-told_unread Memory o left now run r x empty i = absurd x
-told_unread (File f) o left now run r x empty i = all_written o left now run r empty i
-told_unread Read o left now run r x empty i = all_written o left now run r empty i
-told_unread Turns o left now run r x empty i = absurd x
+pub told_unread : (f : CaptureFault) (o : Origin) (left : Option (List ℕ)) (before now : TargetSeen) (run : Run) (r : Reading) → IsOfReading f → IsEmpty run.teller
+    → (i : IsTelling o left before [] run r) → Appends before.held now.held (flow_texts run.teller.json (flows (datagrams i.packets))) → IsToldTo f o left now
+told_unread Write o left before now run r x empty i held = absurd x
+told_unread Memory o left before now run r x empty i held = absurd x
+told_unread (File f) o left before now run r x empty i held = all_written o left before now run r empty i held
+told_unread Read o left before now run r x empty i held = all_written o left before now run r empty i held
+told_unread Turns o left before now run r x empty i held = absurd x
 
 -- A fault of telling leaves no connection.
 pub fault_any : (f : CaptureFault) (o : Origin) (left : Option (List ℕ)) (now : TargetSeen) (es gs : List (Pair × Held)) (run : Run) (r : Reading) → IsOfTelling f
@@ -216,17 +275,19 @@ told_rest o left now old new es r all apart same i =
       json = i.json;
       time = i.time;
       follows = follows_same o.target now (arrivals i.packets) es old mid refl refl refl refl moves;
+      utp = i.utp;
     })
 
 -- ---- the begin
 
-pub begins : (o : Origin) (run : Run) (r : Reading) → run.terms ≡ o.terms → run.teller.json ≡ o.json → run.start ≡ None → Follows o.target o.target [] run.table run → r ≡ nothing_read
-    → IsTelling o o.left o.target run.table run r
-begins o run r terms json begin follows same = record {
+pub begins : (o : Origin) (run : Run) (r : Reading) → run.terms ≡ o.terms → run.teller.json ≡ o.json → run.start ≡ None → Follows o.target o.target [] run.table run
+    → AreCounted [] run.utp → r ≡ nothing_read → IsTelling o o.left o.target run.table run r
+begins o run r terms json begin follows utp same = record {
   packets = [];
   read = subst (HasRead o o.left []) (sym same) (read_nothing o);
   terms = terms;
   json = json;
   time = begin;
   follows = follows;
+  utp = utp;
 }

@@ -4,6 +4,7 @@ pub mod Walks
 pub mod Ends
 pub mod Sights
 pub mod Pairs
+pub mod FlowTexts
 pub mod Arrivals
 pub mod Connections
 pub mod Tellings

@@ -1,9 +1,9 @@
 -- What was told of a capture.
 use Rattle.bt_talk.specs.declared.terms.Terms.{Terms}
-use Rattle.std.specs.Prelude.{◌≡◌, ℕ, ◌-◌, ◌^◌, min, Bool, true, false, List, [], length, Option, unwrap_or, Result, Ok, Err}
+use Rattle.std.specs.Prelude.{◌≡◌, ◌⊎◌, ℕ, ◌-◌, ◌^◌, ◌++◌, min, Bool, true, false, List, [], length, Option, unwrap_or, Result, Ok, Err}
 use Rattle.std.specs.List.{All}
 use Rattle.std.specs.Io.KnownBytes.{Appends, Consumes}
-use Rattle.bt_io.specs.Seen.{SourceSeen, TargetSeen, AppendsPrefix}
+use Rattle.bt_io.specs.Seen.{SourceSeen, TargetSeen, AppendsPrefix, WriteFailed}
 use Rattle.bt_pcap.specs.Formats.{Captured}
 use Rattle.bt_capture.specs.declared.connections.Run.{Run}
 use Rattle.bt_capture.specs.declared.ending.CaptureEnd.{CaptureEnd}
@@ -18,7 +18,10 @@ use Rattle.bt_capture.specs.Ends.{IsEnded}
 use Rattle.bt_capture.specs.Following.{Finished, IsFinished, IsShared, Follows, reports_of, count_lost}
 use Rattle.bt_capture.specs.Readings.{Reading, IsReading}
 use Rattle.bt_capture.specs.Tables.{Held}
-use Rattle.bt_capture.specs.Tellings.{IsStopped, texts, count_torrents, is_one_refused}
+use Rattle.bt_utp.specs.Flows.{flows}
+use Rattle.bt_utp.specs.States.{AreCounted}
+use Rattle.bt_capture.specs.FlowTexts.{datagrams, flow_texts}
+use Rattle.bt_capture.specs.Tellings.{texts, count_torrents, is_one_refused}
 
 -- ---- what a run begins with
 
@@ -48,6 +51,7 @@ pub record IsTelling (o : Origin) (left : Option (List ℕ)) (now : TargetSeen) 
   pub json : run.teller.json ≡ o.json
   pub time : run.start ≡ first_time packets
   pub follows : Follows o.target now (arrivals packets) es run
+  pub utp : AreCounted (datagrams packets) run.utp
 
 -- ---- at its end
 
@@ -65,7 +69,12 @@ abbrev pub is_cut_by : FileEnd → Bool
 is_cut_by Whole = false
 is_cut_by Cut = true
 
--- The file was read to its end. What was written are the texts of the reports on all its connections, in order, and these add up to this.
+-- the texts of the reports on connections, in order, and after them the lines on packets of uTP
+abbrev pub whole_text : Origin → List Captured → List Finished → List ℕ
+whole_text o packets fs = texts o.json (reports_of fs) ++ flow_texts o.json (flows (datagrams packets))
+
+-- The file was read to its end. What was written are the texts of the reports on all its connections, in order, and the lines on uTP.
+-- The reports add up to this.
 pub record IsEndOf (o : Origin) (left : Option (List ℕ)) (now : TargetSeen) (end : CaptureEnd) : Type 0 where
   pub packets : List Captured
   pub r : Reading
@@ -76,38 +85,47 @@ pub record IsEndOf (o : Origin) (left : Option (List ℕ)) (now : TargetSeen) (e
   pub count : end.packets ≡ min (length packets) (2 ^ 64 - 1)
   pub fs : List Finished
   pub over : AreAllOver o packets fs
-  pub written : Appends o.target.held now.held (texts o.json (reports_of fs))
+  pub written : Appends o.target.held now.held (whole_text o packets fs)
   pub calm : now.failed ≡ o.target.failed
   pub torrents : end.torrents ≡ count_torrents (reports_of fs)
   pub refused : end.is_refused ≡ is_one_refused (reports_of fs)
   pub lost : end.lost ≡ count_lost fs
 
--- The texts of the reports on all connections of what was read are written.
+-- The texts of the reports on all connections of what was read are written, and the lines on uTP.
 pub record AreWritten (o : Origin) (left : Option (List ℕ)) (now : TargetSeen) : Type 0 where
   pub packets : List Captured
   pub r : Reading
   pub read : HasRead o left packets r
   pub fs : List Finished
   pub over : AreAllOver o packets fs
-  pub written : Appends o.target.held now.held (texts o.json (reports_of fs))
+  pub written : Appends o.target.held now.held (whole_text o packets fs)
 
--- The first part of the texts of reports on connections of what was read is written.
+-- No lines on uTP, as long as a connection may be left
+abbrev pub AreLines : Origin → List Captured → List Finished → List ℕ → Type 0
+AreLines o packets fs lines = (lines ≡ []) ⊎ (AreAllOver o packets fs × (lines ≡ flow_texts o.json (flows (datagrams packets))))
+
+-- The first part of the texts of reports on connections of what was read, and of the lines on uTP after all of them, is written.
 pub record ArePartlyWritten (o : Origin) (left : Option (List ℕ)) (now : TargetSeen) : Type 0 where
   pub packets : List Captured
   pub r : Reading
   pub read : HasRead o left packets r
   pub fs : List Finished
   pub over : AreOver o packets fs
-  pub front : AppendsPrefix o.target.held now.held (texts o.json (reports_of fs))
+  pub lines : List ℕ
+  pub are_lines : AreLines o packets fs lines
+  pub front : AppendsPrefix o.target.held now.held (texts o.json (reports_of fs) ++ lines)
 
--- A write failed: the first part of the texts is written.
+-- A write failed: the first part of the texts is written, or all of them and the first part of the lines on uTP.
 pub record IsLeft (o : Origin) (left : Option (List ℕ)) (now : TargetSeen) : Type 0 where
   pub packets : List Captured
   pub r : Reading
   pub read : HasRead o left packets r
   pub fs : List Finished
   pub over : AreOver o packets fs
-  pub stopped : IsStopped o.json o.target now (reports_of fs)
+  pub lines : List ℕ
+  pub are_lines : AreLines o packets fs lines
+  pub front : AppendsPrefix o.target.held now.held (texts o.json (reports_of fs) ++ lines)
+  pub failed : WriteFailed o.target now
 
 abbrev pub IsToldTo : CaptureFault → Origin → Option (List ℕ) → TargetSeen → Type 0
 IsToldTo Write o left now = IsLeft o left now
@@ -116,8 +134,8 @@ IsToldTo Read o left now = AreWritten o left now
 IsToldTo Memory o left now = ArePartlyWritten o left now
 IsToldTo Turns o left now = ArePartlyWritten o left now
 
--- What is written are the texts of the reports on the connections of the packets that were read: all of them at the end, and when the
--- file can't be read on.
+-- What is written are the texts of the reports on the connections of the packets that were read, and the lines on their packets of uTP:
+-- all of them at the end, and when the file can't be read on.
 abbrev pub IsTold : Origin → Option (List ℕ) → TargetSeen → Result CaptureEnd CaptureFault → Type 0
 IsTold o left now (Ok end) = IsEndOf o left now end
 IsTold o left now (Err f) = IsToldTo f o left now
@@ -149,3 +167,16 @@ IsOfReading Memory = ⊥
 IsOfReading (File f) = Unit {0}
 IsOfReading Read = Unit {0}
 IsOfReading Turns = ⊥
+
+-- These bytes were written; or a write failed, and the first part was; or memory ran out, and nothing was.
+abbrev pub Adds : {T : Type 0} → List ℕ → TargetSeen → TargetSeen → Result T CaptureFault → Type 0
+Adds bytes before now (Ok x) = Appends before.held now.held bytes × (now.failed ≡ before.failed)
+Adds bytes before now (Err Write) = AppendsPrefix before.held now.held bytes × WriteFailed before now
+Adds bytes before now (Err Memory) = now ≡ before
+Adds bytes before now (Err (File f)) = ⊥
+Adds bytes before now (Err Read) = ⊥
+Adds bytes before now (Err Turns) = ⊥
+
+-- It was done.
+abbrev pub done : Result (Unit {0}) CaptureFault
+done = Ok tt

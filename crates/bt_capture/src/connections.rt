@@ -1,11 +1,15 @@
 //! The connections of a capture, and the reports of those that are over.
-ghost use Rattle.std.specs.Prelude.{◌≡◌, ◌∷◌, ◌++◌, [], ◌+◌, ◌-◌, ◌^◌, ◌<◌, min, ℕ, List, length, None, IfOk};
+ghost use Rattle.std.specs.Prelude.{◌≡◌, ◌∷◌, ◌++◌, [], ◌+◌, ◌-◌, ◌^◌, ◌<◌, min, ℕ, List, length, None, IfOk, OnOk};
 ghost use Rattle.std.specs.Map.{lookup};
 ghost use Rattle.std.specs.List.Sorted.{IsPermutation};
 ghost use Rattle.bt_io.specs.Seen.{TargetSeen};
 ghost use Rattle.bt_pcap.specs.Formats.{Captured};
 ghost use Rattle.bt_pcap.specs.Steps.{captured};
 ghost use Rattle.bt_capture.specs.Arrivals.{Arrival, arrived, arrivals, arrivals_in, first_time};
+ghost use Rattle.bt_utp.specs.Flows.{flows};
+ghost use Rattle.bt_utp.specs.States.{AreCounted};
+ghost use Rattle.bt_packet.specs.declared.utp.Utp.{Utp};
+ghost use Rattle.bt_capture.specs.FlowTexts.{datagrams, datagrams_in, flow_texts};
 ghost use Rattle.bt_capture.specs.Following.{Follows, Goes, Finds};
 ghost use Rattle.bt_capture.specs.Sights.{seen};
 ghost use Rattle.bt_capture.specs.Tables.{Held, same_pair, IsApart};
@@ -16,9 +20,11 @@ use crate::pair::Pair;
 use crate::sight::{Sight, sight_of};
 use crate::table::Table;
 use crate::telling::Teller;
+use crate::utp::flow_lines;
 use bt_packet::Segment;
 use bt_pcap::Packet;
 use bt_talk::{Room, Terms, When};
+use bt_utp::UtpFlows;
 use std::alloc::{AllocError, Global};
 
 /// How many bytes of memory the connections take together. Past that the one that was used least recently is over.
@@ -37,6 +43,8 @@ pub struct Run {
     /// How many connections have begun.
     begun: u64,
     pub teller: Teller,
+    /// The packets of uTP, which are counted.
+    utp: UtpFlows,
     room: Room,
     pub skipped: u64,
     pub lost: u64,
@@ -52,6 +60,7 @@ impl Run {
         ensures start { IfOk result (λ run. run.start ≡ None) }
         ensures terms { IfOk result (λ run. run.terms ≡ terms) }
         ensures json { IfOk result (λ run. run.teller.json ≡ json) }
+        ensures utp { IfOk result (λ run. AreCounted [] run.utp) }
     {
         Ok(Run {
             alloc,
@@ -61,6 +70,7 @@ impl Run {
             bytes: 0,
             begun: 0,
             teller: Teller::new(alloc, json),
+            utp: UtpFlows::new(alloc),
             room: Room::new(alloc)?,
             skipped: 0,
             lost: 0,
@@ -78,6 +88,7 @@ impl Run {
         ensures terms { self.new.terms ≡ self.old.terms }
         ensures json { self.new.teller.json ≡ self.old.teller.json }
         ensures start { self.new.start ≡ self.old.start }
+        ensures utp { self.new.utp ≡ self.old.utp }
     {
         if !connection.has_payload {
             return Ok(());
@@ -102,6 +113,7 @@ impl Run {
         ensures terms { self.new.terms ≡ self.old.terms }
         ensures json { self.new.teller.json ≡ self.old.teller.json }
         ensures start { self.new.start ≡ self.old.start }
+        ensures utp { self.new.utp ≡ self.old.utp }
     {
         match self.table.take_oldest() {
             Some((_, oldest)) => {
@@ -119,6 +131,7 @@ impl Run {
         ensures terms { self.new.terms ≡ self.old.terms }
         ensures json { self.new.teller.json ≡ self.old.teller.json }
         ensures start { self.new.start ≡ self.old.start }
+        ensures utp { self.new.utp ≡ self.old.utp }
     {
         'oldest: while self.bytes > BYTES && self.table.len() > 0 {
             match self.end_oldest() {
@@ -140,6 +153,7 @@ impl Run {
         ensures terms { self.new.terms ≡ self.old.terms }
         ensures json { self.new.teller.json ≡ self.old.teller.json }
         ensures start { self.new.start ≡ self.old.start }
+        ensures utp { self.new.utp ≡ self.old.utp }
     {
         self.bytes = self.bytes.saturating_add(connection.size());
         match self.table.put(pair, connection) {
@@ -156,6 +170,7 @@ impl Run {
         ensures terms { self.new.terms ≡ self.old.terms }
         ensures json { self.new.teller.json ≡ self.old.teller.json }
         ensures start { self.new.start ≡ self.old.start }
+        ensures utp { self.new.utp ≡ self.old.utp }
     {
         let connection = Connection::new(self.alloc, self.begun, segment, self.terms);
         self.begun = self.begun.saturating_add(1);
@@ -180,6 +195,7 @@ impl Run {
         ensures terms { self.new.terms ≡ self.old.terms }
         ensures json { self.new.teller.json ≡ self.old.teller.json }
         ensures start { self.new.start ≡ self.old.start }
+        ensures utp { self.new.utp ≡ self.old.utp }
     {
         if !connection.talk.is_over(when.nanos) && !connection.talk.opens_again(segment) {
             return Ok(connection);
@@ -203,6 +219,7 @@ impl Run {
         ensures terms { self.new.terms ≡ self.old.terms }
         ensures json { self.new.teller.json ≡ self.old.teller.json }
         ensures start { self.new.start ≡ self.old.start }
+        ensures utp { self.new.utp ≡ self.old.utp }
     {
         match self.table.take_out(pair) {
             Some(connection) => {
@@ -220,6 +237,7 @@ impl Run {
         ensures terms { self.new.terms ≡ self.old.terms }
         ensures json { self.new.teller.json ≡ self.old.teller.json }
         ensures start { self.new.start ≡ self.old.start }
+        ensures utp { self.new.utp ≡ self.old.utp }
     {
         let pair = Pair::of(segment.source, segment.target);
         match self.connection_of(pair, segment, when) {
@@ -245,12 +263,16 @@ impl Run {
         ensures terms { self.new.terms ≡ self.old.terms }
         ensures json { self.new.teller.json ≡ self.old.teller.json }
         ensures start { self.new.start ≡ self.old.start }
+        ensures utp { OnOk result ((ds : List Utp) → AreCounted ds self.old.utp → AreCounted (ds ++ datagrams_in (seen sight.now)) self.new.utp) }
     {
         match sight {
             Sight::Segment(segment) => self.take_segment(segment, when),
-            Sight::Utp(_) => {
+            Sight::Utp(datagram) => {
                 self.skip();
-                Ok(())
+                match self.utp.take(datagram) {
+                    Ok(()) => Ok(()),
+                    Err(error) => Err(error),
+                }
             }
             Sight::Other => {
                 self.skip();
@@ -270,6 +292,7 @@ impl Run {
         ensures terms { self.new.terms ≡ self.old.terms }
         ensures json { self.new.teller.json ≡ self.old.teller.json }
         ensures start { (packets : List Captured) → self.old.start ≡ first_time packets → self.new.start ≡ first_time (packets ++ captured packet.now ∷ []) }
+        ensures utp { OnOk result ((packets : List Captured) → AreCounted (datagrams packets) self.old.utp → AreCounted (datagrams (packets ++ captured packet.now ∷ [])) self.new.utp) }
     {
         self.start = self.start.or(Some(packet.nanos));
         let when = When {
@@ -294,5 +317,15 @@ impl Run {
         }
         rest.sort_by_key(|(_, connection)| connection.number)?;
         Ok(rest)
+    }
+
+    /// Returns the lines on packets of uTP.
+    ///
+    /// # Errors
+    /// `AllocError` when out of memory.
+    pub fn utp_lines(&self) -> Result<Vec<u8>, AllocError>
+        ensures { IfOk result (λ text. (ds : List Utp) → AreCounted ds self.now.utp → text.items ≡ flow_texts self.now.teller.json (flows ds)) }
+    {
+        flow_lines(self.alloc, &self.utp, self.teller.json)
     }
 }

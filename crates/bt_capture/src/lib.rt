@@ -13,6 +13,7 @@ mod run;
 mod sight;
 mod table;
 mod telling;
+mod utp;
 mod walk;
 
 pub use ending::{CaptureEnd, CaptureFault, CaptureJob};

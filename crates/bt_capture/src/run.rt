@@ -2,11 +2,15 @@
 ghost use Rattle.std.specs.Prelude.{◌≡◌, ◌<◌, ℕ, List, [], ◌∷◌, length, Option, None, Ok, OnOk, IfOk, IfErr, IfSome, false};
 ghost use Rattle.std.specs.Map.{lookup};
 ghost use Rattle.bt_io.specs.Seen.{TargetSeen};
+ghost use Rattle.bt_packet.specs.declared.utp.Utp.{Utp};
+ghost use Rattle.bt_utp.specs.Flows.{flows};
+ghost use Rattle.bt_utp.specs.States.{AreCounted};
 ghost use Rattle.bt_capture.specs.Ends.{IsEnded};
+ghost use Rattle.bt_capture.specs.FlowTexts.{datagrams, flow_texts};
 ghost use Rattle.bt_capture.specs.Readings.{Reading};
 ghost use Rattle.bt_capture.specs.Tables.{Held, same_pair};
 ghost use Rattle.bt_capture.specs.Tellings.{IsEmpty};
-ghost use Rattle.bt_capture.specs.Runs.{Origin, origin, IsTelling, IsOfTelling, IsOfReading, IsAfter, IsTold, IsEndOf, is_cut_by};
+ghost use Rattle.bt_capture.specs.Runs.{Adds, Origin, done, origin, IsTelling, IsOfTelling, IsOfReading, IsAfter, IsTold, IsEndOf, is_cut_by};
 ghost use Rattle.bt_capture.specs.declared.connections.Run.{Run};
 ghost use Rattle.bt_capture.specs.declared.pair.Pair.{Pair};
 
@@ -16,6 +20,7 @@ use crate::ending::{CaptureEnd, CaptureFault, CaptureJob};
 use crate::fault::ReadFault;
 use crate::packets::{FileEnd, Packets};
 use bt_io::{Source, Target};
+use bt_jobs::output::write_out;
 use std::alloc::Global;
 
 /// Writes the text that is kept.
@@ -178,6 +183,20 @@ fn finish<W: Target>(run: &mut Run, writer: &mut W) -> Result<(), CaptureFault>
     write(run, writer)
 }
 
+/// Writes the lines on packets of uTP, after all reports.
+fn write_utp<W: Target>(run: &Run, writer: &mut W) -> Result<(), CaptureFault>
+    ensures { (ds : List Utp) → AreCounted ds run.now.utp
+        → Adds (flow_texts run.now.teller.json (flows ds)) (W.seen writer.old) (W.seen writer.new) result }
+{
+    let Ok(lines) = run.utp_lines() else {
+        return Err(CaptureFault::Memory);
+    };
+    let Ok(()) = write_out(writer, lines.as_slice(), ()) else {
+        return Err(CaptureFault::Write);
+    };
+    Ok(())
+}
+
 /// Tells whether the file ended inside an item.
 fn is_cut(end: FileEnd) -> bool
     ensures { result ≡ is_cut_by end }
@@ -190,8 +209,8 @@ fn is_cut(end: FileEnd) -> bool
 
 /// Returns what the capture had, once all is told.
 fn end_of(run: &Run, packets: &Packets, end: FileEnd) -> CaptureEnd
-    ensures { (o : Origin) (left : Option (List ℕ)) (now : TargetSeen) → IsTelling o left now [] run.now packets.now → IsEmpty run.now.teller
-        → IsEnded packets.now (Ok end) → IsEndOf o left now result }
+    ensures { (o : Origin) (left : Option (List ℕ)) (before now : TargetSeen) (i : IsTelling o left before [] run.now packets.now) → IsEmpty run.now.teller
+        → IsEnded packets.now (Ok end) → Adds (flow_texts run.now.teller.json (flows (datagrams i.packets))) before now done → IsEndOf o left now result }
 {
     CaptureEnd {
         packets: packets.packets(),
@@ -203,7 +222,7 @@ fn end_of(run: &Run, packets: &Packets, end: FileEnd) -> CaptureEnd
     }
 }
 
-/// Tells of the connections that are left, and returns what the capture had.
+/// Tells of the connections that are left and of uTP, and returns what the capture had.
 fn end_whole<W: Target>(
     run: &mut Run,
     packets: &Packets,
@@ -214,12 +233,15 @@ fn end_whole<W: Target>(
         → IsTold o left (W.seen writer.new) result }
 {
     match finish(run, writer) {
-        Ok(()) => Ok(end_of(run, packets, end)),
+        Ok(()) => match write_utp(run, writer) {
+            Ok(()) => Ok(end_of(run, packets, end)),
+            Err(fault) => Err(fault),
+        },
         Err(fault) => Err(fault),
     }
 }
 
-/// Tells of the connections that are left, since the file can't be read on.
+/// Tells of the connections that are left and of uTP, since the file can't be read on.
 fn end_unread<W: Target>(
     run: &mut Run,
     fault: CaptureFault,
@@ -230,7 +252,10 @@ fn end_unread<W: Target>(
         → IsTold o left (W.seen writer.new) result }
 {
     match finish(run, writer) {
-        Ok(()) => Err(fault),
+        Ok(()) => match write_utp(run, writer) {
+            Ok(()) => Err(fault),
+            Err(other) => Err(other),
+        },
         Err(other) => Err(other),
     }
 }
@@ -257,8 +282,8 @@ fn tell_all<R: Source, W: Target>(
 
 /// Writes a report on each TCP connection of a capture file of which a byte was captured, and returns what the capture had.
 ///
-/// A connection is reported when it is over; the others at the end, in the order of their numbers. What was told is written before
-/// more is read. If a read fails or the file is broken, all that was read up to there is reported.
+/// A connection is reported when it is over; the others at the end, in the order of their numbers. After all reports there is a line
+/// on each two ends with packets of uTP, in the order of the first ones. What was told is written before more is read. If a read fails or the file is broken, all that was read up to there is reported.
 ///
 /// # Errors
 /// `File` if the bytes aren't those of a capture file. `Read` if a read failed, `Write` if a write failed or took no byte, `Memory`

@@ -1,12 +1,10 @@
-use Rattle.std.proofs.Common.{◌∙◌, subst}
-use Rattle.std.specs.Io.KnownBytes.{Appends}
+use Rattle.std.proofs.Common.{◌∙◌}
 use Rattle.bt_capture.specs.Following.{reports_of}
-use Rattle.bt_capture.specs.Tellings.{texts}
-use Rattle.bt_capture.proofs.Outcomes.{all_over, texts_written}
+use Rattle.bt_capture.proofs.Outcomes.{all_over, whole_written}
 use Rattle.bt_capture.proofs.run.end_of.Goals as goal
 
 pub returns : goal.returns
-returns c o left now i empty ended =
+returns c o left before now i empty ended added =
     let run = c.args.run.now in
     let known = i.follows.known in
     let fs = i.follows.fs in
@@ -19,10 +17,10 @@ returns c o left now i empty ended =
       cut = c.is_cut.ensures;
       count = c.packets.ensures ∙ i.read.reading.count;
       fs = fs;
-      over = all_over o left now run c.args.packets.now i;
-      written = subst (λ b. Appends o.target.held now.held (texts b (reports_of fs))) i.json (texts_written o.target now run.teller (reports_of fs) empty known.tells);
-      calm = known.tells.calm;
-      torrents = c.torrents.ensures o.target now (reports_of fs) known.tells;
-      refused = c.is_refused.ensures o.target now (reports_of fs) known.tells;
+      over = all_over o left before run c.args.packets.now i;
+      written = whole_written o left before now run c.args.packets.now empty i added.0;
+      calm = added.1 ∙ known.tells.calm;
+      torrents = c.torrents.ensures o.target before (reports_of fs) known.tells;
+      refused = c.is_refused.ensures o.target before (reports_of fs) known.tells;
       lost = known.lost;
     }

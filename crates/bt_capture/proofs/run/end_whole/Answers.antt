@@ -1,12 +1,21 @@
 use Rattle.std.proofs.Common.{[]}
-use Rattle.bt_capture.proofs.Outcomes.{told_fault}
+use Rattle.bt_capture.specs.FlowTexts.{datagrams}
+use Rattle.bt_capture.proofs.Outcomes.{told_fault, not_added}
 use Rattle.bt_capture.proofs.run.end_whole.Goals as goal
 
-pub returns-in-Ok : goal.returns-in-Ok
-returns-in-Ok g c o left i ended =
-    c.end_of.ensures o left (g.W.Target.seen c.finish.new.writer) (c.in-Ok.ensures.after o left c.args.packets.now i) c.in-Ok.ensures.empty ended
+pub returns-in-Ok-write_utp : goal.returns-in-Ok-write_utp
+returns-in-Ok-write_utp g c o left i ended =
+    let told = c.in-Ok.ensures.after o left c.args.packets.now i in
+    c.end_of.ensures o left (g.W.Target.seen c.finish.new.writer) (g.W.Target.seen c.write_utp.new.writer) told c.in-Ok.ensures.empty ended
+    (c.in-Ok-write_utp.ensures (datagrams told.packets) told.utp)
 
 pub returns-in-Err : goal.returns-in-Err
 returns-in-Err g c o left i ended =
-    told_fault c.in-Err.fault o left (g.W.Target.seen c.finish.new.writer) [] c.finish.new.run c.args.packets.now c.in-Err.ensures.fault
-    (c.in-Err.ensures.after o left c.args.packets.now i)
+    let told = c.in-Ok.ensures.after o left c.args.packets.now i in
+    not_added c.in-Err.fault o left (g.W.Target.seen c.finish.new.writer) (g.W.Target.seen c.write_utp.new.writer) c.finish.new.run c.args.packets.now c.in-Ok.ensures.empty told
+    (c.in-Err.ensures (datagrams told.packets) told.utp)
+
+pub returns-in-Err-finish : goal.returns-in-Err-finish
+returns-in-Err-finish g c o left i ended =
+    told_fault c.in-Err-finish.fault o left (g.W.Target.seen c.finish.new.writer) [] c.finish.new.run c.args.packets.now c.in-Err-finish.ensures.fault
+    (c.in-Err-finish.ensures.after o left c.args.packets.now i)

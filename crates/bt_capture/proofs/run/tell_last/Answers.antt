@@ -1,4 +1,6 @@
-use Rattle.std.proofs.Common.{◌∙◌}
+use Rattle.std.proofs.Common.{◌∙◌, sym, subst}
+use Rattle.bt_utp.specs.States.{AreCounted}
+use Rattle.bt_capture.specs.FlowTexts.{datagrams}
 use Rattle.bt_capture.specs.Arrivals.{arrivals}
 use Rattle.bt_capture.proofs.Outcomes.{given_up}
 use Rattle.bt_capture.proofs.run.tell_last.Goals as goal
@@ -13,6 +15,7 @@ returns-in-Ok-clause-after g c o left p es r absent i =
       json = c.in-Ok.ensures.json ∙ i.json;
       time = c.in-Ok.ensures.start ∙ i.time;
       follows = c.in-Ok.ensures.goes o.target now (arrivals i.packets) p es absent i.follows;
+      utp = subst (AreCounted (datagrams i.packets)) (sym c.in-Ok.ensures.utp) i.utp;
     })
 
 pub returns-in-Err-clause-after : goal.returns-in-Err-clause-after

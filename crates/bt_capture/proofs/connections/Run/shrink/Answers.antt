@@ -2,7 +2,7 @@ use Rattle.std.proofs.Common.{◌∙◌, refl}
 use Rattle.bt_capture.proofs.connections.Run.shrink.Goals as goal
 
 pub oldest-init : goal.oldest-init
-oldest-init c = record { told = λ start now came i. i; terms = refl; json = refl; start = refl }
+oldest-init c = record { told = λ start now came i. i; terms = refl; json = refl; start = refl; utp = refl }
 
 pub oldest-preserved : goal.oldest-preserved
 oldest-preserved c = record {
@@ -10,6 +10,7 @@ oldest-preserved c = record {
   terms = c.in-Ok.ensures.terms ∙ c.oldest.invariant.terms;
   json = c.in-Ok.ensures.json ∙ c.oldest.invariant.json;
   start = c.in-Ok.ensures.start ∙ c.oldest.invariant.start;
+  utp = c.in-Ok.ensures.utp ∙ c.oldest.invariant.utp;
 }
 
 pub returns-in-Err-clause-goes : goal.returns-in-Err-clause-goes

@@ -13,4 +13,5 @@ invariant-oldest l = record {
   terms : l.self.terms ≡ l.initial.self.terms;
   json : l.self.teller.json ≡ l.initial.self.teller.json;
   start : l.self.start ≡ l.initial.self.start;
+  utp : l.self.utp ≡ l.initial.self.utp;
 }

@@ -1,4 +1,8 @@
-use Rattle.std.proofs.Common.{sym, subst, ◌++◌}
+use Rattle.std.proofs.Common.{sym, subst, ◌++◌, List, OnOk, append-nil}
+use Rattle.bt_packet.specs.declared.utp.Utp.{Utp}
+use Rattle.bt_utp.specs.States.{AreCounted}
+use Rattle.bt_capture.specs.FlowTexts.{datagrams_in}
+use Rattle.bt_capture.proofs.FlowLines.{ok_any}
 use Rattle.bt_capture.specs.Arrivals.{arrivals_in}
 use Rattle.bt_capture.specs.Following.{Goes}
 use Rattle.bt_capture.specs.Sights.{seen}
@@ -10,3 +14,11 @@ returns-in-Segment-clause-goes c start now came i =
     let run = c.take_segment.new.self in
     let P : Sight → Type 0 = λ s. Goes start now (came ++ arrivals_in c.args.when.packet c.args.when.nanos (seen s)) run.table run c.take_segment.result in
     subst P (sym c.in-Segment.is) (c.take_segment.ensures.goes start now came i)
+
+pub returns-in-Segment-clause-utp : goal.returns-in-Segment-clause-utp
+returns-in-Segment-clause-utp c =
+    let new = c.take_segment.new.self.utp in
+    let old = c.args.self.now.utp in
+    let P : Sight → Type 0 = λ s. OnOk c.take_segment.result ((ds : List Utp) → AreCounted ds old → AreCounted (ds ++ datagrams_in (seen s)) new) in
+    subst P (sym c.in-Segment.is)
+    (ok_any c.take_segment.result (λ ds are. subst (λ l. AreCounted l new) (sym (append-nil ds)) (subst (AreCounted ds) (sym c.take_segment.ensures.utp) are)))
