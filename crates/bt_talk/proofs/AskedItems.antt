@@ -1,5 +1,5 @@
 -- A request that got no answer is an item of its side.
-use Rattle.std.proofs.Common.{◌≡◌, ◌∙◌, ℕ, Bool, true, false, List, [], ◌∷◌, ◌++◌, append_assoc, Option, Some, None, refl, sym, ap, subst, if◌then◌else◌}
+use Rattle.std.proofs.Common.{◌≡◌, ◌∙◌, ℕ, Bool, true, false, List, [], ◌∷◌, ◌++◌, append_assoc, refl, sym, ap, if◌then◌else◌}
 use Rattle.bt_ext.specs.declared.ext.Ext.{Ext}
 use Rattle.bt_ext.specs.declared.ext.Ext.TheVariants as ext
 use Rattle.bt_ext.specs.declared.metadata.Kind.{Kind}
@@ -12,7 +12,6 @@ use Rattle.bt_remarks.specs.declared.tallies.Request.{Request}
 use Rattle.bt_remarks.specs.Ends.{IsAsked}
 use Rattle.bt_remarks.specs.Said.{Told, Message, Request as AsksFor, Other, is_same}
 use Rattle.bt_text.specs.Lines.{words as words_of}
-use Rattle.bt_told.specs.declared.said.Said.{Said}
 use Rattle.bt_told.specs.Said.{words_text}
 use Rattle.bt_wire.specs.declared.item.Item.{Item}
 use Rattle.bt_wire.specs.declared.item.Item.TheVariants as items
@@ -20,7 +19,7 @@ use Rattle.bt_wire.specs.Messages.{Message as WireMessage}
 use Rattle.bt_wire.specs.declared.message.Message.TheVariants as m
 use Rattle.bt_talk.specs.Events.{block_of, metadata_event, extended_event, message_event, event_of}
 use Rattle.bt_talk.specs.Unanswered.{request_said}
-use Rattle.bt_talk.specs.Watching.{IsSaid, said_by, messages_of, IsAmong}
+use Rattle.bt_talk.specs.Watching.{said_by, messages_of, IsAmong}
 
 -- ---- the event among those of its side
 

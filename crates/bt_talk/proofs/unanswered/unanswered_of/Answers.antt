@@ -1,4 +1,4 @@
-use Rattle.std.proofs.Common.{◌≡◌, Option, Some, None, IfSome, List, sym, subst}
+use Rattle.std.proofs.Common.{Option, IfSome, List, sym, subst}
 use Rattle.bt_remarks.specs.declared.tallies.Request.{Request}
 use Rattle.bt_remarks.specs.Ends.{unanswered, AreFoundOf, IsFirst, IsAsked}
 use Rattle.bt_remarks.specs.Matched.{IsMatched}

@@ -1,7 +1,5 @@
-use Rattle.std.proofs.Common.{Bool, List, sym, subst, ℕ}
+use Rattle.std.proofs.Common.{Bool, sym, subst}
 use Rattle.bt_remarks.specs.declared.events.Side.{Side}
-use Rattle.bt_wire.specs.declared.item.Item.{Item}
-use Rattle.bt_talk.specs.Watching.{said_by, messages_of, notes_of}
 use Rattle.bt_talk.specs.Unanswered.{IsEnding, AreLeftIf}
 use Rattle.bt_talk.proofs.talk.Talk.unanswered.Goals as goal
 
