@@ -4,7 +4,6 @@ use Rattle.bt_flow.specs.Flows.{HasHole}
 use Rattle.bt_intro.specs.Hearing.{IsSaid}
 use Rattle.bt_intro.specs.Listening.{handshake_of}
 use Rattle.bt_jobs.specs.Others.{first_of}
-use Rattle.bt_judge.specs.declared.judge.Verdicts.{Verdicts}
 use Rattle.bt_remarks.specs.declared.events.Ending.{Ending}
 use Rattle.bt_remarks.specs.declared.events.Side.{Side}
 use Rattle.bt_remarks.specs.declared.tallies.Request.{Request}
@@ -23,6 +22,7 @@ use Rattle.bt_wire.specs.declared.item.Item.{Item}
 use Rattle.bt_wire.specs.Handshakes.{sets_fast}
 use Rattle.bt_wire.specs.Streams.{Outcome}
 use Rattle.bt_talk.specs.declared.closing.Closed.{Closed}
+use Rattle.bt_talk.specs.declared.refused.Judgement.{Judgement}
 use Rattle.bt_talk.specs.declared.talk.Talk.{Talk}
 use Rattle.bt_talk.specs.Pasts.{Past}
 use Rattle.bt_talk.specs.Receivers.{AreVerdicts}
@@ -56,13 +56,13 @@ is_accepted_by (Accepted messages bytes) = true
 is_accepted_by (Refused refusal) = false
 
 -- There is a whole handshake, and from there on the lenient rules accept the stream; so it ends after a whole message.
-abbrev pub is_accepted : Option Verdicts → Bool
+abbrev pub is_accepted : Option Judgement → Bool
 is_accepted None = false
 is_accepted (Some verdicts) = is_accepted_by verdicts.free
 
 -- All that a side said is known if its stream is accepted, and no byte that it has sent is missing.
 pub record IsEnding (side : Side) (a b : Past) (t : Talk) (ending : Ending) : Type 0 where
-  pub verdicts : Option Verdicts
+  pub verdicts : Option Judgement
   pub verdicts_are : AreVerdicts (is_in_opening t) (terms_of t) (of_side side a b) (of_side (other side) a b) verdicts
   pub hole : Bool
   pub hole_is : HasHole (of_side side a b).heard (of_side side a b).out (flow_of side t).stream hole

@@ -8,8 +8,8 @@ ghost use Rattle.bt_talk.specs.Unanswered.{has_fast, has_closed, is_accepted, re
 ghost use Rattle.bt_talk.specs.Watching.{said_by, messages_of};
 
 use crate::closing::Closed;
+use crate::refused::Judgement;
 use bitflags::Flags;
-use bt_judge::Verdicts;
 use bt_remarks::{Ending, Matcher, Request, Side};
 use bt_text::ended::Ended;
 use bt_told::{Name, Noted, Numbers, Said, Words};
@@ -46,7 +46,7 @@ pub(crate) fn has_closed(side: Side, closed: &Option<Closed>) -> bool
 }
 
 /// Tells whether the lenient rules accept a stream, which ends after a whole message then.
-pub(crate) fn is_accepted(verdicts: &Option<Verdicts>) -> bool
+pub(crate) fn is_accepted(verdicts: &Option<Judgement>) -> bool
     ensures { result ≡ is_accepted verdicts.now }
 {
     match verdicts {
