@@ -12,14 +12,15 @@ use Rattle.bt_flow.specs.declared.flow.Flow.{Flow}
 use Rattle.bt_flow.specs.declared.flow.Given.{Given}
 use Rattle.bt_talk.specs.declared.direction.Direction.{Direction}
 use Rattle.bt_talk.specs.declared.replay.Opened.{Opened}
-use Rattle.bt_talk.specs.Cuts.{IsWithin, cut_length, closes_first, cut_after}
-use Rattle.bt_talk.specs.Replays.{IsOpened}
+use Rattle.bt_talk.specs.Cuts.{IsCutNow, IsWithin, cut_length, closes_first, cut_after}
+use Rattle.bt_talk.specs.Replays.{IsOpened, Opens}
+use Rattle.bt_talk.specs.declared.stage.Cut.{Cut}
 use Rattle.bt_packet.specs.declared.tcp.Flags.{Flags}
 use Rattle.bt_talk.specs.declared.stage.Stage.{Stage}
 use Rattle.bt_talk.specs.declared.watch.Watch.{Watch}
 use Rattle.bt_talk.specs.declared.talk.Talk.{Talk}
-use Rattle.bt_talk.specs.Pasts.{Past, Adds, IsAcked, IsAckedBy, HasSent, HasSentBy, given_of}
-use Rattle.bt_talk.specs.Stages.{IsDirection, IsHeard, is_opening}
+use Rattle.bt_talk.specs.Pasts.{Past, Adds, IsAcked, IsAckedBy, IsFlowOf, HasSent, HasSentBy, given_of}
+use Rattle.bt_talk.specs.Stages.{IsDirection, IsHeard, IsStage, is_opening, receiver_in}
 use Rattle.bt_talk.specs.Talks.{IsTalk, IsEnd, IsSender, direction_of, cut_of, flow_of, of_side, is_in_opening, is_over}
 
 direction_is : (side : Side) (a b : Past) (t : Talk) → IsTalk a b t
@@ -104,34 +105,30 @@ acked_by false (Some n) opens q q' e = (ap (λ (p : Past). p.front) e.1, ap (λ 
 pub acked_same : (s : Segment) (q q' : Past) → IsAcked s q q' → (q'.front ≡ q.front) × (q'.out ≡ q.out)
 acked_same s q q' i = acked_by s.flags.rst s.acked s.flags.syn q q' i
 
-after_opening : (terms : Terms) (p q : Past) (d : Direction) (o : Opened) → IsDirection terms p q d → IsOpened terms p q (cut_length d.cut) o
-    → IsDirection terms p q (record d { stage = o.stage; cut = o.cut })
-after_opening terms p q d o i k = record {
-  flow = i.flow;
-  intro = i.intro;
+after_opening : (terms : Terms) (p q : Past) (d d' : Direction) (o : Opened) → Opens d o d' → IsDirection terms p q d
+    → IsOpened terms p q (cut_length d.cut) o → IsDirection terms p q d'
+after_opening terms p q d d' o e i k = record {
+  flow = subst (λ (f : Flow). IsFlowOf p f) (sym e.flow) i.flow;
+  intro = e.intro p.front i.intro;
   later = i.later;
   front = i.front;
-  stage = k.stage;
-  within = subst (λ (n : Option ℕ). IsWithin n p.out) (sym k.length) i.within;
-  cut = k.last;
+  stage = subst (λ (s : Stage). IsStage terms p q s) (sym e.stage) k.stage;
+  within = subst (λ (n : Option ℕ). IsWithin n p.out) (sym (ap cut_length e.cut ∙ k.length)) i.within;
+  cut = subst (λ (s : Stage). IsCutNow (receiver_in s) p.front p.out d'.cut) (sym e.stage)
+      (subst (λ (c : Option Cut). IsCutNow (receiver_in o.stage) p.front p.out c) (sym e.cut) k.last);
 }
 
 -- The opening ended: both sides have another stage.
-pub ended : (a b : Past) (t u : Talk) (o o' : Opened) → u.terms ≡ t.terms → u.a ≡ record t.a { stage = o.stage; cut = o.cut }
-    → u.b ≡ record t.b { stage = o'.stage; cut = o'.cut } → is_opening o.stage ≡ false → is_opening o'.stage ≡ false
+pub ended : (a b : Past) (t u : Talk) (o o' : Opened) → u.terms ≡ t.terms → Opens t.a o u.a → Opens t.b o' u.b
+    → is_opening o.stage ≡ false → is_opening o'.stage ≡ false
     → IsOpened t.terms a b (cut_of A t) o → IsOpened t.terms b a (cut_of B t) o' → IsHeard a b o.stage o'.stage u.watch → IsTalk a b t → IsTalk a b u
-ended a b t u o o' ep ea eb x y i j said k =
-    let da : Direction = record t.a { stage = o.stage; cut = o.cut } in
-    let db : Direction = record t.b { stage = o'.stage; cut = o'.cut } in
-    let ia : IsDirection t.terms a b da = after_opening t.terms a b t.a o k.a_is i in
-    let ib : IsDirection t.terms b a db = after_opening t.terms b a t.b o' k.b_is j in
-    record {
-      a_is = subst (λ (d : Direction). IsDirection u.terms a b d) (sym ea) (subst (λ (n : Terms). IsDirection n a b da) (sym ep) ia);
-      b_is = subst (λ (d : Direction). IsDirection u.terms b a d) (sym eb) (subst (λ (n : Terms). IsDirection n b a db) (sym ep) ib);
-      stages = ap (λ (d : Direction). is_opening d.stage) ea ∙ x ∙ sym y ∙ sym (ap (λ (d : Direction). is_opening d.stage) eb);
-      said = subst (λ (d : Direction). IsHeard a b d.stage u.b.stage u.watch) (sym ea)
-          (subst (λ (d : Direction). IsHeard a b o.stage d.stage u.watch) (sym eb) said);
-    }
+ended a b t u o o' ep ea eb x y i j said k = record {
+  a_is = subst (λ (n : Terms). IsDirection n a b u.a) (sym ep) (after_opening t.terms a b t.a u.a o ea k.a_is i);
+  b_is = subst (λ (n : Terms). IsDirection n b a u.b) (sym ep) (after_opening t.terms b a t.b u.b o' eb k.b_is j);
+  stages = ap is_opening ea.stage ∙ x ∙ sym y ∙ sym (ap is_opening eb.stage);
+  said = subst (λ (s : Stage). IsHeard a b s u.b.stage u.watch) (sym ea.stage)
+      (subst (λ (s : Stage). IsHeard a b o.stage s u.watch) (sym eb.stage) said);
+}
 
 pub cuts_same : (side : Side) (t u : Talk) → cut_length u.a.cut ≡ cut_length t.a.cut → cut_length u.b.cut ≡ cut_length t.b.cut → cut_of side u ≡ cut_of side t
 cuts_same A t u e f = e

@@ -3,12 +3,14 @@ use Rattle.bt_talk.specs.declared.terms.Terms.{Terms}
 use Rattle.std.specs.Prelude.{◌≡◌, ℕ, Bool, true, false, List, [], ◌++◌, drop, take, Option, Some, None}
 use Rattle.bt_intro.specs.declared.settling.Receiver.{Receiver}
 use Rattle.bt_intro.specs.Hellos.{IsFirstHello}
+use Rattle.bt_intro.specs.Hearing.{IsHeardOf}
 use Rattle.bt_judge.specs.Judges.{AreJudged}
 use Rattle.bt_remarks.specs.declared.events.Side.{Side}
 use Rattle.bt_remarks.specs.declared.events.Side.TheVariants.{A, B}
 use Rattle.bt_remarks.specs.Said.{Told}
 use Rattle.bt_wire.specs.declared.item.Item.{Item}
 use Rattle.bt_remarks.specs.Said.{other}
+use Rattle.bt_talk.specs.declared.direction.Direction.{Direction}
 use Rattle.bt_talk.specs.declared.replay.Close.{Close}
 use Rattle.bt_talk.specs.declared.replay.Close.TheVariants.{Passed, Ahead}
 use Rattle.bt_talk.specs.declared.replay.Opened.{Opened}
@@ -106,6 +108,13 @@ pub record IsOpened (terms : Terms) (p q : Past) (cut : Option ℕ) (o : Opened)
   pub stage : IsStage terms p q o.stage
   pub length : cut_length o.cut ≡ cut
   pub last : IsCutNow (receiver_in o.stage) p.front p.out o.cut
+
+-- A direction isn't in its opening any more. What its sender has announced stays.
+pub record Opens (d : Direction) (o : Opened) (d' : Direction) : Type 0 where
+  pub flow : d'.flow ≡ d.flow
+  pub intro : (front : List ℕ) → IsHeardOf front d.intro → IsHeardOf front d'.intro
+  pub stage : d'.stage ≡ o.stage
+  pub cut : d'.cut ≡ o.cut
 
 pub record IsFinished (terms : Terms) (p q : Past) (cut : Option ℕ) (side : Side) (items : Side → List (ℕ × Item)) (o : Opened) (w : Watch) : Type 0 where
   pub events : List Told

@@ -2,21 +2,21 @@
 ghost use Rattle.bt_talk.specs.declared.terms.Terms.{Terms};
 ghost use Rattle.std.specs.Prelude.{◌≡◌, ◌<◌, ◌≤◌, ◌++◌, ◌∷◌, ℕ, List, [], Bool, false, true, length, OnOk, IfOk, IfSome, Option, Some};
 ghost use Rattle.bt_flow.specs.declared.flow.Flow.{Flow};
-ghost use Rattle.bt_intro.specs.Hearing.{IsHeardOf};
+ghost use Rattle.bt_intro.specs.Hearing.{IsHeardOf, HasNoMemory};
 ghost use Rattle.bt_feed.specs.Pumps.{Took};
 ghost use Rattle.bt_tcp.specs.Heard.{Acked};
 ghost use Rattle.bt_wire.specs.declared.context.Own.{Own};
 ghost use Rattle.bt_wire.specs.declared.item.Item.{Item};
 ghost use Rattle.bt_talk.specs.Pasts.{Past, no_past, IsFlowOf, Adds};
 ghost use Rattle.bt_talk.specs.Receivers.{IsReceiver, IsJudgedBy, IsReceiverNow, AreItems, AreVerdicts};
-ghost use Rattle.bt_talk.specs.Replays.{IsReplay};
+ghost use Rattle.bt_talk.specs.Replays.{IsReplay, Opens};
 ghost use Rattle.bt_talk.specs.Stages.{IsDirection, IsStage, AreItemsIn, Speaks, is_opening, receiver_in};
 ghost use Rattle.bt_talk.specs.Cuts.{IsCutBy, IsLastBefore, cut_length};
 ghost use Rattle.bt_talk.specs.Watching.{IsLast, Watches};
 
 use crate::refused::{Judgement, judgement_of};
 use crate::replay::{Opened, Replay};
-use crate::stage::{Cut, Stage, judge_bytes};
+use crate::stage::{Cut, PAGE, Stage, judge_bytes};
 use crate::watch::Watch;
 use bt_flow::{Flow, Given};
 use bt_intro::{Introduction, Receiver};
@@ -31,6 +31,8 @@ pub(crate) struct Direction {
     pub(crate) intro: Introduction,
     pub(crate) stage: Stage,
     pub(crate) cut: Option<Cut>,
+    /// How many bytes of a parser's memory were in use at most, once the stream is judged.
+    used: usize,
 }
 
 /// Takes a segment of the opening.
@@ -101,6 +103,7 @@ impl Direction {
             intro: Introduction::new(),
             stage: Stage::Opening(Vec::new(alloc)),
             cut: None,
+            used: 0,
         }
     }
 
@@ -159,6 +162,7 @@ impl Direction {
             }
             Stage::Open(judged) => {
                 take_judged(&mut self.flow, &mut judged.judge, given, watch, out, buffer)?;
+                self.used = self.used.max(judged.used_by(out.len(), buffer.len()));
                 Ok(())
             }
             Stage::Stranger => {
@@ -191,10 +195,13 @@ impl Direction {
         }
     }
 
-    /// Ends the opening.
+    /// Ends the opening. What this side announced stays, and takes no memory.
     pub(crate) fn open(&mut self, opened: Opened)
-        ensures { self.new ≡ record self.old { stage = opened.stage; cut = opened.cut } }
+        ensures opens { Opens self.old opened self.new }
+        ensures free { HasNoMemory self.new.intro }
     {
+        self.used = self.kept();
+        self.intro.settle();
         self.stage = opened.stage;
         self.cut = opened.cut;
     }
@@ -255,5 +262,25 @@ impl Direction {
             Stage::Open(judged) => Some(judged.receiver),
             Stage::Stranger => None,
         }
+    }
+
+    /// Returns about how many bytes of memory the reader takes of what this side announces, in the opening.
+    fn reader_size(&self) -> usize {
+        match self.intro.start() {
+            Some(_) => self.kept().saturating_add(PAGE),
+            None => 0,
+        }
+    }
+
+    /// Returns about how many bytes of memory it takes besides its own fields.
+    ///
+    /// In the opening its bytes are kept twice: as they are, and by the reader of what the side announces.
+    pub(crate) fn size(&self) -> usize {
+        let stage = match &self.stage {
+            Stage::Opening(front) => front.capacity().saturating_add(self.reader_size()),
+            Stage::Open(judged) => judged.size(self.used),
+            Stage::Stranger => 0,
+        };
+        stage.saturating_add(self.flow.size())
     }
 }

@@ -18,6 +18,9 @@ use bt_told::{Last, Said};
 use bt_wire::Own;
 use std::alloc::{AllocError, Global};
 
+/// How many bytes a page of memory has: a parser's buffer, of which few bytes are used, takes one.
+pub(crate) const PAGE: usize = 4_096;
+
 /// A stream with its receiver.
 #[derive(Drop)]
 pub(crate) struct Judged {
@@ -29,6 +32,29 @@ impl Judged {
     /// Tells whether the stream isn't refused under the lenient rules.
     pub(crate) fn is_known(&self) -> bool {
         self.judge.free.refusal().is_none()
+    }
+
+    /// Returns how many bytes a parser's buffer has.
+    fn room(&self) -> usize {
+        (self.receiver.own.limit as usize).saturating_add(4)
+    }
+
+    /// Returns how many bytes of a parser's buffer are in use at most, after `count` more were judged by way of a buffer of `size`.
+    ///
+    /// A message that begins and ends in the same part isn't copied.
+    pub(crate) fn used_by(&self, count: usize, size: usize) -> usize {
+        if count > size {
+            self.room()
+        } else {
+            self.judge.free.awaited().max(self.judge.bep.awaited())
+        }
+    }
+
+    /// Returns about how many bytes of memory its two parsers take, of which at most `used` bytes each were in use.
+    ///
+    /// The rest of a buffer is reserved, and was never written.
+    pub(crate) fn size(&self, used: usize) -> usize {
+        used.min(self.room()).saturating_add(PAGE).saturating_mul(2)
     }
 
     /// Returns the last of the stream up to here: the refusal under the lenient rules, or else its last item, which is this one.

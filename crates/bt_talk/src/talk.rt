@@ -26,6 +26,7 @@ use bt_tcp::Gaps;
 use bt_told::{Last, Noted, Remarked};
 use bt_wire::Handshake;
 use std::alloc::{AllocError, Global};
+use std::mem::size_of;
 
 /// How many bytes of both sides an opening has at most, before it ends.
 const OPENING: usize = 1_048_576;
@@ -617,5 +618,15 @@ impl Talk {
     {
         let flow = &self.direction(self.ends.sender(segment)).flow;
         opens(segment.flags, flow.high(), flow.opening(), segment.sequence)
+    }
+
+    /// Returns about how many bytes of memory the connection takes besides its own fields.
+    pub fn size(&self) -> usize {
+        let marks = self.marks.capacity().saturating_mul(size_of::<Mark>());
+        self.a
+            .size()
+            .saturating_add(self.b.size())
+            .saturating_add(marks)
+            .saturating_add(self.watch.matcher.size())
     }
 }
