@@ -1,6 +1,6 @@
 -- Reports are told one by one.
 use Rattle.std.proofs.Common.{◌≡◌, ◌∙◌, ℕ, ◌+◌, ◌-◌, ◌^◌, min, true, false, Bool, ◌||◌, List, [], ◌∷◌, ◌++◌, length, append-nil, append_assoc, refl, sym, ap, subst, arith, inl, inr, if◌then◌else◌}
-use Rattle.std.specs.List.{filter, list_any}
+use Rattle.std.specs.List.{filter, flat_map, list_any}
 use Rattle.std.specs.Io.KnownBytes.{Appends}
 use Rattle.std.proofs.KnownBytes.{Appends-trans}
 use Rattle.std.proofs.lemmas.Bool.{cases_Bool}
@@ -12,7 +12,11 @@ use Rattle.bt_io.specs.Counts.{counted, Grew}
 use Rattle.bt_io.specs.Seen.{TargetSeen, WriteFailed}
 use Rattle.bt_told.specs.declared.report.Report.{Report}
 use Rattle.bt_capture.specs.declared.telling.Teller.{Teller}
-use Rattle.bt_capture.specs.Tellings.{text_by, texts, count_torrents, is_one_refused, is_refused, is_told, Tells, IsStopped}
+use Rattle.bt_talk.specs.declared.rows.Showing.TheVariants.{Nothing}
+use Rattle.bt_talk.specs.Rows.{Shown, shown_texts}
+use Rattle.bt_capture.specs.declared.ending.Form.{Form}
+use Rattle.bt_capture.specs.Forms.{showing_by, showing_in}
+use Rattle.bt_capture.specs.Tellings.{Part, OfReport, OfRows, report_of_part, part_text, AreTexts, text_by, texts, count_torrents, is_one_refused, is_refused, is_told, Tells, IsStopped}
 
 one : (p : Report → Bool) (x : Report) → length (filter p (x ∷ [])) ≡ (if p x then 1 else 0)
 one p x = elim (cases_Bool (p x)) [ inl e ↦ rw e refl | inr e ↦ rw e refl ]
@@ -38,30 +42,86 @@ one_any p x = elim (cases_Bool (p x)) [ inl e ↦ rw e refl | inr e ↦ rw e ref
 pub refused_more : (reports : List Report) (r : Report) → is_one_refused (reports ++ r ∷ []) ≡ (is_one_refused reports || is_refused r)
 refused_more reports r = list_any-append is_refused reports (r ∷ []) ∙ ap (λ (b : Bool). is_one_refused reports || b) (one_any is_refused r)
 
-pub text_more : (json : Bool) (reports : List Report) (r : Report) → texts json (reports ++ r ∷ []) ≡ texts json reports ++ text_by json r
-text_more json reports r = flat_map-append (text_by json) reports (r ∷ []) ∙ ap (λ (l : List ℕ). texts json reports ++ l) (append-nil (text_by json r))
+-- ---- the text of reports, and of rows between them
+
+-- One part more.
+part_more : (form : Form) (reports : List Report) (text : List ℕ) (x : Part) (i : AreTexts form reports text)
+    → AreTexts form (reports ++ report_of_part x) (text ++ part_text form x)
+part_more form reports text x i = record {
+  parts = i.parts ++ x ∷ [];
+  reports_are = flat_map-append report_of_part i.parts (x ∷ []) ∙ ap (λ (l : List Report). flat_map report_of_part i.parts ++ l) (append-nil (report_of_part x))
+      ∙ ap (λ (l : List Report). l ++ report_of_part x) i.reports_are;
+  is = ap (λ (l : List ℕ). l ++ part_text form x) i.is
+      ∙ ap (λ (l : List ℕ). flat_map (part_text form) i.parts ++ l) (sym (append-nil (part_text form x)))
+      ∙ sym (flat_map-append (part_text form) i.parts (x ∷ []));
+}
+
+texts_same : (form form' : Form) (reports : List Report) (text text' : List ℕ) → form' ≡ form → text' ≡ text → AreTexts form reports text
+    → AreTexts form' reports text'
+texts_same form form' reports text text' e f i =
+    subst (λ (k : Form). AreTexts k reports text') (sym e) (subst (λ (l : List ℕ). AreTexts form reports l) (sym f) i)
+
+pub no_texts : (form : Form) → AreTexts form [] []
+no_texts form = record { parts = []; reports_are = refl; is = refl }
+
+nothing_shown : (rows : List Shown) → shown_texts Nothing rows ≡ []
+nothing_shown [] = refl
+nothing_shown (r ∷ rs) = nothing_shown rs
+
+-- Without rows there are only reports.
+one_only : (form : Form) (x : Part) → form.show ≡ false → part_text form x ≡ texts form.json (report_of_part x)
+one_only form (OfReport r) e = sym (append-nil (text_by form.json r))
+one_only form (OfRows rows) e = ap (λ (b : Bool). shown_texts (showing_in b form.json) rows) e ∙ nothing_shown rows
+
+parts_only : (form : Form) (parts : List Part) → form.show ≡ false → flat_map (part_text form) parts ≡ texts form.json (flat_map report_of_part parts)
+parts_only form [] e = refl
+parts_only form (x ∷ xs) e =
+    ap (λ (l : List ℕ). l ++ flat_map (part_text form) xs) (one_only form x e)
+    ∙ ap (λ (l : List ℕ). texts form.json (report_of_part x) ++ l) (parts_only form xs e)
+    ∙ sym (flat_map-append (text_by form.json) (report_of_part x) (flat_map report_of_part xs))
+
+pub reports_only : (form : Form) (reports : List Report) (text : List ℕ) → form.show ≡ false → AreTexts form reports text → text ≡ texts form.json reports
+reports_only form reports text e i = i.is ∙ parts_only form i.parts e ∙ ap (texts form.json) i.reports_are
 
 -- One more report is told.
-pub told_more : (start now : TargetSeen) (old new : Teller) (reports : List Report) (r : Report) → new.text.items ≡ old.text.items ++ text_by old.json r
-    → new.json ≡ old.json → new.torrents ≡ counted (is_told r) old.torrents → new.is_refused ≡ (old.is_refused || is_refused r) → Tells start now old reports
+pub told_more : (start now : TargetSeen) (old new : Teller) (reports : List Report) (r : Report) → new.text.items ≡ old.text.items ++ text_by old.form.json r
+    → new.form ≡ old.form → new.torrents ≡ counted (is_told r) old.torrents → new.is_refused ≡ (old.is_refused || is_refused r) → Tells start now old reports
     → Tells start now new (reports ++ r ∷ [])
-told_more start now old new reports r text json torrents refused t = record {
+told_more start now old new reports r text form torrents refused t = record {
   written = t.written;
-  whole = ap (λ (l : List ℕ). t.written ++ l) text ∙ sym (append_assoc t.written old.text.items (text_by old.json r))
-      ∙ ap (λ (l : List ℕ). l ++ text_by old.json r) t.whole ∙ sym (text_more old.json reports r) ∙ ap (λ b. texts b (reports ++ r ∷ [])) (sym json);
+  whole = texts_same old.form new.form (reports ++ r ∷ []) ((t.written ++ old.text.items) ++ text_by old.form.json r) (t.written ++ new.text.items) form
+      (ap (λ (l : List ℕ). t.written ++ l) text ∙ sym (append_assoc t.written old.text.items (text_by old.form.json r)))
+      (part_more old.form reports (t.written ++ old.text.items) (OfReport r) t.whole);
   held = t.held;
   calm = t.calm;
   torrents = torrents ∙ ap (counted (is_told r)) t.torrents ∙ sym (count_more reports r);
   refused = refused ∙ ap (λ (b : Bool). b || is_refused r) t.refused ∙ sym (refused_more reports r);
 }
 
+-- Rows are told.
+pub shown_more : (start now : TargetSeen) (old new : Teller) (reports : List Report) (rows : List Shown)
+    → new.text.items ≡ old.text.items ++ shown_texts (showing_by old.form) rows → new.form ≡ old.form → new.torrents ≡ old.torrents
+    → new.is_refused ≡ old.is_refused → Tells start now old reports → Tells start now new reports
+shown_more start now old new reports rows text form torrents refused t = record {
+  written = t.written;
+  whole = texts_same old.form new.form reports ((t.written ++ old.text.items) ++ shown_texts (showing_by old.form) rows) (t.written ++ new.text.items) form
+      (ap (λ (l : List ℕ). t.written ++ l) text ∙ sym (append_assoc t.written old.text.items (shown_texts (showing_by old.form) rows)))
+      (subst (λ (l : List Report). AreTexts old.form l ((t.written ++ old.text.items) ++ shown_texts (showing_by old.form) rows)) (append-nil reports)
+      (part_more old.form reports (t.written ++ old.text.items) (OfRows rows) t.whole));
+  held = t.held;
+  calm = t.calm;
+  torrents = torrents ∙ t.torrents;
+  refused = refused ∙ t.refused;
+}
+
 -- The text that was kept is written.
 pub all_written : (start now after : TargetSeen) (old new : Teller) (reports : List Report) → Appends now.held after.held old.text.items
-    → after.failed ≡ now.failed → new.text.items ≡ [] → new.json ≡ old.json → new.torrents ≡ old.torrents → new.is_refused ≡ old.is_refused
+    → after.failed ≡ now.failed → new.text.items ≡ [] → new.form ≡ old.form → new.torrents ≡ old.torrents → new.is_refused ≡ old.is_refused
     → Tells start now old reports → Tells start after new reports
-all_written start now after old new reports held calm empty json torrents refused t = record {
+all_written start now after old new reports held calm empty form torrents refused t = record {
   written = t.written ++ old.text.items;
-  whole = ap (λ (l : List ℕ). (t.written ++ old.text.items) ++ l) empty ∙ append-nil (t.written ++ old.text.items) ∙ t.whole ∙ ap (λ b. texts b reports) (sym json);
+  whole = texts_same old.form new.form reports (t.written ++ old.text.items) ((t.written ++ old.text.items) ++ new.text.items) form
+      (ap (λ (l : List ℕ). (t.written ++ old.text.items) ++ l) empty ∙ append-nil (t.written ++ old.text.items)) t.whole;
   held = Appends-trans start.held now.held after.held t.written old.text.items t.held held;
   calm = calm ∙ t.calm;
   torrents = torrents ∙ t.torrents;
@@ -70,12 +130,14 @@ all_written start now after old new reports held calm empty json torrents refuse
 
 -- A front of the text that was kept is written.
 pub front_written : (start now after : TargetSeen) (t : Teller) (reports : List Report) (front rest : List ℕ) → t.text.items ≡ front ++ rest
-    → Appends now.held after.held front → WriteFailed now after → Tells start now t reports → IsStopped t.json start after reports
+    → Appends now.held after.held front → WriteFailed now after → Tells start now t reports → IsStopped t.form start after reports
 front_written start now after teller reports front rest parts held failed t = record {
+  text = t.written ++ teller.text.items;
+  texts_are = t.whole;
   front = (
     t.written ++ front,
     rest,
-    sym t.whole ∙ ap (λ (l : List ℕ). t.written ++ l) parts ∙ sym (append_assoc t.written front rest),
+    ap (λ (l : List ℕ). t.written ++ l) parts ∙ sym (append_assoc t.written front rest),
     Appends-trans start.held now.held after.held t.written front t.held held,
   );
   failed = subst (λ (n : ℕ). Grew n after.failed) t.calm failed;

@@ -11,3 +11,4 @@ pub mod Entries
 pub mod Shares
 pub mod Reported
 pub mod Outcomes
+pub mod Shown

@@ -9,9 +9,8 @@ use Rattle.std.proofs.lemmas.List.Elements.{All-nil}
 use Rattle.std.proofs.KnownBytes.{Appends-nil, Appends-trans, Consumes-nil, Consumes-trans, Consumes-kept}
 use Rattle.bt_io.specs.Counts.{Grew}
 use Rattle.bt_io.specs.Seen.{TargetSeen, AppendsPrefix, WriteFailed}
-use Rattle.bt_utp.specs.Flows.{flows}
 use Rattle.bt_utp.specs.States.{AreCounted}
-use Rattle.bt_capture.specs.FlowTexts.{datagrams, flow_texts}
+use Rattle.bt_capture.specs.FlowTexts.{datagrams}
 use Rattle.bt_pcap.specs.Formats.{Captured}
 use Rattle.bt_pcap.specs.Steps.{captured}
 use Rattle.bt_pcap.specs.declared.fault.FileFault.{FileFault}
@@ -26,10 +25,12 @@ use Rattle.bt_capture.specs.Arrivals.{arrivals, first_time}
 use Rattle.bt_capture.specs.Following.{Finished, IsFinished, IsShare, IsShared, Follows, Stops, reports_of}
 use Rattle.bt_capture.specs.Readings.{Reading, IsReading, GoesOn, Hands, nothing_read, shown}
 use Rattle.bt_capture.specs.Tables.{Held, IsApart, same_pair}
-use Rattle.bt_capture.specs.Tellings.{Tells, IsStopped, IsEmpty, texts}
-use Rattle.bt_capture.specs.Runs.{Origin, HasRead, IsTelling, IsLeft, AreOver, AreAllOver, AreWritten, ArePartlyWritten, AfterFault, Adds, whole_text, IsOfTelling, IsOfReading, IsToldTo}
+use Rattle.bt_capture.specs.declared.ending.Form.{Form}
+use Rattle.bt_capture.specs.Tellings.{Tells, IsStopped, IsEmpty, AreTexts}
+use Rattle.bt_capture.specs.Runs.{Origin, HasRead, IsTelling, IsLeft, AreOver, AreAllOver, AreWritten, ArePartlyWritten, AfterFault, Adds, utp_lines, IsOfTelling, IsOfReading, IsToldTo}
 use Rattle.bt_capture.proofs.Entries.{apart_moved, lookup_moved}
 use Rattle.bt_capture.proofs.Going.{fresh}
+use Rattle.bt_capture.proofs.InOrder.{no_texts}
 use Rattle.bt_capture.proofs.Reported.{follows_moved, follows_same, stops_of}
 
 -- ---- what was read
@@ -82,19 +83,19 @@ read_kept o left left' packets r r' same keeps i = record {
 
 pub told_read : (o : Origin) (left left' : Option (List ℕ)) (now : TargetSeen) (es : List (Pair × Held)) (run : Run) (r r' : Reading)
     → ((packets : List Captured) → HasRead o left packets r → HasRead o left' packets r') → IsTelling o left now es run r → IsTelling o left' now es run r'
-told_read o left left' now es run r r' reads i = record { packets = i.packets; read = reads i.packets i.read; terms = i.terms; json = i.json; time = i.time; follows = i.follows; utp = i.utp }
+told_read o left left' now es run r r' reads i = record { packets = i.packets; read = reads i.packets i.read; terms = i.terms; form = i.form; time = i.time; follows = i.follows; utp = i.utp }
 
 pub flushed : (o : Origin) (left : Option (List ℕ)) (now after : TargetSeen) (es : List (Pair × Held)) (old new : Run) (r : Reading) → new.terms ≡ old.terms
-    → new.teller.json ≡ old.teller.json → new.start ≡ old.start → new.lost ≡ old.lost → new.utp ≡ old.utp
+    → new.teller.form ≡ old.teller.form → new.start ≡ old.start → new.lost ≡ old.lost → new.utp ≡ old.utp
     → ((reports : List Report) → Tells o.target now old.teller reports → Tells o.target after new.teller reports)
     → IsTelling o left now es old r → IsTelling o left after es new r
-flushed o left now after es old new r terms json begin lost utp tells i =
+flushed o left now after es old new r terms form begin lost utp tells i =
     let known = i.follows.known in
     record {
       packets = i.packets;
       read = i.read;
       terms = terms ∙ i.terms;
-      json = json ∙ i.json;
+      form = form ∙ i.form;
       time = begin ∙ i.time;
       follows = record {
         fs = i.follows.fs;
@@ -123,38 +124,42 @@ no_lines : (o : Origin) (now : TargetSeen) (text : List ℕ) → AppendsPrefix o
 no_lines o now text front = subst (AppendsPrefix o.target.held now.held) (sym (append-nil text)) front
 
 pub left_by : (o : Origin) (left : Option (List ℕ)) (now after : TargetSeen) (es : List (Pair × Held)) (run : Run) (r : Reading)
-    → ((reports : List Report) → Tells o.target now run.teller reports → IsStopped run.teller.json o.target after reports) → IsTelling o left now es run r → IsLeft o left after
+    → ((reports : List Report) → Tells o.target now run.teller reports → IsStopped run.teller.form o.target after reports) → IsTelling o left now es run r → IsLeft o left after
 left_by o left now after es run r stopped i =
     let s = stops_of o.target now (arrivals i.packets) es run i.follows in
-    let is = subst (λ b. IsStopped b o.target after (reports_of s.fs)) i.json (stopped (reports_of s.fs) s.known.tells) in
+    let is = subst (λ b. IsStopped b o.target after (reports_of s.fs)) i.form (stopped (reports_of s.fs) s.known.tells) in
     record {
       packets = i.packets;
       r = r;
       read = i.read;
       fs = s.fs;
       over = over_by o now i.packets run i.terms i.time s;
+      text = is.text;
+      texts_are = is.texts_are;
       lines = [];
       are_lines = inl refl;
-      front = no_lines o after (texts o.json (reports_of s.fs)) is.front;
+      front = no_lines o after is.text is.front;
       failed = is.failed;
     }
 
 pub given_up : (o : Origin) (left : Option (List ℕ)) (now : TargetSeen) (packets : List Captured) (run : Run) (r : Reading) → HasRead o left packets r
-    → run.terms ≡ o.terms → run.teller.json ≡ o.json → run.start ≡ first_time packets → Stops o.target now (arrivals packets) run → ArePartlyWritten o left now
-given_up o left now packets run r read terms json time s = let t = s.known.tells in record {
+    → run.terms ≡ o.terms → run.teller.form ≡ o.form → run.start ≡ first_time packets → Stops o.target now (arrivals packets) run → ArePartlyWritten o left now
+given_up o left now packets run r read terms form time s = let t = s.known.tells in record {
   packets = packets;
   r = r;
   read = read;
   fs = s.fs;
   over = over_by o now packets run terms time s;
+  text = t.written ++ run.teller.text.items;
+  texts_are = subst (λ f. AreTexts f (reports_of s.fs) (t.written ++ run.teller.text.items)) form t.whole;
   lines = [];
   are_lines = inl refl;
-  front = no_lines o now (texts o.json (reports_of s.fs)) (t.written, run.teller.text.items, ap (λ b. texts b (reports_of s.fs)) (sym json) ∙ sym t.whole, t.held);
+  front = no_lines o now (t.written ++ run.teller.text.items) (t.written, run.teller.text.items, refl, t.held);
 }
 
 pub partly : (o : Origin) (left : Option (List ℕ)) (now : TargetSeen) (es : List (Pair × Held)) (run : Run) (r : Reading) → IsTelling o left now es run r
     → ArePartlyWritten o left now
-partly o left now es run r i = given_up o left now i.packets run r i.read i.terms i.json i.time (stops_of o.target now (arrivals i.packets) es run i.follows)
+partly o left now es run r i = given_up o left now i.packets run r i.read i.terms i.form i.time (stops_of o.target now (arrivals i.packets) es run i.follows)
 
 pub nothing_told : (o : Origin) → ArePartlyWritten o o.left o.target
 nothing_told o = record {
@@ -163,6 +168,8 @@ nothing_told o = record {
   read = read_nothing o;
   fs = [];
   over = record { finished = All-nil (IsFinished o.terms 0); shared = λ k. ([], refl) };
+  text = [];
+  texts_are = no_texts o.form;
   lines = [];
   are_lines = inl refl;
   front = ([], [], refl, Appends-nil o.target.held);
@@ -170,10 +177,11 @@ nothing_told o = record {
 
 -- ---- the end
 
-pub texts_written : (start now : TargetSeen) (t : Teller) (reports : List Report) → IsEmpty t → Tells start now t reports
-    → Appends start.held now.held (texts t.json reports)
-texts_written start now t reports empty w =
-    subst (Appends start.held now.held) (sym (append-nil w.written) ∙ ap (λ (l : List ℕ). w.written ++ l) (sym empty) ∙ w.whole) w.held
+pub texts_written : (start now : TargetSeen) (t : Teller) (reports : List Report) (form : Form) → t.form ≡ form → IsEmpty t → Tells start now t reports
+    → (text : List ℕ) × AreTexts form reports text × Appends start.held now.held text
+texts_written start now t reports form e empty w =
+    let all : w.written ++ t.text.items ≡ w.written = ap (λ (l : List ℕ). w.written ++ l) empty ∙ append-nil w.written in
+    (w.written, subst (λ f. AreTexts f reports w.written) e (subst (λ l. AreTexts t.form reports l) all w.whole), w.held)
 
 pub all_over : (o : Origin) (left : Option (List ℕ)) (now : TargetSeen) (run : Run) (r : Reading) → (i : IsTelling o left now [] run r) → AreAllOver o i.packets i.follows.fs
 all_over o left now run r i = record {
@@ -183,50 +191,57 @@ all_over o left now run r i = record {
 
 -- the reports and the lines on uTP, one after the other
 pub whole_written : (o : Origin) (left : Option (List ℕ)) (before now : TargetSeen) (run : Run) (r : Reading) → IsEmpty run.teller → (i : IsTelling o left before [] run r)
-    → Appends before.held now.held (flow_texts run.teller.json (flows (datagrams i.packets))) → Appends o.target.held now.held (whole_text o i.packets i.follows.fs)
+    → Appends before.held now.held (utp_lines run.teller.form i.packets)
+    → (text : List ℕ) × AreTexts o.form (reports_of i.follows.fs) text × Appends o.target.held now.held (text ++ utp_lines o.form i.packets)
 whole_written o left before now run r empty i held =
-    let reports = reports_of i.follows.fs in
-    subst (λ b. Appends o.target.held now.held (texts b reports ++ flow_texts b (flows (datagrams i.packets)))) i.json
-    (Appends-trans o.target.held before.held now.held (texts run.teller.json reports) (flow_texts run.teller.json (flows (datagrams i.packets)))
-    (texts_written o.target before run.teller reports empty i.follows.known.tells) held)
+    let w = texts_written o.target before run.teller (reports_of i.follows.fs) o.form i.form empty i.follows.known.tells in (
+      w.0,
+      w.1,
+      Appends-trans o.target.held before.held now.held w.0 (utp_lines o.form i.packets) w.2
+          (subst (λ f. Appends before.held now.held (utp_lines f i.packets)) i.form held),
+    )
 
 all_written : (o : Origin) (left : Option (List ℕ)) (before now : TargetSeen) (run : Run) (r : Reading) → IsEmpty run.teller → (i : IsTelling o left before [] run r)
-    → Appends before.held now.held (flow_texts run.teller.json (flows (datagrams i.packets))) → AreWritten o left now
-all_written o left before now run r empty i held = record {
+    → Appends before.held now.held (utp_lines run.teller.form i.packets) → AreWritten o left now
+all_written o left before now run r empty i held = let w = whole_written o left before now run r empty i held in record {
   packets = i.packets;
   r = r;
   read = i.read;
   fs = i.follows.fs;
   over = all_over o left before run r i;
-  written = whole_written o left before now run r empty i held;
+  text = w.0;
+  texts_are = w.1;
+  written = w.2;
 }
 
 -- The lines on uTP couldn't be made or written.
 part_written : (o : Origin) (left : Option (List ℕ)) (before now : TargetSeen) (run : Run) (r : Reading) → IsEmpty run.teller → (i : IsTelling o left before [] run r)
-    → AppendsPrefix before.held now.held (flow_texts run.teller.json (flows (datagrams i.packets))) → WriteFailed before now → IsLeft o left now
+    → AppendsPrefix before.held now.held (utp_lines run.teller.form i.packets) → WriteFailed before now → IsLeft o left now
 part_written o left before now run r empty i p failed =
-    let reports = reports_of i.follows.fs in
-    let lines = flow_texts run.teller.json (flows (datagrams i.packets)) in
     let known = i.follows.known in
+    let w = texts_written o.target before run.teller (reports_of i.follows.fs) o.form i.form empty known.tells in
+    let q = subst (λ f. AppendsPrefix before.held now.held (utp_lines f i.packets)) i.form p in
     record {
       packets = i.packets;
       r = r;
       read = i.read;
       fs = i.follows.fs;
       over = over_by o before i.packets run i.terms i.time (stops_of o.target before (arrivals i.packets) [] run i.follows);
-      lines = flow_texts o.json (flows (datagrams i.packets));
+      text = w.0;
+      texts_are = w.1;
+      lines = utp_lines o.form i.packets;
       are_lines = inr (all_over o left before run r i, refl);
-      front = subst (λ b. AppendsPrefix o.target.held now.held (texts b reports ++ flow_texts b (flows (datagrams i.packets)))) i.json (
-        texts run.teller.json reports ++ p.0,
-        p.1,
-        ap (λ l. texts run.teller.json reports ++ l) p.2 ∙ sym (append_assoc (texts run.teller.json reports) p.0 p.1),
-        Appends-trans o.target.held before.held now.held (texts run.teller.json reports) p.0 (texts_written o.target before run.teller reports empty known.tells) p.3,
+      front = (
+        w.0 ++ q.0,
+        q.1,
+        ap (λ l. w.0 ++ l) q.2 ∙ sym (append_assoc w.0 q.0 q.1),
+        Appends-trans o.target.held before.held now.held w.0 q.0 w.2 q.3,
       );
       failed = subst (λ (n : ℕ). Grew n now.failed) known.tells.calm failed;
     }
 
 pub not_added : {T : Type 0} (f : CaptureFault) (o : Origin) (left : Option (List ℕ)) (before now : TargetSeen) (run : Run) (r : Reading) → IsEmpty run.teller
-    → (i : IsTelling o left before [] run r) → Adds {T = T} (flow_texts run.teller.json (flows (datagrams i.packets))) before now (Err f) → IsToldTo f o left now
+    → (i : IsTelling o left before [] run r) → Adds {T = T} (utp_lines run.teller.form i.packets) before now (Err f) → IsToldTo f o left now
 not_added Write o left before now run r empty i a = part_written o left before now run r empty i a.0 a.1
 not_added Memory o left before now run r empty i a = subst (ArePartlyWritten o left) (sym a) (partly o left before [] run r i)
 not_added (File f) o left before now run r empty i a = absurd a
@@ -244,7 +259,7 @@ told_fault Turns o left now es run r x i = absurd x
 
 -- The file couldn't be read on.
 pub told_unread : (f : CaptureFault) (o : Origin) (left : Option (List ℕ)) (before now : TargetSeen) (run : Run) (r : Reading) → IsOfReading f → IsEmpty run.teller
-    → (i : IsTelling o left before [] run r) → Appends before.held now.held (flow_texts run.teller.json (flows (datagrams i.packets))) → IsToldTo f o left now
+    → (i : IsTelling o left before [] run r) → Appends before.held now.held (utp_lines run.teller.form i.packets) → IsToldTo f o left now
 told_unread Write o left before now run r x empty i held = absurd x
 told_unread Memory o left before now run r x empty i held = absurd x
 told_unread (File f) o left before now run r x empty i held = all_written o left before now run r empty i held
@@ -272,7 +287,7 @@ told_rest o left now old new es r all apart same i =
       packets = i.packets;
       read = i.read;
       terms = i.terms;
-      json = i.json;
+      form = i.form;
       time = i.time;
       follows = follows_same o.target now (arrivals i.packets) es old mid refl refl refl refl moves;
       utp = i.utp;
@@ -280,13 +295,13 @@ told_rest o left now old new es r all apart same i =
 
 -- ---- the begin
 
-pub begins : (o : Origin) (run : Run) (r : Reading) → run.terms ≡ o.terms → run.teller.json ≡ o.json → run.start ≡ None → Follows o.target o.target [] run.table run
+pub begins : (o : Origin) (run : Run) (r : Reading) → run.terms ≡ o.terms → run.teller.form ≡ o.form → run.start ≡ None → Follows o.target o.target [] run.table run
     → AreCounted [] run.utp → r ≡ nothing_read → IsTelling o o.left o.target run.table run r
-begins o run r terms json begin follows utp same = record {
+begins o run r terms form begin follows utp same = record {
   packets = [];
   read = subst (HasRead o o.left []) (sym same) (read_nothing o);
   terms = terms;
-  json = json;
+  form = form;
   time = begin;
   follows = follows;
   utp = utp;

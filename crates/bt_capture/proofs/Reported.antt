@@ -16,7 +16,7 @@ use Rattle.bt_talk.specs.declared.talk.Talk.{Talk}
 use Rattle.bt_told.specs.declared.report.Report.{Report}
 use Rattle.bt_capture.specs.Arrivals.{Arrival, arrivals, arrivals_of, arrivals_after, has_data, is_between, pair_of, first_time}
 use Rattle.bt_capture.specs.Connections.{IsFirst, IsOpen}
-use Rattle.bt_capture.specs.Following.{Finished, Fate, IsFinished, IsFate, IsKnown, IsShare, IsShared, IsEnded, Follows, Stops, Goes, Holds, taken_between, report_in, reports_of, is_lost_by, count_lost}
+use Rattle.bt_capture.specs.Following.{Finished, Fate, IsFinished, IsFate, IsKnown, IsShare, IsShared, IsEnded, TellsOn, Follows, Stops, Goes, Holds, taken_between, report_in, reports_of, is_lost_by, count_lost}
 use Rattle.bt_capture.specs.Following.{Reported, Silent, Lost}
 use Rattle.bt_capture.specs.Reportings.{IsReportOf}
 use Rattle.bt_capture.specs.Tables.{Held, same_pair}
@@ -119,19 +119,16 @@ abbrev pub Says : Teller → Teller → ℕ → ℕ → Talk → Type 0
 Says t t' number from talk = (a b : Past) → IsTalk a b talk → (r : Report) × IsReportOf number from a b talk r
     × ((start now : TargetSeen) (reports : List Report) → Tells start now t reports → Tells start now t' (reports ++ r ∷ []))
 
-abbrev pub SaysNothing : Teller → Teller → Type 0
-SaysNothing t t' = (start now : TargetSeen) (reports : List Report) → Tells start now t reports → Tells start now t' reports
-
 pub reported : {A E : Type 0} (r : Result A E) (start now : TargetSeen) (came : List Arrival) (p : Pair) (c : Held) (es : List (Pair × Held)) (old new : Run)
     → lookup (same_pair p) es ≡ None → c.value.has_payload ≡ true → new.terms ≡ old.terms → new.start ≡ old.start → new.lost ≡ old.lost
     → is_lost c.value.talk ≡ false → (talk : Talk) → ((a b : Past) → IsTalk a b c.value.talk → IsEnded a b c.value.talk talk) → (number : ℕ)
-    → OnOk r (Says old.teller new.teller number (unwrap_or old.start 0) talk) → OnErr r (SaysNothing old.teller new.teller)
-    → Follows start now came ((p, c) ∷ es) old → Goes start now came es new r
-reported (Ok x) start now came p c es old new absent some terms begin lost there talk ended number says nothing i =
+    → (Q : Type 0) → ((a b : Past) → IsTalk a b c.value.talk → Q) → OnOk r (Q → Says old.teller new.teller number (unwrap_or old.start 0) talk)
+    → OnErr r (Q → TellsOn old.teller new.teller) → Follows start now came ((p, c) ∷ es) old → Goes start now came es new r
+reported (Ok x) start now came p c es old new absent some terms begin lost there talk ended number Q shown says nothing i =
     let own = own_of old.terms came i.fs p c es i.shared in
     let m = own.is.made there in
     let e = ended m.a m.b m.made.is in
-    let s = says m.a m.b e.is in
+    let s = says (shown m.a m.b m.made.is) m.a m.b e.is in
     follows_over start now came p c es old new absent i (Reported s.0) terms begin (s.2 start now (reports_of i.fs) i.known.tells)
     (lost ∙ i.known.lost ∙ lost_same i.fs (record { pair = p; taken = own.taken; fate = Reported s.0 }) refl) (
       sym own.is.has_payload ∙ some,
@@ -148,11 +145,13 @@ reported (Ok x) start now came p c es old new absent some terms begin lost there
         is = s.1;
       },
     )
-reported (Err x) start now came p c es old new absent some terms begin lost there talk ended number says nothing i = record {
-  fs = i.fs;
-  known = known_same start now i.fs old new terms begin lost (nothing start now (reports_of i.fs) i.known.tells) i.known;
-  shared = λ k. ((i.shared k).taken, (i.shared k).share);
-}
+reported (Err x) start now came p c es old new absent some terms begin lost there talk ended number Q shown says nothing i =
+    let m = (own_of old.terms came i.fs p c es i.shared).is.made there in
+    record {
+      fs = i.fs;
+      known = known_same start now i.fs old new terms begin lost (nothing (shown m.a m.b m.made.is) start now (reports_of i.fs) i.known.tells) i.known;
+      shared = λ k. ((i.shared k).taken, (i.shared k).share);
+    }
 
 pub not_lost : {A E : Type 0} (lost : Bool) (x : A) (e : E) → (lost ≡ true → ◌≡◌ {A = Result A E} (Ok x) (Err e)) → lost ≡ false
 not_lost false x e stays = refl
@@ -298,6 +297,19 @@ pub holds_same : (start now : TargetSeen) (came : List Arrival) (x : Arrival) (p
 holds_same start now came x p c es old new terms begin lost teller i = record {
   fs = i.fs;
   known = known_same start now i.fs old new terms begin lost (subst (λ t. Tells start now t (reports_of i.fs)) (sym teller) i.known.tells) i.known;
+  taken = i.taken;
+  is = subst (λ y. IsOpen y i.taken (x ∷ []) c.value) (sym terms) i.is;
+  share = i.share;
+  absent = i.absent;
+  others = subst (λ y. (k : Pair) → same_pair k p ≡ false → IsShare y came i.fs k (lookup (same_pair k) es)) (sym terms) i.others;
+}
+
+-- Rows were told.
+pub holds_told : (start now : TargetSeen) (came : List Arrival) (x : Arrival) (p : Pair) (c : Held) (es : List (Pair × Held)) (old new : Run) → new.terms ≡ old.terms
+    → new.start ≡ old.start → new.lost ≡ old.lost → TellsOn old.teller new.teller → Holds start now came x p c es old → Holds start now came x p c es new
+holds_told start now came x p c es old new terms begin lost tells i = record {
+  fs = i.fs;
+  known = known_same start now i.fs old new terms begin lost (tells start now (reports_of i.fs) i.known.tells) i.known;
   taken = i.taken;
   is = subst (λ y. IsOpen y i.taken (x ∷ []) c.value) (sym terms) i.is;
   share = i.share;

@@ -17,6 +17,7 @@ use Rattle.bt_capture.specs.Tables.{Held, same_pair}
 use Rattle.bt_capture.specs.Tellings.{Tells}
 use Rattle.bt_capture.specs.declared.connections.Run.{Run}
 use Rattle.bt_capture.specs.declared.pair.Pair.{Pair}
+use Rattle.bt_capture.specs.declared.telling.Teller.{Teller}
 
 -- ---- connections that are over
 
@@ -99,6 +100,10 @@ pub record IsShare (terms : Terms) (arrivals : List Arrival) (fs : List Finished
   pub taken : List Arrival
   pub is : IsLeft terms taken left
   pub share : IsShared k arrivals fs taken
+
+-- The same reports are told.
+abbrev pub TellsOn : Teller → Teller → Type 0
+TellsOn t t' = (start now : TargetSeen) (reports : List Report) → Tells start now t reports → Tells start now t' reports
 
 -- ---- while a capture is read
 

@@ -7,6 +7,8 @@ pub mod Pairs
 pub mod FlowTexts
 pub mod Arrivals
 pub mod Connections
+pub mod Forms
+pub mod Shown
 pub mod Tellings
 pub mod Reportings
 pub mod Following

@@ -9,6 +9,7 @@ use Rattle.bt_capture.specs.declared.connections.Run.{Run}
 use Rattle.bt_capture.specs.declared.ending.CaptureEnd.{CaptureEnd}
 use Rattle.bt_capture.specs.declared.ending.CaptureFault.{CaptureFault}
 use Rattle.bt_capture.specs.declared.ending.CaptureJob.{CaptureJob}
+use Rattle.bt_capture.specs.declared.ending.Form.{Form}
 use Rattle.bt_capture.specs.declared.ending.CaptureFault.TheVariants.{File, Read, Write, Memory, Turns}
 use Rattle.bt_capture.specs.declared.packets.FileEnd.{FileEnd}
 use Rattle.bt_capture.specs.declared.packets.FileEnd.TheVariants.{Whole, Cut}
@@ -21,19 +22,19 @@ use Rattle.bt_capture.specs.Tables.{Held}
 use Rattle.bt_utp.specs.Flows.{flows}
 use Rattle.bt_utp.specs.States.{AreCounted}
 use Rattle.bt_capture.specs.FlowTexts.{datagrams, flow_texts}
-use Rattle.bt_capture.specs.Tellings.{texts, count_torrents, is_one_refused}
+use Rattle.bt_capture.specs.Tellings.{AreTexts, count_torrents, is_one_refused}
 
 -- ---- what a run begins with
 
--- the piece count, if it is known; whether reports are JSON objects; the bytes that the source has, if these are known; and the target
+-- what is known of the connections; how they are told; the bytes that the source has, if these are known; and the target
 pub record Origin : Type 0 where
   pub terms : Terms
-  pub json : Bool
+  pub form : Form
   pub left : Option (List ℕ)
   pub target : TargetSeen
 
 abbrev pub origin : CaptureJob → SourceSeen → TargetSeen → Origin
-origin job source target = record { terms = job.terms; json = job.json; left = source.left; target = target }
+origin job source target = record { terms = job.terms; form = record { show = job.show; json = job.json }; left = source.left; target = target }
 
 -- These packets were read from the source, all of them since the begin. Now it has these bytes left.
 pub record HasRead (o : Origin) (left : Option (List ℕ)) (packets : List Captured) (r : Reading) : Type 0 where
@@ -48,7 +49,7 @@ pub record IsTelling (o : Origin) (left : Option (List ℕ)) (now : TargetSeen) 
   pub packets : List Captured
   pub read : HasRead o left packets r
   pub terms : run.terms ≡ o.terms
-  pub json : run.teller.json ≡ o.json
+  pub form : run.teller.form ≡ o.form
   pub time : run.start ≡ first_time packets
   pub follows : Follows o.target now (arrivals packets) es run
   pub utp : AreCounted (datagrams packets) run.utp
@@ -69,12 +70,12 @@ abbrev pub is_cut_by : FileEnd → Bool
 is_cut_by Whole = false
 is_cut_by Cut = true
 
--- the texts of the reports on connections, in order, and after them the lines on packets of uTP
-abbrev pub whole_text : Origin → List Captured → List Finished → List ℕ
-whole_text o packets fs = texts o.json (reports_of fs) ++ flow_texts o.json (flows (datagrams packets))
+-- the lines on the packets of uTP that packets carry
+abbrev pub utp_lines : Form → List Captured → List ℕ
+utp_lines form packets = flow_texts form.json (flows (datagrams packets))
 
--- The file was read to its end. What was written are the texts of the reports on all its connections, in order, and the lines on uTP.
--- The reports add up to this.
+-- The file was read to its end. What was written are the texts of the reports on all its connections, in order, with rows between them, and
+-- after them the lines on uTP. The reports add up to this.
 pub record IsEndOf (o : Origin) (left : Option (List ℕ)) (now : TargetSeen) (end : CaptureEnd) : Type 0 where
   pub packets : List Captured
   pub r : Reading
@@ -85,7 +86,9 @@ pub record IsEndOf (o : Origin) (left : Option (List ℕ)) (now : TargetSeen) (e
   pub count : end.packets ≡ min (length packets) (2 ^ 64 - 1)
   pub fs : List Finished
   pub over : AreAllOver o packets fs
-  pub written : Appends o.target.held now.held (whole_text o packets fs)
+  pub text : List ℕ
+  pub texts_are : AreTexts o.form (reports_of fs) text
+  pub written : Appends o.target.held now.held (text ++ utp_lines o.form packets)
   pub calm : now.failed ≡ o.target.failed
   pub torrents : end.torrents ≡ count_torrents (reports_of fs)
   pub refused : end.is_refused ≡ is_one_refused (reports_of fs)
@@ -98,11 +101,13 @@ pub record AreWritten (o : Origin) (left : Option (List ℕ)) (now : TargetSeen)
   pub read : HasRead o left packets r
   pub fs : List Finished
   pub over : AreAllOver o packets fs
-  pub written : Appends o.target.held now.held (whole_text o packets fs)
+  pub text : List ℕ
+  pub texts_are : AreTexts o.form (reports_of fs) text
+  pub written : Appends o.target.held now.held (text ++ utp_lines o.form packets)
 
--- No lines on uTP, as long as a connection may be left
+-- There are no lines on uTP as long as a connection may be left.
 abbrev pub AreLines : Origin → List Captured → List Finished → List ℕ → Type 0
-AreLines o packets fs lines = (lines ≡ []) ⊎ (AreAllOver o packets fs × (lines ≡ flow_texts o.json (flows (datagrams packets))))
+AreLines o packets fs lines = (lines ≡ []) ⊎ (AreAllOver o packets fs × (lines ≡ utp_lines o.form packets))
 
 -- The first part of the texts of reports on connections of what was read, and of the lines on uTP after all of them, is written.
 pub record ArePartlyWritten (o : Origin) (left : Option (List ℕ)) (now : TargetSeen) : Type 0 where
@@ -111,9 +116,11 @@ pub record ArePartlyWritten (o : Origin) (left : Option (List ℕ)) (now : Targe
   pub read : HasRead o left packets r
   pub fs : List Finished
   pub over : AreOver o packets fs
+  pub text : List ℕ
+  pub texts_are : AreTexts o.form (reports_of fs) text
   pub lines : List ℕ
   pub are_lines : AreLines o packets fs lines
-  pub front : AppendsPrefix o.target.held now.held (texts o.json (reports_of fs) ++ lines)
+  pub front : AppendsPrefix o.target.held now.held (text ++ lines)
 
 -- A write failed: the first part of the texts is written, or all of them and the first part of the lines on uTP.
 pub record IsLeft (o : Origin) (left : Option (List ℕ)) (now : TargetSeen) : Type 0 where
@@ -122,9 +129,11 @@ pub record IsLeft (o : Origin) (left : Option (List ℕ)) (now : TargetSeen) : T
   pub read : HasRead o left packets r
   pub fs : List Finished
   pub over : AreOver o packets fs
+  pub text : List ℕ
+  pub texts_are : AreTexts o.form (reports_of fs) text
   pub lines : List ℕ
   pub are_lines : AreLines o packets fs lines
-  pub front : AppendsPrefix o.target.held now.held (texts o.json (reports_of fs) ++ lines)
+  pub front : AppendsPrefix o.target.held now.held (text ++ lines)
   pub failed : WriteFailed o.target now
 
 abbrev pub IsToldTo : CaptureFault → Origin → Option (List ℕ) → TargetSeen → Type 0
@@ -134,8 +143,8 @@ IsToldTo Read o left now = AreWritten o left now
 IsToldTo Memory o left now = ArePartlyWritten o left now
 IsToldTo Turns o left now = ArePartlyWritten o left now
 
--- What is written are the texts of the reports on the connections of the packets that were read, and the lines on their packets of uTP:
--- all of them at the end, and when the file can't be read on.
+-- What is written are the texts of the reports on the connections of the packets that were read, with rows between them, and the lines on
+-- their packets of uTP: all of them at the end, and when the file can't be read on.
 abbrev pub IsTold : Origin → Option (List ℕ) → TargetSeen → Result CaptureEnd CaptureFault → Type 0
 IsTold o left now (Ok end) = IsEndOf o left now end
 IsTold o left now (Err f) = IsToldTo f o left now

@@ -1,15 +1,18 @@
 -- The reports of connections, in order, and what they add up to.
-use Rattle.std.specs.Prelude.{◌≡◌, ℕ, ◌^◌, ◌-◌, min, Bool, true, false, List, [], ◌++◌, length}
+use Rattle.std.specs.Prelude.{◌≡◌, ℕ, ◌^◌, ◌-◌, min, Bool, true, false, List, [], ◌∷◌, ◌++◌, length}
 use Rattle.std.specs.List.{flat_map, filter, list_any}
 use Rattle.std.specs.Io.KnownBytes.{Appends}
 use Rattle.bt_io.specs.Seen.{TargetSeen, AppendsPrefix, WriteFailed}
 use Rattle.bt_told.specs.Findings.{finding_of}
 use Rattle.bt_told.specs.Objects.{report_object}
 use Rattle.bt_told.specs.Reports.{report_text}
+use Rattle.bt_talk.specs.Rows.{Shown, shown_texts}
 use Rattle.bt_told.specs.declared.finding.Finding.{Finding}
 use Rattle.bt_told.specs.declared.finding.Finding.TheVariants as finding
 use Rattle.bt_told.specs.declared.report.Report.{Report}
+use Rattle.bt_capture.specs.declared.ending.Form.{Form}
 use Rattle.bt_capture.specs.declared.telling.Teller.{Teller}
+use Rattle.bt_capture.specs.Forms.{showing_by}
 
 -- ---- a report on a connection
 
@@ -41,6 +44,29 @@ text_by true r = report_object r
 abbrev pub texts : Bool → List Report → List ℕ
 texts json reports = flat_map (text_by json) reports
 
+-- ---- reports, and rows between them
+
+-- a report, or rows of what sides of connections did
+pub data Part : Type 0 where
+  OfReport : Report → Part
+  OfRows : List Shown → Part
+
+abbrev pub report_of_part : Part → List Report
+report_of_part (OfReport r) = r ∷ []
+report_of_part (OfRows rows) = []
+
+abbrev pub part_text : Form → Part → List ℕ
+part_text form (OfReport r) = text_by form.json r
+part_text form (OfRows rows) = shown_texts (showing_by form) rows
+
+-- The text is that of these reports, in order, and of rows before, between and after them.
+pub record AreTexts (form : Form) (reports : List Report) (text : List ℕ) : Type 0 where
+  pub parts : List Part
+  pub reports_are : flat_map report_of_part parts ≡ reports
+  pub is : text ≡ flat_map (part_text form) parts
+
+-- ---- what reports add up to
+
 -- how many are of BitTorrent connections, at most 2 ^ 64 - 1
 abbrev pub count_torrents : List Report → ℕ
 count_torrents reports = min (length (filter is_told reports)) (2 ^ 64 - 1)
@@ -48,18 +74,20 @@ count_torrents reports = min (length (filter is_told reports)) (2 ^ 64 - 1)
 abbrev pub is_one_refused : List Report → Bool
 is_one_refused reports = list_any is_refused reports
 
--- These reports were told, and what they add up to is known. Their texts are written, except for what is kept.
+-- These reports were told, and what they add up to is known. Their texts are written, and those of rows, except for what is kept.
 pub record Tells (start now : TargetSeen) (t : Teller) (reports : List Report) : Type 0 where
   pub written : List ℕ
-  pub whole : written ++ t.text.items ≡ texts t.json reports
+  pub whole : AreTexts t.form reports (written ++ t.text.items)
   pub held : Appends start.held now.held written
   pub calm : now.failed ≡ start.failed
   pub torrents : t.torrents ≡ count_torrents reports
   pub refused : t.is_refused ≡ is_one_refused reports
 
 -- A write failed: the first part of the texts is written.
-pub record IsStopped (json : Bool) (start now : TargetSeen) (reports : List Report) : Type 0 where
-  pub front : AppendsPrefix start.held now.held (texts json reports)
+pub record IsStopped (form : Form) (start now : TargetSeen) (reports : List Report) : Type 0 where
+  pub text : List ℕ
+  pub texts_are : AreTexts form reports text
+  pub front : AppendsPrefix start.held now.held text
   pub failed : WriteFailed start now
 
 -- All is written.

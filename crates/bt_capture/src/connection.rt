@@ -3,7 +3,9 @@ ghost use Rattle.bt_talk.specs.declared.terms.Terms.{Terms};
 ghost use Rattle.std.specs.Prelude.{◌≡◌, ◌++◌, ◌∷◌, List, [], Option, ℕ};
 ghost use Rattle.bt_talk.specs.declared.closing.When.{When};
 ghost use Rattle.bt_capture.specs.Arrivals.{Arrival, arrived, has_data};
+ghost use Rattle.bt_talk.specs.Rooms.{rows_in, showing_in};
 ghost use Rattle.bt_capture.specs.Connections.{IsOpen};
+ghost use Rattle.bt_capture.specs.Shown.{HasRows};
 
 use bt_packet::Segment;
 use bt_talk::{Room, Side, Talk, Terms, When};
@@ -48,10 +50,12 @@ impl Connection {
 
     /// Takes a segment.
     ///
-    /// If memory runs out the connection is lost.
+    /// If memory runs out the connection is lost. The room had no rows before; then it has those of the segment.
     pub fn take(&mut self, segment: &Segment, when: When, room: &mut Room)
-        ensures { (terms : Terms) (taken : List Arrival) → let a = arrived segment.now when in IsOpen terms taken (a ∷ []) self.old
+        ensures takes { (terms : Terms) (taken : List Arrival) → let a = arrived segment.now when in IsOpen terms taken (a ∷ []) self.old
             → IsOpen terms (taken ++ a ∷ []) [] self.new }
+        ensures rows { (terms : Terms) (taken : List Arrival) → IsOpen terms taken (arrived segment.now when ∷ []) self.old
+            → (rows_in room.old).text.items ≡ [] → HasRows (showing_in room.old) room.new }
     {
         self.has_payload |= has_payload(segment);
         let _taken = self.talk.take(segment, when, room);

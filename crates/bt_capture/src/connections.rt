@@ -10,12 +10,14 @@ ghost use Rattle.bt_utp.specs.Flows.{flows};
 ghost use Rattle.bt_utp.specs.States.{AreCounted};
 ghost use Rattle.bt_packet.specs.declared.utp.Utp.{Utp};
 ghost use Rattle.bt_capture.specs.FlowTexts.{datagrams, datagrams_in, flow_texts};
-ghost use Rattle.bt_capture.specs.Following.{Follows, Goes, Finds};
+ghost use Rattle.bt_capture.specs.Connections.{IsOpen};
+ghost use Rattle.bt_capture.specs.Following.{Follows, Goes, Finds, TellsOn};
 ghost use Rattle.bt_capture.specs.Sights.{seen};
 ghost use Rattle.bt_capture.specs.Tables.{Held, same_pair, IsApart};
 ghost use Rattle.bt_capture.specs.declared.pair.Pair.{Pair};
 
 use crate::connection::Connection;
+use crate::ending::Form;
 use crate::pair::Pair;
 use crate::sight::{Sight, sight_of};
 use crate::table::Table;
@@ -55,11 +57,11 @@ impl Run {
     ///
     /// # Errors
     /// `AllocError` when out of memory.
-    pub fn new(alloc: Global, terms: Terms, json: bool) -> Result<Run, AllocError>
+    pub fn new(alloc: Global, terms: Terms, form: Form) -> Result<Run, AllocError>
         ensures follows { IfOk result (λ run. (start : TargetSeen) → Follows start start [] run.table run) }
         ensures start { IfOk result (λ run. run.start ≡ None) }
         ensures terms { IfOk result (λ run. run.terms ≡ terms) }
-        ensures json { IfOk result (λ run. run.teller.json ≡ json) }
+        ensures form { IfOk result (λ run. run.teller.form ≡ form) }
         ensures utp { IfOk result (λ run. AreCounted [] run.utp) }
     {
         Ok(Run {
@@ -69,7 +71,7 @@ impl Run {
             table: Table::new(alloc)?,
             bytes: 0,
             begun: 0,
-            teller: Teller::new(alloc, json),
+            teller: Teller::new(alloc, form),
             utp: UtpFlows::new(alloc),
             room: Room::new(alloc)?,
             skipped: 0,
@@ -86,7 +88,7 @@ impl Run {
             → Follows start now came ((p, connection) ∷ es) self.old → Goes start now came es self.new result }
         ensures table { self.new.table ≡ self.old.table }
         ensures terms { self.new.terms ≡ self.old.terms }
-        ensures json { self.new.teller.json ≡ self.old.teller.json }
+        ensures form { self.new.teller.form ≡ self.old.teller.form }
         ensures start { self.new.start ≡ self.old.start }
         ensures utp { self.new.utp ≡ self.old.utp }
     {
@@ -94,10 +96,12 @@ impl Run {
             return Ok(());
         }
         let from = self.start.unwrap_or(0);
+        let number = connection.number;
+        self.room.turn_to(self.teller.showing(), number, from);
         match connection.talk.end_opening(&mut self.room) {
             Ok(()) => self
                 .teller
-                .report(&connection.talk, connection.number, from),
+                .report(&connection.talk, number, from, &mut self.room),
             Err(_) => {
                 self.lost = self.lost.saturating_add(1);
                 Ok(())
@@ -111,7 +115,7 @@ impl Run {
             → Goes start now came self.new.table self.new result }
         ensures shorter { 0 < length self.old.table → length self.new.table < length self.old.table }
         ensures terms { self.new.terms ≡ self.old.terms }
-        ensures json { self.new.teller.json ≡ self.old.teller.json }
+        ensures form { self.new.teller.form ≡ self.old.teller.form }
         ensures start { self.new.start ≡ self.old.start }
         ensures utp { self.new.utp ≡ self.old.utp }
     {
@@ -129,7 +133,7 @@ impl Run {
         ensures goes { (start now : TargetSeen) (came : List Arrival) → Follows start now came self.old.table self.old
             → Goes start now came self.new.table self.new result }
         ensures terms { self.new.terms ≡ self.old.terms }
-        ensures json { self.new.teller.json ≡ self.old.teller.json }
+        ensures form { self.new.teller.form ≡ self.old.teller.form }
         ensures start { self.new.start ≡ self.old.start }
         ensures utp { self.new.utp ≡ self.old.utp }
     {
@@ -151,7 +155,7 @@ impl Run {
         ensures goes { (start now : TargetSeen) (came : List Arrival) → Follows start now came ((pair, connection) ∷ self.old.table) self.old
             → Goes start now came self.new.table self.new result }
         ensures terms { self.new.terms ≡ self.old.terms }
-        ensures json { self.new.teller.json ≡ self.old.teller.json }
+        ensures form { self.new.teller.form ≡ self.old.teller.form }
         ensures start { self.new.start ≡ self.old.start }
         ensures utp { self.new.utp ≡ self.old.utp }
     {
@@ -168,7 +172,7 @@ impl Run {
             → Follows start now came es self.old → Finds start now came (arrived segment.now when) p es self.new result }
         ensures table { self.new.table ≡ self.old.table }
         ensures terms { self.new.terms ≡ self.old.terms }
-        ensures json { self.new.teller.json ≡ self.old.teller.json }
+        ensures form { self.new.teller.form ≡ self.old.teller.form }
         ensures start { self.new.start ≡ self.old.start }
         ensures utp { self.new.utp ≡ self.old.utp }
     {
@@ -193,7 +197,7 @@ impl Run {
             → Follows start now came ((p, connection) ∷ es) self.old → Finds start now came (arrived segment.now when) p es self.new result }
         ensures table { self.new.table ≡ self.old.table }
         ensures terms { self.new.terms ≡ self.old.terms }
-        ensures json { self.new.teller.json ≡ self.old.teller.json }
+        ensures form { self.new.teller.form ≡ self.old.teller.form }
         ensures start { self.new.start ≡ self.old.start }
         ensures utp { self.new.utp ≡ self.old.utp }
     {
@@ -217,7 +221,7 @@ impl Run {
             → Finds start now came (arrived segment.now when) pair self.new.table self.new result }
         ensures absent { lookup (same_pair pair) self.new.table ≡ None }
         ensures terms { self.new.terms ≡ self.old.terms }
-        ensures json { self.new.teller.json ≡ self.old.teller.json }
+        ensures form { self.new.teller.form ≡ self.old.teller.form }
         ensures start { self.new.start ≡ self.old.start }
         ensures utp { self.new.utp ≡ self.old.utp }
     {
@@ -230,20 +234,46 @@ impl Run {
         }
     }
 
+    /// Gives a segment to its connection, and tells the rows of it.
+    ///
+    /// # Errors
+    /// `AllocError` when out of memory. The rows aren't told then.
+    fn give(
+        &mut self,
+        connection: &mut Connection,
+        segment: &Segment,
+        when: When,
+    ) -> Result<(), AllocError>
+        ensures takes { (terms : Terms) (taken : List Arrival) → let a = arrived segment.now when in IsOpen terms taken (a ∷ []) connection.old
+            → IsOpen terms (taken ++ a ∷ []) [] connection.new }
+        ensures tells { (terms : Terms) (taken : List Arrival) → IsOpen terms taken (arrived segment.now when ∷ []) connection.old
+            → TellsOn self.old.teller self.new.teller }
+        ensures form { self.new.teller.form ≡ self.old.teller.form }
+        ensures rest { self.new ≡ record self.old { teller = self.new.teller; room = self.new.room } }
+    {
+        let from = self.start.unwrap_or(0);
+        self.room
+            .turn_to(self.teller.showing(), connection.number, from);
+        connection.take(segment, when, &mut self.room);
+        self.teller.show(&self.room)
+    }
+
     /// Takes a segment.
     fn take_segment(&mut self, segment: &Segment, when: When) -> Result<(), AllocError>
         ensures goes { (start now : TargetSeen) (came : List Arrival) → Follows start now came self.old.table self.old
             → Goes start now (came ++ arrived segment.now when ∷ []) self.new.table self.new result }
         ensures terms { self.new.terms ≡ self.old.terms }
-        ensures json { self.new.teller.json ≡ self.old.teller.json }
+        ensures form { self.new.teller.form ≡ self.old.teller.form }
         ensures start { self.new.start ≡ self.old.start }
         ensures utp { self.new.utp ≡ self.old.utp }
     {
         let pair = Pair::of(segment.source, segment.target);
         match self.connection_of(pair, segment, when) {
             Ok(mut connection) => {
-                connection.take(segment, when, &mut self.room);
-                self.put(pair, connection)
+                match self.give(&mut connection, segment, when) {
+                    Ok(()) => self.put(pair, connection),
+                    Err(error) => Err(error),
+                }
             }
             Err(error) => Err(error),
         }
@@ -261,7 +291,7 @@ impl Run {
         ensures goes { (start now : TargetSeen) (came : List Arrival) → Follows start now came self.old.table self.old
             → Goes start now (came ++ arrivals_in when.packet when.nanos (seen sight.now)) self.new.table self.new result }
         ensures terms { self.new.terms ≡ self.old.terms }
-        ensures json { self.new.teller.json ≡ self.old.teller.json }
+        ensures form { self.new.teller.form ≡ self.old.teller.form }
         ensures start { self.new.start ≡ self.old.start }
         ensures utp { OnOk result ((ds : List Utp) → AreCounted ds self.old.utp → AreCounted (ds ++ datagrams_in (seen sight.now)) self.new.utp) }
     {
@@ -290,7 +320,7 @@ impl Run {
             → self.old.start ≡ first_time packets → Follows start now (arrivals packets) self.old.table self.old
             → Goes start now (arrivals (packets ++ captured packet.now ∷ [])) self.new.table self.new result }
         ensures terms { self.new.terms ≡ self.old.terms }
-        ensures json { self.new.teller.json ≡ self.old.teller.json }
+        ensures form { self.new.teller.form ≡ self.old.teller.form }
         ensures start { (packets : List Captured) → self.old.start ≡ first_time packets → self.new.start ≡ first_time (packets ++ captured packet.now ∷ []) }
         ensures utp { OnOk result ((packets : List Captured) → AreCounted (datagrams packets) self.old.utp → AreCounted (datagrams (packets ++ captured packet.now ∷ [])) self.new.utp) }
     {
@@ -324,8 +354,8 @@ impl Run {
     /// # Errors
     /// `AllocError` when out of memory.
     pub fn utp_lines(&self) -> Result<Vec<u8>, AllocError>
-        ensures { IfOk result (λ text. (ds : List Utp) → AreCounted ds self.now.utp → text.items ≡ flow_texts self.now.teller.json (flows ds)) }
+        ensures { IfOk result (λ text. (ds : List Utp) → AreCounted ds self.now.utp → text.items ≡ flow_texts self.now.teller.form.json (flows ds)) }
     {
-        flow_lines(self.alloc, &self.utp, self.teller.json)
+        flow_lines(self.alloc, &self.utp, self.teller.form.json)
     }
 }

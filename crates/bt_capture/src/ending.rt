@@ -1,6 +1,9 @@
 //! What `capture` is asked for, how it ends, and what can stop it.
+ghost use Rattle.std.specs.Prelude.{◌≡◌};
+ghost use Rattle.bt_capture.specs.Forms.{showing_by};
+
 use bt_pcap::FileFault;
-use bt_talk::Terms;
+use bt_talk::{Showing, Terms};
 use thiserror::Error;
 
 /// What is asked for.
@@ -8,8 +11,32 @@ use thiserror::Error;
 pub struct CaptureJob {
     /// What is known of the connections besides their bytes.
     pub terms: Terms,
-    /// Whether reports are JSON objects, each on a line; else they are text.
+    /// Whether rows are told too: what each side does, as it comes.
+    pub show: bool,
+    /// Whether reports and rows are JSON objects, each on a line; else they are text.
     pub json: bool,
+}
+
+/// How it is told.
+#[derive(Clone, Copy, PartialEq, Eq, Debug)]
+pub struct Form {
+    /// Whether rows are told too.
+    pub show: bool,
+    /// Whether reports and rows are JSON objects; else they are text.
+    pub json: bool,
+}
+
+impl Form {
+    /// Returns how rows are shown.
+    pub(crate) fn showing(self) -> Showing
+        ensures { result ≡ showing_by self }
+    {
+        match (self.show, self.json) {
+            (false, _) => Showing::Nothing,
+            (true, false) => Showing::Text,
+            (true, true) => Showing::Objects,
+        }
+    }
 }
 
 /// What a capture had.

@@ -6,6 +6,7 @@ mod connection;
 mod connections;
 mod ending;
 mod fault;
+pub mod laws;
 mod packets;
 mod pair;
 mod reporting;
@@ -16,7 +17,7 @@ mod telling;
 mod utp;
 mod walk;
 
-pub use ending::{CaptureEnd, CaptureFault, CaptureJob};
+pub use ending::{CaptureEnd, CaptureFault, CaptureJob, Form};
 pub use fault::ReadFault;
 pub use packets::{FileEnd, Packets};
 pub use pair::Pair;

@@ -6,17 +6,17 @@ ghost use Rattle.bt_packet.specs.declared.utp.Utp.{Utp};
 ghost use Rattle.bt_utp.specs.Flows.{flows};
 ghost use Rattle.bt_utp.specs.States.{AreCounted};
 ghost use Rattle.bt_capture.specs.Ends.{IsEnded};
-ghost use Rattle.bt_capture.specs.FlowTexts.{datagrams, flow_texts};
+ghost use Rattle.bt_capture.specs.FlowTexts.{flow_texts};
 ghost use Rattle.bt_capture.specs.Readings.{Reading};
 ghost use Rattle.bt_capture.specs.Tables.{Held, same_pair};
 ghost use Rattle.bt_capture.specs.Tellings.{IsEmpty};
-ghost use Rattle.bt_capture.specs.Runs.{Adds, Origin, done, origin, IsTelling, IsOfTelling, IsOfReading, IsAfter, IsTold, IsEndOf, is_cut_by};
+ghost use Rattle.bt_capture.specs.Runs.{Adds, Origin, done, origin, IsTelling, IsOfTelling, IsOfReading, IsAfter, IsTold, IsEndOf, is_cut_by, utp_lines};
 ghost use Rattle.bt_capture.specs.declared.connections.Run.{Run};
 ghost use Rattle.bt_capture.specs.declared.pair.Pair.{Pair};
 
 use crate::connection::Connection;
 use crate::connections::Run;
-use crate::ending::{CaptureEnd, CaptureFault, CaptureJob};
+use crate::ending::{CaptureEnd, CaptureFault, CaptureJob, Form};
 use crate::fault::ReadFault;
 use crate::packets::{FileEnd, Packets};
 use bt_io::{Source, Target};
@@ -186,7 +186,7 @@ fn finish<W: Target>(run: &mut Run, writer: &mut W) -> Result<(), CaptureFault>
 /// Writes the lines on packets of uTP, after all reports.
 fn write_utp<W: Target>(run: &Run, writer: &mut W) -> Result<(), CaptureFault>
     ensures { (ds : List Utp) → AreCounted ds run.now.utp
-        → Adds (flow_texts run.now.teller.json (flows ds)) (W.seen writer.old) (W.seen writer.new) result }
+        → Adds (flow_texts run.now.teller.form.json (flows ds)) (W.seen writer.old) (W.seen writer.new) result }
 {
     let Ok(lines) = run.utp_lines() else {
         return Err(CaptureFault::Memory);
@@ -210,7 +210,7 @@ fn is_cut(end: FileEnd) -> bool
 /// Returns what the capture had, once all is told.
 fn end_of(run: &Run, packets: &Packets, end: FileEnd) -> CaptureEnd
     ensures { (o : Origin) (left : Option (List ℕ)) (before now : TargetSeen) (i : IsTelling o left before [] run.now packets.now) → IsEmpty run.now.teller
-        → IsEnded packets.now (Ok end) → Adds (flow_texts run.now.teller.json (flows (datagrams i.packets))) before now done → IsEndOf o left now result }
+        → IsEnded packets.now (Ok end) → Adds (utp_lines run.now.teller.form i.packets) before now done → IsEndOf o left now result }
 {
     CaptureEnd {
         packets: packets.packets(),
@@ -282,8 +282,10 @@ fn tell_all<R: Source, W: Target>(
 
 /// Writes a report on each TCP connection of a capture file of which a byte was captured, and returns what the capture had.
 ///
-/// A connection is reported when it is over; the others at the end, in the order of their numbers. After all reports there is a line
-/// on each two ends with packets of uTP, in the order of the first ones. What was told is written before more is read. If a read fails or the file is broken, all that was read up to there is reported.
+/// A connection is reported when it is over; the others at the end, in the order of their numbers. If rows are shown, those of a
+/// packet come at once, after the connection's opening, and all of a connection before its report. After all reports there is a line
+/// on each two ends with packets of uTP, in the order of the first ones. What was told is written before more is read. If a read
+/// fails or the file is broken, all that was read up to there is reported.
 ///
 /// # Errors
 /// `File` if the bytes aren't those of a capture file. `Read` if a read failed, `Write` if a write failed or took no byte, `Memory`
@@ -296,7 +298,11 @@ pub fn run_capture<R: Source, W: Target>(
 ) -> Result<CaptureEnd, CaptureFault>
     ensures told { IsTold (origin job.now (R.seen reader.old) (W.seen writer.old)) (R.seen reader.new).left (W.seen writer.new) result }
 {
-    match Run::new(alloc, job.terms, job.json) {
+    let form = Form {
+        show: job.show,
+        json: job.json,
+    };
+    match Run::new(alloc, job.terms, form) {
         Ok(mut run) => match Packets::new(alloc) {
             Ok(mut packets) => tell_all(&mut run, &mut packets, reader, writer),
             Err(_) => Err(CaptureFault::Memory),

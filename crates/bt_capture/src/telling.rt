@@ -1,17 +1,20 @@
-//! The text of reports, or their JSON objects, which are written in large pieces.
+//! The text of reports and rows, or their JSON objects, which are written in large pieces.
 ghost use Rattle.std.specs.Prelude.{◌≡◌, ◌∷◌, ◌++◌, [], ℕ, List, OnOk, OnErr};
 ghost use Rattle.bt_io.specs.Counts.{counted as counted_by};
 ghost use Rattle.bt_io.specs.Seen.{TargetSeen, WriteFailed};
 ghost use Rattle.bt_told.specs.declared.report.Report.{Report};
 ghost use Rattle.bt_talk.specs.Pasts.{Past};
 ghost use Rattle.bt_talk.specs.Talks.{IsTalk};
+ghost use Rattle.bt_capture.specs.Forms.{showing_by};
 ghost use Rattle.bt_capture.specs.Reportings.{IsReportOf};
+ghost use Rattle.bt_capture.specs.Shown.{HasRows};
 ghost use Rattle.bt_capture.specs.Tellings.{is_told_with, is_refused_with, text_by};
 
+use crate::ending::Form;
 use crate::reporting::body_of;
 use bt_io::{Target, WriteFault};
 use bt_jobs::output::write_out;
-use bt_talk::Talk;
+use bt_talk::{Room, Showing, Talk};
 use bt_told::{Finding, Report, put_report, put_report_object};
 use std::alloc::{AllocError, Global};
 
@@ -63,11 +66,11 @@ fn put_by(json: bool, report: &Report, text: &mut Vec<u8>) -> Result<(), AllocEr
     }
 }
 
-/// Tells reports: their text is kept, and written in large pieces.
+/// Tells reports, and rows between them: their text is kept, and written in large pieces.
 #[derive(Drop)]
 pub struct Teller {
     text: Vec<u8>,
-    json: bool,
+    pub(crate) form: Form,
     /// How many reports are on BitTorrent connections.
     torrents: u64,
     is_refused: bool,
@@ -76,14 +79,14 @@ pub struct Teller {
 impl Teller {
     ghost use Rattle.bt_capture.specs.Tellings.{Tells, IsStopped, count_torrents, is_one_refused, IsEmpty};
 
-    /// Starts with no report. With `json` each is told as a JSON object.
-    pub fn new(alloc: Global, json: bool) -> Teller
+    /// Starts with no report.
+    pub fn new(alloc: Global, form: Form) -> Teller
         ensures tells { (start : TargetSeen) → Tells start start result [] }
-        ensures json { result.json ≡ json }
+        ensures form { result.form ≡ form }
     {
         Teller {
             text: Vec::new(alloc),
-            json,
+            form,
             torrents: 0,
             is_refused: false,
         }
@@ -98,25 +101,42 @@ impl Teller {
             → Tells start now self.new (reports ++ report.now ∷ [])) }
         ensures same { OnErr result ((start now : TargetSeen) (reports : List Report) → Tells start now self.old reports
             → Tells start now self.new reports) }
-        ensures json { self.new.json ≡ self.old.json }
+        ensures form { self.new.form ≡ self.old.form }
     {
-        put_by(self.json, report, &mut self.text)?;
+        put_by(self.form.json, report, &mut self.text)?;
         let finding = report.finding();
         self.torrents = counted(self.torrents, finding);
         self.is_refused |= is_refused(finding);
         Ok(())
     }
 
-    /// Tells the report on a connection, in a capture that starts at this time.
+    /// Returns how rows are shown.
+    pub fn showing(&self) -> Showing
+        ensures { result ≡ showing_by self.now.form }
+    {
+        self.form.showing()
+    }
+
+    /// Tells the rows that a room has.
     ///
     /// # Errors
-    /// `AllocError` when out of memory. The report isn't told then.
-    pub fn report(&mut self, talk: &Talk, number: u64, from: u64) -> Result<(), AllocError>
+    /// `AllocError` when out of memory. They aren't told then.
+    pub fn show(&mut self, room: &Room) -> Result<(), AllocError>
+        ensures told { HasRows (showing_by self.old.form) room.now → (start now : TargetSeen) (reports : List Report) → Tells start now self.old reports
+            → Tells start now self.new reports }
+        ensures form { self.new.form ≡ self.old.form }
+    {
+        self.text.extend_from_slice(room.rows())?;
+        Ok(())
+    }
+
+    /// Tells the report on a connection, whose number and rows the room has, in a capture that starts at this time.
+    fn report_on(&mut self, talk: &Talk, number: u64, from: u64) -> Result<(), AllocError>
         ensures told { OnOk result ((a b : Past) → IsTalk a b talk.now → (r : Report) × IsReportOf number from a b talk.now r
             × ((start now : TargetSeen) (reports : List Report) → Tells start now self.old reports → Tells start now self.new (reports ++ r ∷ []))) }
         ensures same { OnErr result ((start now : TargetSeen) (reports : List Report) → Tells start now self.old reports
             → Tells start now self.new reports) }
-        ensures json { self.new.json ≡ self.old.json }
+        ensures form { self.new.form ≡ self.old.form }
     {
         let ends = talk.ends();
         let body = body_of(talk, from);
@@ -129,6 +149,29 @@ impl Teller {
             Ok(()) => Ok(()),
             Err(error) => Err(error),
         }
+    }
+
+    /// Tells the last rows of a connection, those of its gaps, and the report on it, in a capture that starts at this time.
+    ///
+    /// # Errors
+    /// `AllocError` when out of memory. The report isn't told then.
+    pub fn report(
+        &mut self,
+        talk: &Talk,
+        number: u64,
+        from: u64,
+        room: &mut Room,
+    ) -> Result<(), AllocError>
+        ensures told { OnOk result (HasRows (showing_by self.old.form) room.old → (a b : Past) → IsTalk a b talk.now
+            → (r : Report) × IsReportOf number from a b talk.now r
+            × ((start now : TargetSeen) (reports : List Report) → Tells start now self.old reports → Tells start now self.new (reports ++ r ∷ []))) }
+        ensures same { OnErr result (HasRows (showing_by self.old.form) room.old → (start now : TargetSeen) (reports : List Report)
+            → Tells start now self.old reports → Tells start now self.new reports) }
+        ensures form { self.new.form ≡ self.old.form }
+    {
+        talk.show_gaps(room)?;
+        self.show(room)?;
+        self.report_on(talk, number, from)
     }
 
     /// Tells whether the text is long enough to be written.
@@ -145,9 +188,9 @@ impl Teller {
             → Tells start (W.seen writer.new) self.new reports) }
         ensures empty { OnOk result (IsEmpty self.new) }
         ensures stopped { OnErr result ((start : TargetSeen) (reports : List Report) → Tells start (W.seen writer.old) self.old reports
-            → IsStopped self.old.json start (W.seen writer.new) reports) }
+            → IsStopped self.old.form start (W.seen writer.new) reports) }
         ensures failed { OnErr result (WriteFailed (W.seen writer.old) (W.seen writer.new)) }
-        ensures json { self.new.json ≡ self.old.json }
+        ensures form { self.new.form ≡ self.old.form }
     {
         match write_out(writer, self.text.as_slice(), ()) {
             Ok(()) => {

@@ -3,9 +3,11 @@ pub mod Refusals
 pub mod Receivers
 pub mod Stages
 pub mod Watching
+pub mod Shown
 pub mod Items
 pub mod Cuts
 pub mod Replays
 pub mod Talks
 pub mod Closes
 pub mod AskedItems
+pub mod Lent

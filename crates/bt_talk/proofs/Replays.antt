@@ -13,6 +13,7 @@ use Rattle.bt_wire.specs.declared.item.Item.{Item}
 use Rattle.bt_talk.specs.declared.replay.Close.{Close}
 use Rattle.bt_talk.specs.declared.replay.Close.TheVariants.{Passed, Ahead}
 use Rattle.bt_talk.specs.declared.replay.Replay.{Replay}
+use Rattle.bt_talk.specs.declared.rows.Rows.{Rows}
 use Rattle.bt_talk.specs.declared.stage.Cut.{Cut}
 use Rattle.bt_talk.specs.declared.stage.Judged.{Judged}
 use Rattle.bt_talk.specs.declared.watch.Watch.{Watch}
@@ -20,9 +21,11 @@ use Rattle.bt_talk.specs.Cuts.{IsCutNow, IsLastIn, IsLastOf, cut_length}
 use Rattle.bt_talk.specs.Pasts.{Past}
 use Rattle.bt_talk.specs.Receivers.{IsJudgedBy}
 use Rattle.bt_talk.specs.Replays.{IsJudgedTo, IsReplay, IsReplayBy, IsReplayOf, IsReplayed, IsParted, IsFollowed, upto, close_length}
+use Rattle.bt_talk.specs.Shown.{IsSeen, ShowsOthers}
 use Rattle.bt_talk.specs.Watching.{IsLast, IsWatched, Watches, notes_of, tell, with_items}
 use Rattle.bt_talk.proofs.Items.{first_only}
-use Rattle.bt_talk.proofs.Watching.{watched_more, turned}
+use Rattle.bt_talk.proofs.Shown.{seen_more, seen_others}
+use Rattle.bt_talk.proofs.Watching.{watched_more}
 
 -- Some of the bytes that are left are judged.
 pub judged_on : (p : Past) (xs more : List (ℕ × Item)) (left bytes rest : List ℕ) (j : Judged) (judge : Judge) (i : IsJudgedTo p xs left j)
@@ -142,34 +145,46 @@ last_after side events items more w w' e took i =
     (subst (λ (s : Side). IsLast (with_items side more items side) (notes_of s w').last) (sym turn) (v.notes side).last)
 
 -- Nothing was judged.
-pub stays : (side : Side) (p : Past) (receiver : Option Receiver) (cut : Option ℕ) (events : List Told) (items : Side → List (ℕ × Item)) (r : Replay)
-    (w : Watch) → w.side ≡ side → IsReplay p receiver cut (items side) r → IsWatched events items w → IsReplayed side p receiver cut items r w
-stays side p receiver cut events items r w e i h = record { events = events; now = items; others = refl; is = i; turn = e; watched = h }
+pub stays : (since : Rows) (side : Side) (p : Past) (receiver : Option Receiver) (cut : Option ℕ) (events : List Told) (items : Side → List (ℕ × Item))
+    (r : Replay) (w : Watch) → w.side ≡ side → IsReplay p receiver cut (items side) r → IsSeen since events items w
+    → IsReplayed since side p receiver cut items r w
+stays since side p receiver cut events items r w e i h = record { events = events; now = items; others = refl; is = i; turn = e; seen = h }
 
 -- Further items of the side whose turn it is were judged.
-pub replayed : (side : Side) (p : Past) (receiver : Option Receiver) (cut : Option ℕ) (events : List Told) (items : Side → List (ℕ × Item))
+pub replayed : (since : Rows) (side : Side) (p : Past) (receiver : Option Receiver) (cut : Option ℕ) (events : List Told) (items : Side → List (ℕ × Item))
     (more : List (ℕ × Item)) (r : Replay) (w w' : Watch) → w.side ≡ side → IsReplay p receiver cut (items side ++ more) r → Took Watches w more w'
-    → IsWatched events items w → IsReplayed side p receiver cut items r w'
-replayed side p receiver cut events items more r w w' e i took watched = record {
+    → IsSeen since events items w → IsReplayed since side p receiver cut items r w'
+replayed since side p receiver cut events items more r w w' e i took seen = record {
   events = tell w.side w.known more events;
   now = with_items side more items;
   others = others_stay side more items;
   is = subst (λ (l : List (ℕ × Item)). IsReplay p receiver cut l r) (sym (mine_more side more items)) i;
   turn = took_side more w w' took ∙ e;
-  watched = subst (λ (s : Side). IsWatched (tell w.side w.known more events) (with_items s more items) w') e (watched_more more events items w w' took watched);
+  seen = subst (λ (s : Side). IsSeen since (tell w.side w.known more events) (with_items s more items) w') e (seen_more since more events items w w' took seen);
 }
 
-pub replayed_on : (side : Side) (p : Past) (receiver : Option Receiver) (cut : Option ℕ) (items : Side → List (ℕ × Item)) (r r' : Replay) (w w' : Watch)
-    (i : IsReplayed side p receiver cut items r w) → IsReplayed side p receiver cut i.now r' w' → IsReplayed side p receiver cut items r' w'
-replayed_on side p receiver cut items r r' w w' i k = record {
+pub replayed_on : (since : Rows) (side : Side) (p : Past) (receiver : Option Receiver) (cut : Option ℕ) (items : Side → List (ℕ × Item)) (r r' : Replay)
+    (w w' : Watch) (i : IsReplayed since side p receiver cut items r w) → IsReplayed since side p receiver cut i.now r' w'
+    → IsReplayed since side p receiver cut items r' w'
+replayed_on since side p receiver cut items r r' w w' i k = record {
   events = k.events;
   now = k.now;
   others = k.others ∙ i.others;
   is = k.is;
   turn = k.turn;
-  watched = k.watched;
+  seen = k.seen;
 }
 
-pub turn : (side : Side) (known : Bool) (events : List Told) (items : Side → List (ℕ × Item)) (w v : Watch) → v ≡ record w { side = side; known = known }
-    → IsWatched events items w → IsWatched events items v
-turn side known events items w v e i = subst (λ (k : Watch). IsWatched events items k) (sym e) (turned side known events items w i)
+-- Rows of something else were appended.
+pub replayed_others : (since : Rows) (side : Side) (p : Past) (receiver : Option Receiver) (cut : Option ℕ) (items : Side → List (ℕ × Item)) (r : Replay)
+    (w v : Watch) → v ≡ record w { rows = v.rows } → ShowsOthers w v → IsReplayed since side p receiver cut items r w
+    → IsReplayed since side p receiver cut items r v
+replayed_others since side p receiver cut items r w v e o i = record {
+  events = i.events;
+  now = i.now;
+  others = i.others;
+  is = i.is;
+  turn = ap (λ (k : Watch). k.side) e ∙ i.turn;
+  seen = seen_others since o.others i.events i.now w v (ap (λ (k : Watch). k.matcher) e) (ap (λ (k : Watch). k.a) e) (ap (λ (k : Watch). k.b) e) o.no_item
+      o.appends i.seen;
+}

@@ -13,7 +13,7 @@ use Rattle.bt_flow.specs.declared.flow.Given.{Given}
 use Rattle.bt_talk.specs.declared.direction.Direction.{Direction}
 use Rattle.bt_talk.specs.declared.replay.Opened.{Opened}
 use Rattle.bt_talk.specs.Cuts.{IsCutNow, IsWithin, cut_length, closes_first, cut_after}
-use Rattle.bt_talk.specs.Replays.{IsOpened, Opens}
+use Rattle.bt_talk.specs.Replays.{IsOpened, IsOpenedBy}
 use Rattle.bt_talk.specs.declared.stage.Cut.{Cut}
 use Rattle.bt_packet.specs.declared.tcp.Flags.{Flags}
 use Rattle.bt_talk.specs.declared.stage.Stage.{Stage}
@@ -105,7 +105,7 @@ acked_by false (Some n) opens q q' e = (ap (λ (p : Past). p.front) e.1, ap (λ 
 pub acked_same : (s : Segment) (q q' : Past) → IsAcked s q q' → (q'.front ≡ q.front) × (q'.out ≡ q.out)
 acked_same s q q' i = acked_by s.flags.rst s.acked s.flags.syn q q' i
 
-after_opening : (terms : Terms) (p q : Past) (d d' : Direction) (o : Opened) → Opens d o d' → IsDirection terms p q d
+after_opening : (terms : Terms) (p q : Past) (d d' : Direction) (o : Opened) → IsOpenedBy d o d' → IsDirection terms p q d
     → IsOpened terms p q (cut_length d.cut) o → IsDirection terms p q d'
 after_opening terms p q d d' o e i k = record {
   flow = subst (λ (f : Flow). IsFlowOf p f) (sym e.flow) i.flow;
@@ -119,7 +119,7 @@ after_opening terms p q d d' o e i k = record {
 }
 
 -- The opening ended: both sides have another stage.
-pub ended : (a b : Past) (t u : Talk) (o o' : Opened) → u.terms ≡ t.terms → Opens t.a o u.a → Opens t.b o' u.b
+pub ended : (a b : Past) (t u : Talk) (o o' : Opened) → u.terms ≡ t.terms → IsOpenedBy t.a o u.a → IsOpenedBy t.b o' u.b
     → is_opening o.stage ≡ false → is_opening o'.stage ≡ false
     → IsOpened t.terms a b (cut_of A t) o → IsOpened t.terms b a (cut_of B t) o' → IsHeard a b o.stage o'.stage u.watch → IsTalk a b t → IsTalk a b u
 ended a b t u o o' ep ea eb x y i j said k = record {

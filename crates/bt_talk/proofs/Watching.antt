@@ -15,7 +15,7 @@ use Rattle.bt_wire.specs.declared.item.Item.{Item}
 use Rattle.bt_talk.specs.declared.watch.Notes.{Notes}
 use Rattle.bt_talk.specs.declared.watch.Watch.{Watch}
 use Rattle.bt_talk.specs.Events.{event_of}
-use Rattle.bt_talk.specs.Watching.{IsSaid, told_of, tell, said_by, messages_of, IsAmong, IsItemAt, AreNoted, notes_of, IsWatched, with_items, GoesOn, first_said, noted, Watches}
+use Rattle.bt_talk.specs.Watching.{IsSaid, told_of, tell, said_by, messages_of, IsAmong, IsItemAt, AreNoted, notes_of, IsWatched, with_items, first_said, noted, Watches}
 
 -- ---- the first item with a remark
 
@@ -156,6 +156,10 @@ watched_more (x ∷ xs) events items w w' took i =
     items_same (tell w.side w.known xs (e ∷ events)) (with_items w.side xs now) (with_items w.side (x ∷ xs) items) w'
     (λ s. one_more (is_same w.side s) (items s) x xs) knows
 
+notes_like : (s : Side) (w v : Watch) → v.a ≡ w.a → v.b ≡ w.b → notes_of s v ≡ notes_of s w
+notes_like A w v e f = e
+notes_like B w v e f = f
+
 notes_same : (s side : Side) (known : Bool) (w : Watch) → notes_of s w ≡ notes_of s (record w { side = side; known = known })
 notes_same A side known w = refl
 notes_same B side known w = refl
@@ -167,28 +171,23 @@ turned side known events items w i = record {
   notes = λ s. subst (λ (n : Notes). AreNoted s events (items s) n) (notes_same s side known w) (i.notes s);
 }
 
--- A side's turn came, and then its items.
-pub goes_by : (side : Side) (known : Bool) (more : List (ℕ × Item)) (w v w' : Watch) → v ≡ record w { side = side; known = known } → Took Watches v more w'
-    → GoesOn side more w w'
-goes_by side known more w v w' e took = λ events items i.
-    let to : Watch = record w { side = side; known = known } in
-    (known, watched_more more events items to w' (subst (λ (k : Watch). Took Watches k more w') e took) (turned side known events items w i))
+-- What else a watch has doesn't matter.
+pub watched_same : (events : List Told) (items : Side → List (ℕ × Item)) (w v : Watch) → v.matcher ≡ w.matcher → v.a ≡ w.a → v.b ≡ w.b
+    → IsWatched events items w → IsWatched events items v
+watched_same events items w v e f g i = record {
+  matched = subst (λ (m : Matcher). IsMatched events m) (sym e) i.matched;
+  notes = λ s. subst (λ (n : Notes). AreNoted s events (items s) n) (sym (notes_like s w v f g)) (i.notes s);
+}
 
-pub goes_nowhere : (side : Side) (w : Watch) → GoesOn side [] w w
-goes_nowhere side w = λ events items i.
-    (true, items_same events items (with_items side [] items) w (λ s. none_more (is_same side s) (items s)) i)
+pub nothing_watched : (side : Side) (events : List Told) (items : Side → List (ℕ × Item)) (w : Watch) → IsWatched events items w
+    → IsWatched events (with_items side [] items) w
+nothing_watched side events items w i = items_same events items (with_items side [] items) w (λ s. none_more (is_same side s) (items s)) i
 
--- An item of A is noted.
-pub note_a : (w w' : Watch) (r : Remarks) (said : Said) (side s : Side) → side ≡ A → w'.a ≡ noted r said w.a → w'.b ≡ w.b
-    → notes_of s w' ≡ (if is_same side s then noted r said (notes_of s w) else notes_of s w)
-note_a w w' r said side A e f g = f ∙ sym (ap (λ (k : Side). if is_same k A then noted r said w.a else w.a) e)
-note_a w w' r said side B e f g = g ∙ sym (ap (λ (k : Side). if is_same k B then noted r said w.b else w.b) e)
-
--- An item of B is noted.
-pub note_b : (w w' : Watch) (r : Remarks) (said : Said) (side s : Side) → side ≡ B → w'.a ≡ w.a → w'.b ≡ noted r said w.b
-    → notes_of s w' ≡ (if is_same side s then noted r said (notes_of s w) else notes_of s w)
-note_b w w' r said side A e f g = f ∙ sym (ap (λ (k : Side). if is_same k A then noted r said w.a else w.a) e)
-note_b w w' r said side B e f g = g ∙ sym (ap (λ (k : Side). if is_same k B then noted r said w.b else w.b) e)
+-- An item of one side is noted.
+pub noted_both : (w w' : Watch) (r : Remarks) (said : Said) (side s : Side) → w'.a ≡ (if is_same side A then noted r said w.a else w.a)
+    → w'.b ≡ (if is_same side B then noted r said w.b else w.b) → notes_of s w' ≡ (if is_same side s then noted r said (notes_of s w) else notes_of s w)
+noted_both w w' r said side A e f = e
+noted_both w w' r said side B e f = f
 
 -- The matcher took the item as an event.
 pub matched_by : (side : Side) (known : Bool) (x : ℕ × Item) (message : Message) (r : Remarks) (m m' : Matcher) → message ≡ event_of x.1

@@ -1,9 +1,14 @@
+pub mod Rows
+pub mod Shows
+pub mod Courses
+pub mod Rooms
 pub mod Pasts
 pub mod Terms
 pub mod Refusals
 pub mod Receivers
 pub mod Events
 pub mod Watching
+pub mod Shown
 pub mod Cuts
 pub mod Stages
 pub mod Replays

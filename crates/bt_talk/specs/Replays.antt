@@ -1,6 +1,7 @@
 -- How far the bytes of the opening are judged, at its end.
 use Rattle.bt_talk.specs.declared.terms.Terms.{Terms}
 use Rattle.std.specs.Prelude.{◌≡◌, ℕ, Bool, true, false, List, [], ◌++◌, drop, take, Option, Some, None}
+use Rattle.std.specs.List.{filter}
 use Rattle.bt_intro.specs.declared.settling.Receiver.{Receiver}
 use Rattle.bt_intro.specs.Hellos.{IsFirstHello}
 use Rattle.bt_intro.specs.Hearing.{IsHeardOf}
@@ -16,11 +17,15 @@ use Rattle.bt_talk.specs.declared.replay.Close.TheVariants.{Passed, Ahead}
 use Rattle.bt_talk.specs.declared.replay.Opened.{Opened}
 use Rattle.bt_talk.specs.declared.replay.Replay.{Replay}
 use Rattle.bt_talk.specs.Cuts.{IsCutBy, IsCutNow, cut_length}
-use Rattle.bt_talk.specs.Stages.{IsStage, AreItemsIn, receiver_in}
+use Rattle.bt_talk.specs.Stages.{IsStage, AreItemsIn, IsHeard, receiver_in}
+use Rattle.bt_talk.specs.declared.stage.Stage.{Stage}
 use Rattle.bt_talk.specs.declared.stage.Judged.{Judged}
 use Rattle.bt_talk.specs.declared.watch.Watch.{Watch}
 use Rattle.bt_talk.specs.Pasts.{Past}
-use Rattle.bt_talk.specs.Watching.{IsWatched}
+use Rattle.bt_talk.specs.declared.rows.Rows.{Rows}
+use Rattle.bt_talk.specs.Rows.{Shown, is_item}
+use Rattle.bt_talk.specs.Shows.{Appends}
+use Rattle.bt_talk.specs.Shown.{IsSeen, Turn, told_by, items_by, AreTurnRows}
 
 -- What the side sent from its handshake on is judged up to what is left, and has these items so far.
 pub record IsJudgedTo (p : Past) (xs : List (ℕ × Item)) (left : List ℕ) (j : Judged) : Type 0 where
@@ -71,18 +76,18 @@ abbrev pub IsReplay : Past → Option Receiver → Option ℕ → List (ℕ × I
 IsReplay p receiver cut xs r = IsReplayOf p receiver cut xs r.rest.now r.judged r.close
 
 -- Further items of a side were judged, and none of the other one.
-pub record IsReplayed (side : Side) (p : Past) (receiver : Option Receiver) (cut : Option ℕ) (items : Side → List (ℕ × Item)) (r : Replay) (w : Watch)
-    : Type 0 where
+pub record IsReplayed (since : Rows) (side : Side) (p : Past) (receiver : Option Receiver) (cut : Option ℕ) (items : Side → List (ℕ × Item)) (r : Replay)
+    (w : Watch) : Type 0 where
   pub events : List Told
   pub now : Side → List (ℕ × Item)
   pub others : now (other side) ≡ items (other side)
   pub is : IsReplay p receiver cut (now side) r
   pub turn : w.side ≡ side
-  pub watched : IsWatched events now w
+  pub seen : IsSeen since events now w
 
 abbrev pub Replays : Side → Replay → Watch → Replay → Watch → Type 0
-Replays side r w r' w' = (p : Past) (receiver : Option Receiver) (cut : Option ℕ) (events : List Told) (items : Side → List (ℕ × Item))
-    → IsReplay p receiver cut (items side) r → IsWatched events items w → IsReplayed side p receiver cut items r' w'
+Replays side r w r' w' = (since : Rows) (p : Past) (receiver : Option Receiver) (cut : Option ℕ) (events : List Told) (items : Side → List (ℕ × Item))
+    → IsReplay p receiver cut (items side) r → IsSeen since events items w → IsReplayed since side p receiver cut items r' w'
 
 -- ---- both sides
 
@@ -92,15 +97,15 @@ pub record Aim : Type 0 where
   pub cut : Option ℕ
 
 -- The openings of both sides are judged as far as these items.
-pub record AreReplayed (p q : Past) (x y : Aim) (a b : Replay) (w : Watch) : Type 0 where
+pub record AreReplayed (since : Rows) (p q : Past) (x y : Aim) (a b : Replay) (w : Watch) : Type 0 where
   pub events : List Told
   pub items : Side → List (ℕ × Item)
   pub a_is : IsReplay p x.receiver x.cut (items A) a
   pub b_is : IsReplay q y.receiver y.cut (items B) b
-  pub watched : IsWatched events items w
+  pub seen : IsSeen since events items w
 
 abbrev pub AreReplays : Replay → Replay → Watch → Replay → Replay → Watch → Type 0
-AreReplays a b w a' b' w' = (p q : Past) (x y : Aim) → AreReplayed p q x y a b w → AreReplayed p q x y a' b' w'
+AreReplays a b w a' b' w' = (since : Rows) (p q : Past) (x y : Aim) → AreReplayed since p q x y a b w → AreReplayed since p q x y a' b' w'
 
 -- ---- after the opening
 
@@ -110,16 +115,27 @@ pub record IsOpened (terms : Terms) (p q : Past) (cut : Option ℕ) (o : Opened)
   pub last : IsCutNow (receiver_in o.stage) p.front p.out o.cut
 
 -- A direction isn't in its opening any more. What its sender has announced stays.
-pub record Opens (d : Direction) (o : Opened) (d' : Direction) : Type 0 where
+pub record IsOpenedBy (d : Direction) (o : Opened) (d' : Direction) : Type 0 where
   pub flow : d'.flow ≡ d.flow
   pub intro : (front : List ℕ) → IsHeardOf front d.intro → IsHeardOf front d'.intro
   pub stage : d'.stage ≡ o.stage
   pub cut : d'.cut ≡ o.cut
 
-pub record IsFinished (terms : Terms) (p q : Past) (cut : Option ℕ) (side : Side) (items : Side → List (ℕ × Item)) (o : Opened) (w : Watch) : Type 0 where
+pub record IsFinished (since : Rows) (terms : Terms) (p q : Past) (cut : Option ℕ) (side : Side) (items : Side → List (ℕ × Item)) (o : Opened) (w : Watch)
+    : Type 0 where
   pub events : List Told
   pub now : Side → List (ℕ × Item)
   pub others : now (other side) ≡ items (other side)
   pub is : IsOpened terms p q cut o
   pub items_are : AreItemsIn o.stage p (now side)
-  pub watched : IsWatched events now w
+  pub seen : IsSeen since events now w
+
+-- The opening ended. These are the items and the events of both sides, and rows show each item, in order; some rows show none.
+pub record HasOpened (p q : Past) (s s' : Stage) (w : Watch) (r r' : Rows) : Type 0 where
+  pub heard : IsHeard p q s s' w
+  pub turns : List Turn
+  pub told : heard.events ≡ told_by turns
+  pub items_are : (side : Side) → heard.items side ≡ items_by side turns
+  pub rows : List Shown
+  pub appends : Appends rows r r'
+  pub shown : AreTurnRows r.heading turns (filter is_item rows)

@@ -1,12 +1,17 @@
 -- How far one direction is: in the opening its bytes are kept, after that they are judged.
 use Rattle.bt_talk.specs.declared.terms.Terms.{Terms}
-use Rattle.std.specs.Prelude.{◌≡◌, ℕ, Bool, true, false, List, [], ◌++◌, Option, Some, None}
+use Rattle.std.specs.Prelude.{◌≡◌, ℕ, Bool, true, false, List, [], ◌++◌, drop, Option, Some, None}
+use Rattle.bt_ext.specs.declared.ids.Rules.TheVariants.{Free}
 use Rattle.bt_feed.specs.Pumps.{Took}
 use Rattle.bt_intro.specs.Hearing.{IsHeardOf}
+use Rattle.bt_intro.specs.Hellos.{IsFirstHello}
+use Rattle.bt_judge.specs.Judges.{under}
+use Rattle.bt_judge.specs.Readings.{IsStanding}
 use Rattle.bt_remarks.specs.declared.events.Side.{Side}
 use Rattle.bt_remarks.specs.declared.events.Side.TheVariants.{A, B}
 use Rattle.bt_remarks.specs.Said.{Told}
 use Rattle.bt_wire.specs.declared.item.Item.{Item}
+use Rattle.bt_wire.specs.declared.item.Refusal.{Refusal}
 use Rattle.bt_talk.specs.declared.stage.Stage.{Stage}
 use Rattle.bt_talk.specs.declared.stage.Stage.TheVariants.{Opening, Open, Stranger}
 use Rattle.bt_talk.specs.declared.direction.Direction.{Direction}
@@ -15,7 +20,8 @@ use Rattle.bt_talk.specs.Cuts.{IsCutNow, IsWithin, cut_length}
 use Rattle.bt_talk.specs.Pasts.{Past, IsFlowOf}
 use Rattle.bt_talk.specs.Receivers.{IsReceiver, IsJudgedBy, AreItems}
 use Rattle.bt_talk.specs.declared.watch.Watch.{Watch}
-use Rattle.bt_talk.specs.Watching.{IsWatched, Watches, GoesOn}
+use Rattle.bt_talk.specs.Watching.{IsWatched, Watches}
+use Rattle.bt_talk.specs.Shown.{GoesShown}
 
 abbrev pub is_opening : Stage → Bool
 is_opening (Opening front) = true
@@ -33,6 +39,12 @@ abbrev pub IsStage : Terms → Past → Past → Stage → Type 0
 IsStage terms p other (Opening front) = (front.items ≡ p.out) × (p.front ≡ p.out)
 IsStage terms p other (Open judged) = IsReceiver terms p other (Some judged.receiver) × IsJudgedBy judged.receiver.own p judged.judge
 IsStage terms p other Stranger = IsReceiver terms p other None
+
+-- The refusal that stands of what the side sent, by its receiver under the lenient rules; none in the opening, and without a receiver.
+abbrev pub IsRefusedIn : Stage → Past → Option Refusal → Type 0
+IsRefusedIn (Opening front) p r = r ≡ None
+IsRefusedIn (Open judged) p r = (start : ℕ) × IsFirstHello p.front start × IsStanding (under Free judged.receiver.own) (drop start p.out) r
+IsRefusedIn Stranger p r = r ≡ None
 
 -- This was captured of a side, and this of the other one.
 pub record IsDirection (terms : Terms) (p other : Past) (d : Direction) : Type 0 where
@@ -56,7 +68,7 @@ Speaks s p w s' q w' = (xs : List (ℕ × Item)) → AreItemsIn s p xs → (more
 
 -- as before, in a turn of that side
 abbrev pub SpeaksAs : Side → Stage → Past → Watch → Stage → Past → Watch → Type 0
-SpeaksAs side s p w s' q w' = (xs : List (ℕ × Item)) → AreItemsIn s p xs → (more : List (ℕ × Item)) × AreItemsIn s' q (xs ++ more) × GoesOn side more w w'
+SpeaksAs side s p w s' q w' = (xs : List (ℕ × Item)) → AreItemsIn s p xs → (more : List (ℕ × Item)) × AreItemsIn s' q (xs ++ more) × GoesShown side more w w'
 
 -- What was judged of both sides, and what is kept of it.
 pub record IsHeard (p q : Past) (s s' : Stage) (w : Watch) : Type 0 where

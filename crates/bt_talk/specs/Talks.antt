@@ -1,22 +1,32 @@
 -- A connection: what was captured of both sides, and how a segment adds to it.
 use Rattle.bt_talk.specs.declared.terms.Terms.{Terms}
-use Rattle.std.specs.Prelude.{◌≡◌, ℕ, ◌+◌, ◌-◌, min, ◌^◌, Bool, true, false, not, ◌||◌, nat_le, List, length, Option, ◌↔◌}
+use Rattle.std.specs.Prelude.{◌≡◌, ℕ, ◌+◌, ◌-◌, min, ◌^◌, Bool, true, false, not, ◌||◌, nat_le, List, [], ◌++◌, length, Option, unwrap_or, ◌↔◌}
+use Rattle.std.specs.List.{filter}
 use Rattle.bt_remarks.specs.declared.events.Side.{Side}
 use Rattle.bt_remarks.specs.declared.events.Side.TheVariants.{A, B}
-use Rattle.bt_remarks.specs.Said.{other}
+use Rattle.bt_remarks.specs.Said.{Told, other}
 use Rattle.bt_packet.specs.declared.tcp.Segment.{Segment}
 use Rattle.bt_flow.specs.declared.flow.Flow.{Flow}
+use Rattle.bt_flow.specs.Flows.{AreGapsOf}
+use Rattle.bt_intro.specs.Hellos.{IsStartOf}
 use Rattle.bt_intro.specs.Settling.{IsSideOf, is_settled}
+use Rattle.bt_tcp.specs.declared.covered.Gaps.{Gaps}
 use Rattle.bt_talk.specs.declared.direction.Direction.{Direction}
+use Rattle.bt_talk.specs.declared.rows.Rows.{Rows}
 use Rattle.bt_talk.specs.declared.talk.Talk.{Talk}
 use Rattle.bt_talk.specs.Pasts.{Past, HasSent, IsAcked}
 use Rattle.bt_talk.specs.declared.ends.Ends.{Ends}
 use Rattle.bt_talk.specs.declared.closing.Closing.{Closing}
 use Rattle.bt_talk.specs.declared.closing.When.{When}
 use Rattle.bt_wire.specs.declared.item.Item.{Item}
-use Rattle.bt_talk.specs.Watching.{GoesOn}
+use Rattle.bt_talk.specs.Watching.{IsWatched}
+use Rattle.bt_talk.specs.Rows.{Shown, is_item}
+use Rattle.bt_talk.specs.Shows.{Appends}
+use Rattle.bt_talk.specs.Shown.{GoesShown, IsShown}
 use Rattle.bt_talk.specs.Closing.{Closes}
+use Rattle.bt_talk.specs.Courses.{course_of, gap_rows}
 use Rattle.bt_talk.specs.Cuts.{cut_length, cut_after}
+use Rattle.bt_talk.specs.Replays.{HasOpened}
 use Rattle.bt_talk.specs.Stages.{IsDirection, IsHeard, is_opening}
 
 abbrev pub direction_of : Side → Talk → Direction
@@ -95,7 +105,18 @@ pub record HasSaid (s : Segment) (t t' : Talk) : Type 0 where
   pub side : Side
   pub is_side : IsSender s t side
   pub items : List (ℕ × Item)
-  pub follow : GoesOn side items t.watch t'.watch
+  pub follow : GoesShown side items t.watch t'.watch
+
+-- The sender's items that a segment completes follow all events that came before, of both sides. Rows are appended: one for each item,
+-- in order, and then others, which show no item.
+pub record Shows (s : Segment) (when : When) (t t' : Talk) (r r' : Rows) : Type 0 where
+  pub side : Side
+  pub is_side : IsSender s t side
+  pub items : List (ℕ × Item)
+  pub others : List Shown
+  pub no_item : filter is_item others ≡ []
+  pub follow : (events : List Told) (before : Side → List (ℕ × Item)) → IsWatched events before t.watch
+      → (rows : List Shown) × IsShown r.heading when side items events before t'.watch rows × Appends (rows ++ others) r r'
 
 -- One side sent a segment.
 pub record Exchanges (s : Segment) (a b : Past) (t t' : Talk) : Type 0 where
@@ -125,3 +146,22 @@ pub record Takes (s : Segment) (when : When) (a b : Past) (t t' : Talk) : Type 0
   pub after : is_in_opening t ≡ false → is_in_opening t' ≡ false
   pub closes : Closes s when side a' b' (flow_of A t') (flow_of B t') (closing_of t) (closing_of t')
   pub cut : (k : Side) → cut_of k t' ≡ cut_after s.flags (closing_of t).closed (length (of_side k a' b').out) (cut_of k t)
+
+-- ---- rows of the opening, and of gaps
+
+-- While the opening isn't over no row is appended.
+pub record Opens (a b : Past) (t t' : Talk) : Type 0 where
+  pub quiet : is_in_opening t' ≡ true → Appends [] t.watch.rows t'.watch.rows
+  pub opened : is_in_opening t' ≡ false → HasOpened a b t'.a.stage t'.b.stage t'.watch t.watch.rows t'.watch.rows
+
+-- The connection took a segment in the opening. Rows are appended when that ends.
+pub record HasSettled (s : Segment) (when : When) (a b : Past) (t t' : Talk) (took : Takes s when a b t t') (r r' : Rows) : Type 0 where
+  pub quiet : is_in_opening t' ≡ true → Appends [] r r'
+  pub opened : is_in_opening t' ≡ false → HasOpened took.a' took.b' t'.a.stage t'.b.stage t'.watch r r'
+
+-- The row of a side's first gap was appended, if it has one.
+pub record ShowsGap (side : Side) (t : Talk) (r r' : Rows) : Type 0 where
+  pub gaps : Gaps
+  pub start : Option ℕ
+  pub are : (a b : Past) → IsTalk a b t → let p = of_side side a b in AreGapsOf p.heard p.segs p.out (flow_of side t) gaps × IsStartOf p.front start
+  pub appends : Appends (gap_rows r.heading (course_of side t.courses).grown side (unwrap_or start 0) gaps.first) r r'

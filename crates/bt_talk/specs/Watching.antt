@@ -10,12 +10,15 @@ use Rattle.bt_remarks.specs.Said.{Told, Message, is_same}
 use Rattle.bt_text.specs.Lines.{words as words_of}
 use Rattle.bt_told.specs.declared.report.Noted.{Noted}
 use Rattle.bt_told.specs.declared.report.Remarked.{Remarked}
+use Rattle.bt_told.specs.declared.rows.Deed.TheVariants as deed
 use Rattle.bt_told.specs.declared.said.Said.{Said}
 use Rattle.bt_told.specs.Said.{words_text}
 use Rattle.bt_wire.specs.declared.item.Item.{Item}
 use Rattle.bt_talk.specs.declared.watch.Notes.{Notes}
 use Rattle.bt_talk.specs.declared.watch.Watch.{Watch}
 use Rattle.bt_talk.specs.Events.{event_of}
+use Rattle.bt_talk.specs.Rows.{row_at}
+use Rattle.bt_talk.specs.Shows.{Appends}
 
 -- The offset and the words are those of the item.
 pub record IsSaid (x : ℕ × Item) (said : Said) : Type 0 where
@@ -100,11 +103,6 @@ pub record IsWatched (events : List Told) (items : Side → List (ℕ × Item)) 
 abbrev pub with_items : Side → List (ℕ × Item) → (Side → List (ℕ × Item)) → Side → List (ℕ × Item)
 with_items side more items s = if is_same side s then items s ++ more else items s
 
--- Further items of a side came.
-abbrev pub GoesOn : Side → List (ℕ × Item) → Watch → Watch → Type 0
-GoesOn side more w w' = (events : List Told) (items : Side → List (ℕ × Item)) → IsWatched events items w
-    → (known : Bool) × IsWatched (tell side known more events) (with_items side more items) w'
-
 -- ---- one item, for private contracts
 
 -- the first one that has the remark
@@ -122,13 +120,15 @@ noted remarks said notes = record {
   elsewhere = first_said remarks.elsewhere said notes.elsewhere;
 }
 
--- One item more, of the side whose bytes are read.
+-- One item more, of the side whose bytes are read, and its row.
 pub record Watches (old : Watch) (x : ℕ × Item) (new : Watch) : Type 0 where
   pub side : new.side ≡ old.side
   pub known : new.known ≡ old.known
+  pub when : new.when ≡ old.when
   pub said : Said
   pub is : IsSaid x said
   pub remarks : Remarks
+  pub rows : Appends (row_at old.rows.heading old.when old.side said.offset (deed.Item said.words) remarks ∷ []) old.rows new.rows
   pub notes : (s : Side) → notes_of s new ≡ (if is_same old.side s then noted remarks said (notes_of s old) else notes_of s old)
   pub matched : (events : List Told) → IsMatched events old.matcher → (remarks ≡ remarks_on (told_of old.side old.known x) events)
       × IsMatched (told_of old.side old.known x ∷ events) new.matcher

@@ -9,8 +9,8 @@ ghost use Rattle.bt_wire.specs.declared.context.Own.{Own};
 ghost use Rattle.bt_wire.specs.declared.item.Item.{Item};
 ghost use Rattle.bt_talk.specs.Pasts.{Past, no_past, IsFlowOf, Adds};
 ghost use Rattle.bt_talk.specs.Receivers.{IsReceiver, IsJudgedBy, IsReceiverNow, AreItems, AreVerdicts};
-ghost use Rattle.bt_talk.specs.Replays.{IsReplay, Opens};
-ghost use Rattle.bt_talk.specs.Stages.{IsDirection, IsStage, AreItemsIn, Speaks, is_opening, receiver_in};
+ghost use Rattle.bt_talk.specs.Replays.{IsReplay, IsOpenedBy};
+ghost use Rattle.bt_talk.specs.Stages.{IsDirection, IsStage, AreItemsIn, Speaks, is_opening, receiver_in, IsRefusedIn};
 ghost use Rattle.bt_talk.specs.Cuts.{IsCutBy, IsLastBefore, cut_length};
 ghost use Rattle.bt_talk.specs.Watching.{IsLast, Watches};
 
@@ -22,6 +22,7 @@ use bt_flow::{Flow, Given};
 use bt_intro::{Introduction, Receiver};
 use bt_judge::Judge;
 use bt_told::{Last, Said};
+use bt_wire::Refusal;
 use std::alloc::{AllocError, Global};
 
 /// One direction of a captured connection: its stream, what its sender announces, and what is done with its bytes.
@@ -190,14 +191,14 @@ impl Direction {
                 let replay = Replay::new(alloc, front, self.intro.start(), receiver, &self.cut)?;
                 Ok(replay)
             }
-            Stage::Open(_) => Ok(Replay::none(self.cut)),
-            Stage::Stranger => Ok(Replay::none(self.cut)),
+            Stage::Open(_) => Ok(Replay::none(None, self.cut)),
+            Stage::Stranger => Ok(Replay::none(None, self.cut)),
         }
     }
 
     /// Ends the opening. What this side announced stays, and takes no memory.
     pub(crate) fn open(&mut self, opened: Opened)
-        ensures opens { Opens self.old opened self.new }
+        ensures opens { IsOpenedBy self.old opened self.new }
         ensures free { HasNoMemory self.new.intro }
     {
         self.used = self.kept();
@@ -248,6 +249,17 @@ impl Direction {
         match &self.stage {
             Stage::Opening(_) => None,
             Stage::Open(judged) => Some(judgement_of(&judged.judge)),
+            Stage::Stranger => None,
+        }
+    }
+
+    /// Returns the refusal of the stream under the lenient rules, if it is judged and there is one.
+    pub(crate) fn refusal(&self) -> Option<Refusal>
+        ensures { (terms : Terms) (p other : Past) → IsDirection terms p other self.now → IsRefusedIn self.now.stage p result }
+    {
+        match &self.stage {
+            Stage::Opening(_) => None,
+            Stage::Open(judged) => judged.judge.free.refusal(),
             Stage::Stranger => None,
         }
     }

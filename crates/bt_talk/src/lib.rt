@@ -4,11 +4,13 @@
 #![tactic(auto)]
 
 mod closing;
+mod course;
 mod direction;
 mod ends;
 mod refused;
 mod replay;
 mod room;
+mod rows;
 mod stage;
 mod talk;
 mod terms;
@@ -20,5 +22,6 @@ pub use closing::{Closed, When};
 pub use ends::Ends;
 pub use refused::Judgement;
 pub use room::Room;
+pub use rows::Showing;
 pub use talk::Talk;
 pub use terms::{Terms, Torrent};

@@ -10,19 +10,23 @@ ghost use Rattle.bt_wire.specs.declared.item.Item.{Item};
 ghost use Rattle.bt_talk.specs.Cuts.{IsCutBy, cut_length};
 ghost use Rattle.bt_talk.specs.Pasts.{Past};
 ghost use Rattle.bt_talk.specs.Receivers.{IsReceiver};
-ghost use Rattle.bt_talk.specs.Stages.{AreItemsIn, IsHeard, is_opening};
-ghost use Rattle.bt_talk.specs.Replays.{Aim, IsReplay, IsReplayBy, IsReplayOf, IsParted, IsOpened, IsFinished, Replays, AreReplayed, AreReplays, close_length, is_passed};
-ghost use Rattle.bt_talk.specs.Watching.{IsLast, IsWatched, Watches};
+ghost use Rattle.bt_talk.specs.Stages.{AreItemsIn, is_opening};
+ghost use Rattle.bt_talk.specs.Replays.{Aim, IsReplay, IsReplayBy, IsReplayOf, IsParted, IsOpened, IsFinished, HasOpened, Replays, AreReplayed, AreReplays, close_length, is_passed};
+ghost use Rattle.bt_talk.specs.declared.rows.Rows.{Rows};
+ghost use Rattle.bt_talk.specs.Shown.{IsSeen, ShowsOthers};
+ghost use Rattle.bt_talk.specs.Watching.{IsLast, Watches};
 
+use crate::closing::When;
 use crate::stage::{Cut, Judged, Stage, judge_bytes};
 use crate::watch::Watch;
 use bt_intro::Receiver;
 use bt_judge::Judge;
 use bt_remarks::Side;
-use bt_told::{Last, Said};
+use bt_told::{Last, Means, Said};
+use bt_wire::Refusal;
 use std::alloc::{AllocError, Global};
 
-/// A segment of the opening that made bytes of its sender ready.
+/// A segment of the opening that made bytes of its sender ready, or closed.
 #[derive(Clone, Copy)]
 pub(crate) struct Mark {
     /// Its sender.
@@ -31,6 +35,12 @@ pub(crate) struct Mark {
     pub(crate) length: u64,
     /// Whether no byte that the other side had sent was missing.
     pub(crate) is_whole: bool,
+    /// Its packet.
+    pub(crate) when: When,
+    /// How far the sender's captured bytes reached then.
+    pub(crate) high: u64,
+    /// How the sender closed with it, if it hadn't closed before.
+    pub(crate) closed: Option<Means>,
 }
 
 /// Where the connection was closed in what a side sent.
@@ -45,6 +55,8 @@ pub(crate) enum Close<'a> {
 /// The bytes of a side's opening from its handshake on, of which the first ones are judged.
 #[derive(Drop)]
 pub(crate) struct Replay<'a> {
+    /// How many bytes come before its handshake, if that has begun.
+    start: Option<usize>,
     /// What is judged next, at most up to the close.
     rest: &'a [u8],
     /// How many bytes of the side's stream come before them.
@@ -109,10 +121,11 @@ fn judge_more(
 
 impl<'a> Replay<'a> {
     /// Returns that of a side without a handshake.
-    pub(crate) fn none(cut: Option<Cut>) -> Replay<'a>
+    pub(crate) fn none(start: Option<usize>, cut: Option<Cut>) -> Replay<'a>
         ensures { (p : Past) → IsReplay p None (cut_length cut) [] result }
     {
         Replay {
+            start,
             rest: &[],
             at: 0,
             judged: None,
@@ -136,19 +149,20 @@ impl<'a> Replay<'a> {
             → IsReceiver terms p q receiver → IsReplay p receiver (cut_length cut.now) [] replay) }
     {
         let Some(receiver) = receiver else {
-            return Ok(Replay::none(*cut));
+            return Ok(Replay::none(start, *cut));
         };
-        let Some(start) = start else {
-            return Ok(Replay::none(*cut));
+        let Some(begin) = start else {
+            return Ok(Replay::none(start, *cut));
         };
-        let Some(bytes) = front.get(start..) else {
-            return Ok(Replay::none(*cut));
+        let Some(bytes) = front.get(begin..) else {
+            return Ok(Replay::none(start, *cut));
         };
         let judge = Judge::new(alloc, receiver.own)?;
-        let (rest, close) = part_at(bytes, start as u64, cut);
+        let (rest, close) = part_at(bytes, begin as u64, cut);
         Ok(Replay {
+            start,
             rest,
-            at: start as u64,
+            at: begin as u64,
             judged: Some(Judged { receiver, judge }),
             close,
         })
@@ -160,6 +174,39 @@ impl<'a> Replay<'a> {
             Some(judged) => judged.is_known(),
             None => false,
         }
+    }
+
+    /// Returns the refusal of the stream under the lenient rules, if there is one.
+    fn refusal(&self) -> Option<Refusal> {
+        match &self.judged {
+            Some(judged) => judged.judge.free.refusal(),
+            None => None,
+        }
+    }
+
+    /// Appends the rows of what a mark shows besides items, if one of the sides has begun a handshake: a refusal that stands since then,
+    /// and a close.
+    ///
+    /// # Errors
+    /// `AllocError` when out of memory.
+    fn show(
+        &self,
+        theirs: &Replay,
+        before: Option<Refusal>,
+        mark: &Mark,
+        watch: &mut Watch,
+    ) -> Result<(), AllocError>
+        ensures rows { OnOk result (ShowsOthers watch.old watch.new) }
+        ensures rest { watch.new ≡ record watch.old { rows = watch.new.rows } }
+    {
+        let is_torrent = self.start.is_some() || theirs.start.is_some();
+        if !is_torrent {
+            return Ok(());
+        }
+        let start = self.start.unwrap_or(0) as u64;
+        let offset = mark.high.saturating_sub(start);
+        watch.show(mark.side, before, self.refusal(), offset, mark.closed)?;
+        Ok(())
     }
 
     /// Judges the bytes up to this length of the side's stream, or all that are left.
@@ -259,9 +306,9 @@ fn finish(
 ) -> Result<Opened, AllocError>
     requires { 0 < length buffer.old }
     ensures open { IfOk result (λ opened. is_opening opened.stage ≡ false) }
-    ensures opened { IfOk result (λ opened. (terms : Terms) (p q : Past) (receiver : Option Receiver) (cut : Option ℕ) (events : List Told)
+    ensures opened { IfOk result (λ opened. (since : Rows) (terms : Terms) (p q : Past) (receiver : Option Receiver) (cut : Option ℕ) (events : List Told)
         (items : Side → List (ℕ × Item)) → IsReceiver terms p q receiver → IsReplay p receiver cut (items side) replay.entry
-        → IsWatched events items watch.old → IsFinished terms p q cut side items opened watch.new) }
+        → IsSeen since events items watch.old → IsFinished since terms p q cut side items opened watch.new) }
 {
     watch.turn_to(side, false);
     replay.pass_close(watch, buffer)?;
@@ -270,7 +317,7 @@ fn finish(
     Ok(after_opening(replay.judged, replay.close))
 }
 
-/// Judges what a segment of the first side made ready.
+/// Judges what a segment of the first side made ready, and appends its rows.
 fn go_to(
     mine: &mut Replay,
     theirs: &Replay,
@@ -281,9 +328,12 @@ fn go_to(
     requires { 0 < length buffer.old }
     ensures { OnOk result (Replays mark.now.side mine.old watch.old mine.new watch.new) }
 {
+    let before = mine.refusal();
     watch.turn_to(mark.side, mark.is_whole && theirs.is_known());
+    watch.come_to(mark.when);
     mine.pass_to(mark.length, watch, buffer)?;
     mine.judge_to(mark.length, watch, buffer)?;
+    mine.show(theirs, before, mark, watch)?;
     Ok(())
 }
 
@@ -340,9 +390,9 @@ pub(crate) fn judge_both(
 ) -> Result<(Opened, Opened), AllocError>
     requires { 0 < length buffer.old }
     ensures open { IfOk result (λ both. (is_opening both.0.stage ≡ false) × (is_opening both.1.stage ≡ false)) }
-    ensures judged { IfOk result (λ both. (terms : Terms) (p q : Past) (x y : Aim) → IsReceiver terms p q x.receiver → IsReceiver terms q p y.receiver
-        → AreReplayed p q x y a.entry b.entry watch.old
-        → IsOpened terms p q x.cut both.0 × IsOpened terms q p y.cut both.1 × IsHeard p q both.0.stage both.1.stage watch.new) }
+    ensures judged { IfOk result (λ both. (since : Rows) (terms : Terms) (p q : Past) (x y : Aim) → IsReceiver terms p q x.receiver
+        → IsReceiver terms q p y.receiver → AreReplayed since p q x y a.entry b.entry watch.old → IsOpened terms p q x.cut both.0 × IsOpened terms q p y.cut both.1
+        × HasOpened p q both.0.stage both.1.stage watch.new since watch.new.rows) }
 {
     go_through(marks, &mut a, &mut b, watch, buffer)?;
     let of_a = finish(a, Side::A, watch, buffer)?;

@@ -1,6 +1,7 @@
 //! Memory for the bytes of one segment.
 ghost use Rattle.std.specs.Prelude.{◌<◌, length};
 
+use crate::rows::{Heading, NO_HEADING, Rows, Showing};
 use std::alloc::{AllocError, Global};
 
 /// How many bytes are copied at once.
@@ -13,20 +14,49 @@ pub struct Room {
     pub(crate) out: Vec<u8>,
     /// What a parser copies.
     pub(crate) buffer: Vec<u8>,
+    /// What a segment shows.
+    pub(crate) rows: Rows,
     ghost room: { 0 < length buffer.items },
 }
 
 impl Room {
+    ghost use Rattle.std.specs.Prelude.{◌≡◌, [], IfOk};
+    ghost use Rattle.bt_talk.specs.Rooms.{rows_in, heading_by};
+
     /// Makes room.
     ///
     /// # Errors
     /// `AllocError` when out of memory.
-    pub fn new(alloc: Global) -> Result<Room, AllocError> {
+    pub fn new(alloc: Global) -> Result<Room, AllocError>
+        ensures empty { IfOk result (λ room. (rows_in room).text.items ≡ []) }
+    {
         let mut buffer = Vec::new(alloc);
         buffer.resize(ROOM, 0)?;
         Ok(Room {
             out: Vec::new(alloc),
             buffer,
+            rows: Rows::new(alloc, NO_HEADING),
         })
+    }
+
+    /// Turns to a connection with this number, in a capture that starts at this time. The rows that are kept are dropped.
+    ///
+    /// Rows are shown as `showing` says.
+    pub fn turn_to(&mut self, showing: Showing, connection: u64, start: u64)
+        ensures heading { (rows_in self.new).heading ≡ heading_by showing connection start }
+        ensures empty { (rows_in self.new).text.items ≡ [] }
+    {
+        self.rows.begin(Heading {
+            showing,
+            connection,
+            start,
+        });
+    }
+
+    /// Returns the text of the rows that came since the last turn.
+    pub fn rows(&self) -> &[u8]
+        ensures { result.now ≡ (rows_in self.now).text.items }
+    {
+        self.rows.text.as_slice()
     }
 }

@@ -1,6 +1,6 @@
 //! One captured connection.
 ghost use Rattle.bt_talk.specs.declared.terms.Terms.{Terms};
-ghost use Rattle.std.specs.Prelude.{◌≡◌, ◌<◌, ◌+◌, ◌^◌, ◌-◌, ℕ, List, Bool, true, false, length, not, min, IfOk, OnOk, OnErr, Option, alloc_error};
+ghost use Rattle.std.specs.Prelude.{◌≡◌, [], ◌<◌, ◌+◌, ◌^◌, ◌-◌, ℕ, List, Bool, true, false, length, not, min, IfOk, OnOk, OnErr, Option, alloc_error};
 ghost use Rattle.bt_talk.specs.Pasts.{Past, no_past, IsAcked, given_of as given_by};
 ghost use Rattle.bt_remarks.specs.declared.events.Side.{Side};
 ghost use Rattle.bt_remarks.specs.declared.events.Side.TheVariants.{A, B};
@@ -8,11 +8,13 @@ ghost use Rattle.bt_talk.specs.Stages.{IsDirection, SpeaksAs, is_opening};
 ghost use Rattle.bt_talk.specs.Talks.{is_over as is_over_by, IsEnd, Turns};
 
 use crate::closing::{Closed, Closing, When, is_end, opens};
+use crate::course::Courses;
 use crate::direction::Direction;
 use crate::ends::Ends;
 use crate::refused::Judgement;
 use crate::replay::{Mark, Opened, judge_both};
 use crate::room::Room;
+use crate::rows::NO_REMARKS;
 use crate::stage::receiver_between;
 use crate::terms::Terms;
 use crate::unanswered::{has_closed, has_fast, is_accepted, other, unanswered_of};
@@ -23,8 +25,8 @@ use bt_jobs::Announced;
 use bt_packet::{Flags, Segment};
 use bt_remarks::{Ending, Side};
 use bt_tcp::Gaps;
-use bt_told::{Last, Noted, Remarked};
-use bt_wire::Handshake;
+use bt_told::{Deed, Last, Means, Noted, Remarked};
+use bt_wire::{Handshake, Refusal};
 use std::alloc::{AllocError, Global};
 use std::mem::size_of;
 
@@ -125,6 +127,7 @@ pub struct Talk {
     segments: u32,
     marks: Vec<Mark>,
     watch: Watch,
+    courses: Courses,
     closing: Closing,
     is_lost: bool,
 }
@@ -142,11 +145,16 @@ impl Talk {
     ghost use Rattle.bt_tcp.specs.Heard.{opening_of};
     ghost use Rattle.bt_talk.specs.Closing.{Closes, still_open, high_at, is_quiet, opens_by};
     ghost use Rattle.bt_talk.specs.Ends.{ends_by};
-    ghost use Rattle.bt_talk.specs.Talks.{IsTalk, HasSaid, Exchanges, Takes, Settles, ends_of, terms_of, closing_of, IsSender, is_in_opening, is_lost, flow_of, cut_of, direction_of, of_side};
+    ghost use Rattle.bt_talk.specs.Talks.{IsTalk, HasSaid, Shows, Opens, HasSettled, ShowsGap, Exchanges, Takes, Settles, ends_of, terms_of, closing_of, IsSender, is_in_opening, is_lost, flow_of, cut_of, direction_of, of_side};
     ghost use Rattle.bt_talk.specs.Receivers.{AreVerdicts, IsReceiverNow};
     ghost use Rattle.bt_talk.specs.Cuts.{IsLastBefore, cut_after};
-    ghost use Rattle.bt_talk.specs.Replays.{IsOpened};
-    ghost use Rattle.bt_talk.specs.Stages.{IsHeard};
+    ghost use Rattle.std.specs.List.{filter};
+    ghost use Rattle.bt_talk.specs.Courses.{closes_by, course_of};
+    ghost use Rattle.bt_talk.specs.Replays.{IsOpened, HasOpened};
+    ghost use Rattle.bt_talk.specs.Rooms.{rows_in};
+    ghost use Rattle.bt_talk.specs.Rows.{Shown, is_item};
+    ghost use Rattle.bt_talk.specs.Shown.{ShowsOthers};
+    ghost use Rattle.bt_talk.specs.Shows.{Appends, HasNone};
     ghost use Rattle.bt_talk.specs.Watching.{AreRemarked};
     ghost use Rattle.bt_talk.specs.Unanswered.{HaveFast, IsEnding, AreUnanswered};
 
@@ -170,6 +178,7 @@ impl Talk {
             segments: 0,
             marks: Vec::new(alloc),
             watch: Watch::new(alloc),
+            courses: Courses::new(),
             closing: Closing::new(),
             is_lost: false,
         }
@@ -181,8 +190,10 @@ impl Talk {
         ensures opening { OnOk result (is_in_opening self.new ≡ is_in_opening self.old) }
         ensures cuts { OnOk result ((side : Side) → cut_of side self.new ≡ cut_of side self.old) }
         ensures order { OnOk result ((a b : Past) → IsTalk a b self.old → HasSaid segment.now self.old self.new) }
+        ensures silent { OnOk result ((a b : Past) → IsTalk a b self.old → is_in_opening self.old ≡ true → Appends [] self.old.watch.rows self.new.watch.rows) }
         ensures ends { self.new.ends ≡ self.old.ends }
         ensures terms { self.new.terms ≡ self.old.terms }
+        ensures courses { self.new.courses ≡ self.old.courses }
         ensures closing { self.new.closing ≡ self.old.closing }
         ensures segments { self.new.segments ≡ self.old.segments }
         ensures is_lost { self.new.is_lost ≡ self.old.is_lost }
@@ -215,31 +226,82 @@ impl Talk {
         }
     }
 
+    /// Notes a segment that a side sent, whose stream had this length before. It returns how the side closes with it.
+    fn go_on(&mut self, side: Side, length: u64, segment: &Segment) -> Option<Means>
+        ensures closes { result ≡ closes_by segment.now.flags (course_of side self.old.courses).is_closed }
+        ensures rest { self.new ≡ record self.old { courses = self.new.courses } }
+    {
+        let begins = self.courses.of(side).grown.is_none() && !segment.payload.is_empty();
+        let grows = begins || self.length(side) > length;
+        self.courses
+            .take(side, segment.flags, grows, self.watch.when)
+    }
+
     /// Returns how far a side's stream is put together now.
-    fn mark(&self, side: Side) -> Mark {
-        match side {
-            Side::A => Mark {
-                side,
-                length: self.a.flow.next(),
-                is_whole: !self.b.flow.has_hole(),
-            },
-            Side::B => Mark {
-                side,
-                length: self.b.flow.next(),
-                is_whole: !self.a.flow.has_hole(),
-            },
+    fn mark(&self, side: Side, closed: Option<Means>) -> Mark {
+        let (mine, theirs) = match side {
+            Side::A => (&self.a, &self.b),
+            Side::B => (&self.b, &self.a),
+        };
+        Mark {
+            side,
+            length: mine.flow.next(),
+            is_whole: !theirs.flow.has_hole(),
+            when: self.watch.when,
+            high: mine.flow.high(),
+            closed,
         }
     }
 
-    /// Marks in the opening where a segment's bytes end.
-    fn keep_mark(&mut self, segment: &Segment) -> Result<(), AllocError>
+    /// Marks in the opening where a segment's bytes end, and whether its sender closes with it.
+    fn keep_mark(
+        &mut self,
+        side: Side,
+        segment: &Segment,
+        closed: Option<Means>,
+    ) -> Result<(), AllocError>
         ensures { self.new ≡ record self.old { marks = self.new.marks } }
     {
-        if segment.payload.is_empty() || !self.a.is_opening() {
+        let is_plain = segment.payload.is_empty() && closed.is_none();
+        if is_plain || !self.a.is_opening() {
             return Ok(());
         }
-        let mark = self.mark(self.ends.sender(segment));
+        let mark = self.mark(side, closed);
         self.marks.push(mark)?;
+        Ok(())
+    }
+
+    /// Tells whether a side has begun a handshake.
+    fn is_torrent(&self) -> bool {
+        self.a.intro.start().is_some() || self.b.intro.start().is_some()
+    }
+
+    /// Returns how far a side's captured bytes reach, from its handshake on.
+    fn reach(&self, side: Side) -> u64 {
+        let start = self.start(side).unwrap_or(0);
+        self.high(side).saturating_sub(start as u64)
+    }
+
+    /// Appends the rows of what a side did with a segment besides items, after the opening.
+    fn show(
+        &mut self,
+        side: Side,
+        before: Option<Refusal>,
+        closed: Option<Means>,
+    ) -> Result<(), AllocError>
+        ensures others { OnOk result (ShowsOthers self.old.watch self.new.watch) }
+        ensures opening { is_in_opening self.old ≡ true → self.new ≡ self.old }
+        ensures rest { self.new ≡ record self.old { watch = record self.old.watch { rows = self.new.watch.rows } } }
+    {
+        if self.a.is_opening() {
+            return Ok(());
+        }
+        if !self.is_torrent() {
+            return Ok(());
+        }
+        let now = self.direction(side).refusal();
+        let offset = self.reach(side);
+        self.watch.show(side, before, now, offset, closed)?;
         Ok(())
     }
 
@@ -248,7 +310,7 @@ impl Talk {
         ensures open { IfOk result (λ both. (is_opening both.0.stage ≡ false) × (is_opening both.1.stage ≡ false)) }
         ensures judged { IfOk result (λ both. (a b : Past) → IsTalk a b self.old → is_in_opening self.old ≡ true
             → IsOpened self.old.terms a b (cut_of A self.old) both.0 × IsOpened self.old.terms b a (cut_of B self.old) both.1
-            × IsHeard a b both.0.stage both.1.stage self.new.watch) }
+            × HasOpened a b both.0.stage both.1.stage self.new.watch self.old.watch.rows self.new.watch.rows) }
         ensures rest { self.new ≡ record self.old { watch = self.new.watch } }
     {
         let of_a = receiver_between(&self.b.intro, &self.a.intro, &self.terms);
@@ -263,6 +325,9 @@ impl Talk {
     fn open(&mut self, room: &mut Room) -> Result<(), AllocError>
         ensures open { OnOk result (is_in_opening self.new ≡ false) }
         ensures kept { OnOk result ((a b : Past) → IsTalk a b self.old → IsTalk a b self.new) }
+        ensures opened { OnOk result ((a b : Past) → IsTalk a b self.old → is_in_opening self.old ≡ true
+            → HasOpened a b self.new.a.stage self.new.b.stage self.new.watch self.old.watch.rows self.new.watch.rows) }
+        ensures open_already { OnOk result (is_in_opening self.old ≡ false → self.new ≡ self.old) }
         ensures cuts { OnOk result ((a b : Past) (side : Side) → IsTalk a b self.old → cut_of side self.new ≡ cut_of side self.old) }
         ensures flows { OnOk result ((side : Side) → flow_of side self.new ≡ flow_of side self.old) }
         ensures ends { self.new.ends ≡ self.old.ends }
@@ -284,6 +349,7 @@ impl Talk {
     fn settle(&mut self, room: &mut Room) -> Result<(), AllocError>
         ensures settles { OnOk result ((a b : Past) → IsTalk a b self.old → Settles a b self.old self.new) }
         ensures watch { OnOk result (is_in_opening self.old ≡ false → self.new.watch ≡ self.old.watch) }
+        ensures opened { OnOk result ((a b : Past) → IsTalk a b self.old → is_in_opening self.old ≡ true → Opens a b self.old self.new) }
         ensures after { OnOk result (is_in_opening self.old ≡ false → is_in_opening self.new ≡ false) }
         ensures cuts { OnOk result ((a b : Past) (side : Side) → IsTalk a b self.old → cut_of side self.new ≡ cut_of side self.old) }
         ensures flows { OnOk result ((side : Side) → flow_of side self.new ≡ flow_of side self.old) }
@@ -345,56 +411,154 @@ impl Talk {
         self.closing.end(over, when.nanos);
     }
 
+    /// Takes the next segment, to whose packet the watch has come.
+    fn take_next(&mut self, segment: &Segment, when: When, room: &mut Room) -> Result<(), AllocError>
+        ensures taken { OnOk result ((a b : Past) → IsTalk a b self.old → (took : Takes segment.now when a b self.old self.new)
+            × (is_in_opening self.old ≡ true → HasSettled segment.now when a b self.old self.new took self.old.watch.rows self.new.watch.rows)) }
+        ensures order { OnOk result ((a b : Past) → IsTalk a b self.old → is_in_opening self.old ≡ false
+            → Shows segment.now self.old.watch.when self.old self.new self.old.watch.rows self.new.watch.rows) }
+        ensures ends { self.new.ends ≡ self.old.ends }
+        ensures terms { self.new.terms ≡ self.old.terms }
+        ensures is_lost { self.new.is_lost ≡ self.old.is_lost }
+    {
+        let side = self.ends.sender(segment);
+        let before = self.direction(side).refusal();
+        let length = self.length(side);
+        self.exchange(segment, room)?;
+        let closed = self.go_on(side, length, segment);
+        self.keep_mark(side, segment, closed)?;
+        self.show(side, before, closed)?;
+        self.cut(segment.flags);
+        self.note(segment, when);
+        self.settle(room)?;
+        Ok(())
+    }
+
     /// Takes the next segment of the connection, in the order of capture.
     ///
     /// In the opening it may end that: then both sides have described themselves, or have sent 1 MiB, or 4,096 segments came.
     ///
+    /// Rows are appended to those of the room: after the opening a row for each item that the segment completes, then one for the
+    /// refusal, if the stream is refused with it, and one if the side closes with it; at the end of the opening the rows of all that
+    /// came in it.
+    ///
     /// # Errors
     /// `AllocError` when out of memory. The connection is lost then: it takes nothing more, and nothing is promised of what it tells.
+    /// The room has no rows then.
     pub fn take(&mut self, segment: &Segment, when: When, room: &mut Room) -> Result<(), AllocError>
         ensures taken { OnOk result ((a b : Past) → IsTalk a b self.old → Takes segment.now when a b self.old self.new) }
-        ensures order { OnOk result ((a b : Past) → IsTalk a b self.old → is_in_opening self.old ≡ false → HasSaid segment.now self.old self.new) }
+        ensures order { OnOk result ((a b : Past) → IsTalk a b self.old → is_in_opening self.old ≡ false
+            → Shows segment.now when self.old self.new (rows_in room.old) (rows_in room.new)) }
+        ensures opened { OnOk result ((a b : Past) → IsTalk a b self.old → is_in_opening self.old ≡ true → (took : Takes segment.now when a b self.old self.new)
+            × HasSettled segment.now when a b self.old self.new took (rows_in room.old) (rows_in room.new)) }
+        ensures rows { OnOk result ((a b : Past) → IsTalk a b self.old → (rows : List Shown) × Appends rows (rows_in room.old) (rows_in room.new)) }
+        ensures none { OnErr result (HasNone (rows_in room.old) (rows_in room.new)) }
         ensures there { OnOk result (is_lost self.new ≡ false) }
         ensures lost { OnErr result (is_lost self.new ≡ true) }
         ensures stays { is_lost self.old ≡ true → result ≡ Err alloc_error }
         ensures ends { ends_of self.new ≡ ends_of self.old }
         ensures terms { terms_of self.new ≡ terms_of self.old }
     {
+        let heading = room.rows.heading;
         if self.is_lost {
+            room.rows.begin(heading);
             return Err(AllocError);
         }
         self.is_lost = true;
-        self.exchange(segment, room)?;
-        self.keep_mark(segment)?;
-        self.cut(segment.flags);
-        self.note(segment, when);
-        self.settle(room)?;
-        self.is_lost = false;
-        Ok(())
+        self.watch.swap_rows(&mut room.rows);
+        self.watch.come_to(when);
+        let taken = self.take_next(segment, when, room);
+        self.watch.swap_rows(&mut room.rows);
+        match taken {
+            Ok(()) => {
+                self.is_lost = false;
+                Ok(())
+            }
+            Err(error) => {
+                room.rows.begin(heading);
+                Err(error)
+            }
+        }
     }
 
-    /// Ends the opening of a connection that is over, so that what came in it is judged.
+    /// Ends the opening of a connection that is over, so that what came in it is judged. Its rows are appended to those of the room.
     ///
     /// # Errors
-    /// `AllocError` when out of memory. The connection is lost then.
+    /// `AllocError` when out of memory. The connection is lost then, and the room has no rows.
     pub fn end_opening(&mut self, room: &mut Room) -> Result<(), AllocError>
         ensures kept { OnOk result ((a b : Past) → IsTalk a b self.old → IsTalk a b self.new) }
         ensures cuts { OnOk result ((a b : Past) (side : Side) → IsTalk a b self.old → cut_of side self.new ≡ cut_of side self.old) }
         ensures flows { OnOk result ((side : Side) → flow_of side self.new ≡ flow_of side self.old) }
         ensures over { OnOk result (is_in_opening self.new ≡ false) }
         ensures closing { closing_of self.new ≡ closing_of self.old }
+        ensures opened { OnOk result ((a b : Past) → IsTalk a b self.old → is_in_opening self.old ≡ true
+            → HasOpened a b self.new.a.stage self.new.b.stage self.new.watch (rows_in room.old) (rows_in room.new)) }
+        ensures open_already { OnOk result (is_in_opening self.old ≡ false → rows_in room.new ≡ rows_in room.old) }
+        ensures rows { OnOk result ((a b : Past) → IsTalk a b self.old → (rows : List Shown) × Appends rows (rows_in room.old) (rows_in room.new)) }
+        ensures none { OnErr result (HasNone (rows_in room.old) (rows_in room.new)) }
         ensures there { OnOk result (is_lost self.new ≡ false) }
         ensures lost { OnErr result (is_lost self.new ≡ true) }
         ensures stays { is_lost self.old ≡ true → result ≡ Err alloc_error }
         ensures ends { ends_of self.new ≡ ends_of self.old }
         ensures terms { terms_of self.new ≡ terms_of self.old }
     {
+        let heading = room.rows.heading;
         if self.is_lost {
+            room.rows.begin(heading);
             return Err(AllocError);
         }
         self.is_lost = true;
-        self.open(room)?;
-        self.is_lost = false;
+        self.watch.swap_rows(&mut room.rows);
+        let opened = self.open(room);
+        self.watch.swap_rows(&mut room.rows);
+        match opened {
+            Ok(()) => {
+                self.is_lost = false;
+                Ok(())
+            }
+            Err(error) => {
+                room.rows.begin(heading);
+                Err(error)
+            }
+        }
+    }
+
+    /// Appends to the rows of the room the row of a side's first gap, if it has one.
+    fn show_gap(&self, side: Side, room: &mut Room) -> Result<(), AllocError>
+        ensures gap { OnOk result (ShowsGap side self.now (rows_in room.old) (rows_in room.new)) }
+        ensures err { OnErr result (Appends [] (rows_in room.old) (rows_in room.new)) }
+    {
+        let start = self.start(side);
+        let Some(gap) = self.gaps(side).first else {
+            return Ok(());
+        };
+        let start = start.unwrap_or(0) as u64;
+        let begin = When {
+            nanos: room.rows.heading.start,
+            packet: 0,
+        };
+        let when = self.courses.of(side).grown.unwrap_or(begin);
+        let offset = gap.place.saturating_sub(start);
+        let deed = Deed::Gap(gap.length);
+        room.rows.put(when, side, offset, deed, NO_REMARKS)?;
+        Ok(())
+    }
+
+    /// Appends to the rows of the room the row of each side's first gap, at the packet with which the last byte before it came.
+    ///
+    /// Without a handshake there are none.
+    ///
+    /// # Errors
+    /// `AllocError` when out of memory.
+    pub fn show_gaps(&self, room: &mut Room) -> Result<(), AllocError>
+        ensures others { OnOk result ((others : List Shown) × (filter is_item others ≡ []) × Appends others (rows_in room.old) (rows_in room.new)) }
+        ensures err { OnErr result ((rows : List Shown) × Appends rows (rows_in room.old) (rows_in room.new)) }
+    {
+        if !self.is_torrent() {
+            return Ok(());
+        }
+        self.show_gap(Side::A, room)?;
+        self.show_gap(Side::B, room)?;
         Ok(())
     }
 

@@ -1,24 +1,30 @@
 //! What the items of both sides show together, as they come.
-ghost use Rattle.std.specs.Prelude.{◌≡◌, [], ℕ, List};
+ghost use Rattle.std.specs.Prelude.{◌≡◌, [], ◌++◌, ℕ, List, OnOk, if◌then◌else◌};
 ghost use Rattle.bt_bencode.specs.Trees.{dictionary};
 ghost use Rattle.bt_ext.specs.Metadata.{kind_of};
 ghost use Rattle.bt_ext.specs.Payloads.{seen as seen_ext};
 ghost use Rattle.bt_feed.specs.Views.{item_of};
 ghost use Rattle.bt_remarks.specs.declared.events.Side.{Side};
-ghost use Rattle.bt_remarks.specs.Said.{Told, message_of as said_in};
+ghost use Rattle.bt_remarks.specs.declared.events.Side.TheVariants as sides;
+ghost use Rattle.bt_remarks.specs.Said.{Told, is_same, message_of as said_in};
 ghost use Rattle.bt_wire.specs.declared.item.Item.{Item};
 ghost use Rattle.bt_wire.specs.Messages.{message_of};
 ghost use Rattle.bt_talk.specs.Events.{block_of, metadata_event, extended_event, message_event, event_of as event_by};
+ghost use Rattle.bt_talk.specs.Courses.{refusal_rows, close_rows};
+ghost use Rattle.bt_talk.specs.Shows.{Appends};
 ghost use Rattle.bt_talk.specs.Watching.{IsItemAt, IsNoted, first_said, noted as noted_by};
 
+use crate::closing::When;
+use crate::rows::{NO_HEADING, NO_REMARKS, Rows};
 use bt_bencode::DictRef;
 use bt_ext::{ExtView, Kind};
 use bt_feed::{Sink, SinkFault, View};
 use bt_remarks::{Block, Event, Found, Heard, Matcher, Remarks, Side};
 use bt_text::words::Dictionary;
-use bt_told::{Noted, Remarked, Said, Words};
-use bt_wire::MessageView;
-use std::alloc::Global;
+use bt_told::{Deed, Means, Noted, Remarked, Said, Words};
+use bt_wire::{MessageView, Refusal};
+use std::alloc::{AllocError, Global};
+use std::mem;
 
 /// The greatest length of a message, which has 32 bits.
 const MOST: usize = u32::MAX as usize;
@@ -109,6 +115,12 @@ fn keep_first(first: &mut Option<Said>, has: bool, said: &Said)
     }
 }
 
+/// The packet of a connection that has none.
+const NO_PACKET: When = When {
+    nanos: 0,
+    packet: 0,
+};
+
 /// What is kept of a side's items.
 #[derive(Clone, Copy)]
 pub(crate) struct Notes {
@@ -142,6 +154,17 @@ impl Notes {
     }
 }
 
+/// Keeps an item of a side with its remarks.
+fn note(side: Side, a: &mut Notes, b: &mut Notes, said: Said, remarks: Remarks)
+    ensures a { a.new ≡ (if is_same side sides.A then noted_by remarks said a.old else a.old) }
+    ensures b { b.new ≡ (if is_same side sides.B then noted_by remarks said b.old else b.old) }
+{
+    match side {
+        Side::A => a.note(said, remarks),
+        Side::B => b.note(said, remarks),
+    }
+}
+
 /// Returns how many items have a remark, with the first one.
 fn noted(found: Found, first: &Option<Said>) -> Option<Noted>
     ensures { (xs : List (ℕ × Item)) → IsItemAt xs found.first first.now → IsNoted found xs result }
@@ -165,6 +188,10 @@ pub(crate) struct Watch {
     side: Side,
     /// Whether all that the other side has said up to here is known.
     known: bool,
+    /// The packet whose bytes are read.
+    pub(crate) when: When,
+    /// The rows of what came with it.
+    pub(crate) rows: Rows,
     calls: u64,
     failed: u64,
 }
@@ -182,6 +209,8 @@ impl Watch {
             b: NO_NOTES,
             side: Side::A,
             known: false,
+            when: NO_PACKET,
+            rows: Rows::new(alloc, NO_HEADING),
             calls: 0,
             failed: 0,
         }
@@ -230,6 +259,81 @@ impl Watch {
         self.side = side;
         self.known = known;
     }
+
+    /// Swaps its rows with others.
+    pub(crate) fn swap_rows(&mut self, rows: &mut Rows)
+        ensures mine { self.new ≡ record self.old { rows = rows.old } }
+        ensures others { rows.new ≡ self.old.rows }
+    {
+        mem::swap(&mut self.rows, rows);
+    }
+
+    /// Comes to a packet.
+    pub(crate) fn come_to(&mut self, when: When)
+        ensures { self.new ≡ record self.old { when = when } }
+    {
+        self.when = when;
+    }
+
+    /// Appends the row of a refusal that stands now, if none stood before.
+    fn show_refusal(
+        &mut self,
+        side: Side,
+        before: Option<Refusal>,
+        now: Option<Refusal>,
+    ) -> Result<(), AllocError>
+        ensures rows { OnOk result (Appends (refusal_rows self.old.rows.heading self.old.when side before now) self.old.rows self.new.rows) }
+        ensures rest { self.new ≡ record self.old { rows = self.new.rows } }
+    {
+        match (before, now) {
+            (None, Some(refusal)) => {
+                let deed = Deed::Refused(refusal);
+                self.rows.put(self.when, side, refusal.at, deed, NO_REMARKS)
+            }
+            (None, None) => Ok(()),
+            (Some(_), _) => Ok(()),
+        }
+    }
+
+    /// Appends the row of a close, if there is one, after so many bytes of the side.
+    fn show_close(
+        &mut self,
+        side: Side,
+        offset: u64,
+        closed: Option<Means>,
+    ) -> Result<(), AllocError>
+        ensures rows { OnOk result (Appends (close_rows self.old.rows.heading self.old.when side offset closed) self.old.rows self.new.rows) }
+        ensures rest { self.new ≡ record self.old { rows = self.new.rows } }
+    {
+        match closed {
+            Some(by) => {
+                let deed = Deed::Closed(by);
+                self.rows.put(self.when, side, offset, deed, NO_REMARKS)
+            }
+            None => Ok(()),
+        }
+    }
+
+    /// Appends the rows of what a side did besides items: a refusal that stands now, if none stood before, and then a close.
+    ///
+    /// # Errors
+    /// `AllocError` when out of memory.
+    pub(crate) fn show(
+        &mut self,
+        side: Side,
+        before: Option<Refusal>,
+        now: Option<Refusal>,
+        offset: u64,
+        closed: Option<Means>,
+    ) -> Result<(), AllocError>
+        ensures rows { OnOk result (Appends (refusal_rows self.old.rows.heading self.old.when side before now
+            ++ close_rows self.old.rows.heading self.old.when side offset closed) self.old.rows self.new.rows) }
+        ensures rest { self.new ≡ record self.old { rows = self.new.rows } }
+    {
+        self.show_refusal(side, before, now)?;
+        self.show_close(side, offset, closed)?;
+        Ok(())
+    }
 }
 
 impl Sink for Watch {
@@ -259,11 +363,15 @@ impl Sink for Watch {
         };
         match self.matcher.take(&heard) {
             Ok(remarks) => {
-                match self.side {
-                    Side::A => self.a.note(said, remarks),
-                    Side::B => self.b.note(said, remarks),
+                note(self.side, &mut self.a, &mut self.b, said, remarks);
+                let deed = Deed::Item(said.words);
+                match self.rows.put(self.when, self.side, at, deed, remarks) {
+                    Ok(()) => Ok(()),
+                    Err(_) => {
+                        self.failed = self.failed.saturating_add(1);
+                        Err(SinkFault::Memory)
+                    }
                 }
-                Ok(())
             }
             Err(_) => {
                 self.failed = self.failed.saturating_add(1);

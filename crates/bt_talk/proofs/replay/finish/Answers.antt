@@ -4,16 +4,17 @@ use Rattle.bt_wire.specs.declared.item.Item.{Item}
 use Rattle.bt_talk.specs.declared.watch.Watch.{Watch}
 use Rattle.bt_talk.specs.Replays.{IsReplayOf}
 use Rattle.bt_talk.specs.Stages.{AreItemsIn}
-use Rattle.bt_talk.specs.Watching.{IsWatched, tell, with_items}
-use Rattle.bt_talk.proofs.Replays.{nearer, turn, mine_more, others_stay}
-use Rattle.bt_talk.proofs.Watching.{watched_more}
+use Rattle.bt_talk.specs.Shown.{IsSeen}
+use Rattle.bt_talk.specs.Watching.{tell, with_items}
+use Rattle.bt_talk.proofs.Replays.{nearer, mine_more, others_stay}
+use Rattle.bt_talk.proofs.Shown.{seen_more, seen_turned}
 use Rattle.bt_talk.proofs.replay.finish.Goals as goal
 
 pub returns-clause-opened : goal.returns-clause-opened
-returns-clause-opened c = λ terms p q receiver cut events items r i h.
+returns-clause-opened c = λ since terms p q receiver cut events items r i h.
     let side = c.args.side in
-    let x = c.in_ok-pass_close.ensures.goes_on side (ap (λ (k : Watch). k.side) c.turn_to.ensures) p receiver cut events items i
-    (turn side false events items c.args.watch.now c.turn_to.new.self c.turn_to.ensures h) in
+    let x = c.in_ok-pass_close.ensures.goes_on side (ap (λ (k : Watch). k.side) c.turn_to.ensures) since p receiver cut events items i
+    (seen_turned since side false c.args.watch.now.when events items c.args.watch.now c.turn_to.new.self c.turn_to.ensures h) in
     let rp = c.pass_close.new.self in
     let w = c.pass_close.new.watch in
     let w' = c.judge_more.new.watch in
@@ -27,6 +28,6 @@ returns-clause-opened c = λ terms p q receiver cut events items r i h.
       others = others_stay side m.0 x.now ∙ x.others;
       is = o.0;
       items_are = subst (λ (l : List (ℕ × Item)). AreItemsIn c.after_opening.result.stage p l) (sym (mine_more side m.0 x.now)) o.1;
-      watched = subst (λ (s : Side). IsWatched (tell w.side w.known m.0 x.events) (with_items s m.0 x.now) w') x.turn
-          (watched_more m.0 x.events x.now w w' m.2 x.watched);
+      seen = subst (λ (s : Side). IsSeen since (tell w.side w.known m.0 x.events) (with_items s m.0 x.now) w') x.turn
+          (seen_more since m.0 x.events x.now w w' m.2 x.seen);
     }

@@ -3,7 +3,7 @@ use Rattle.bt_flow.specs.declared.flow.Given.{Given}
 use Rattle.bt_talk.specs.Pasts.{Adds, given_of}
 use Rattle.bt_talk.proofs.Stages.{beside}
 use Rattle.bt_talk.proofs.Talks.{acked_reset, sent_reset, sent_by, front_kept}
-use Rattle.bt_talk.proofs.Watching.{goes_by, goes_nowhere}
+use Rattle.bt_talk.proofs.Shown.{shown_by, shown_nowhere}
 use Rattle.bt_talk.specs.Stages.{AreItemsIn, is_opening}
 use Rattle.bt_wire.specs.declared.item.Item.{Item}
 use Rattle.bt_talk.proofs.talk.turn.Goals as goal
@@ -21,7 +21,7 @@ returns-then-segment-clause-taken c = λ terms p q d e same. (
   λ xs i. (
     [],
     subst (λ (l : List (ℕ × Item)). AreItemsIn c.args.from.now.stage p l) (sym (append-nil xs)) i,
-    goes_nowhere c.args.side c.args.watch.now,
+    shown_nowhere c.args.side c.args.watch.now,
   ),
 )
 
@@ -44,5 +44,5 @@ returns-clause-taken c = λ terms p q d e same.
       },
       λ xs i.
           let m = t.3 xs i in
-          (m.0, m.1, goes_by c.args.side _ m.0 c.args.watch.now c.turn_to.new.self c.take.new.watch c.turn_to.ensures m.2),
+          (m.0, m.1, shown_by c.args.side _ m.0 c.args.watch.now c.turn_to.new.self c.take.new.watch c.turn_to.ensures m.2),
     )

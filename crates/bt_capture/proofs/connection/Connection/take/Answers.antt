@@ -1,11 +1,12 @@
 use Rattle.std.proofs.Common.{◌||◌, ◌∙◌, ap, sym, refl}
 use Rattle.std.specs.List.{list_any}
 use Rattle.bt_capture.specs.Arrivals.{arrived, has_data}
+use Rattle.bt_capture.proofs.Shown.{has_taken}
 use Rattle.bt_capture.proofs.Taking.{any_more, on_there, was_there, made_more}
 use Rattle.bt_capture.proofs.connection.Connection.take.Goals as goal
 
-pub returns : goal.returns
-returns c terms taken i =
+pub returns-clause-takes : goal.returns-clause-takes
+returns-clause-takes c terms taken i =
     let x = arrived c.args.segment.now c.args.when in
     let now = c.take-taken.new.self.is_lost in
     record {
@@ -16,3 +17,8 @@ returns c terms taken i =
           made_more terms taken c.args.segment.now x c.args.self.now.talk c.take-taken.new.self refl c.take-taken.ensures.ends c.take-taken.ensures.terms m
           (took m.a m.b m.made.is);
     }
+
+pub returns-clause-rows : goal.returns-clause-rows
+returns-clause-rows c terms taken i empty =
+    has_taken c.take-taken.result c.args.self.now.talk.is_lost _ c.args.self.now.talk c.args.room.now c.take-taken.new.room c.take-taken.ensures.stays
+    c.take-taken.ensures.rows c.take-taken.ensures.none (λ there. let m = i.made there in (m.a, m.b, m.made.is)) empty

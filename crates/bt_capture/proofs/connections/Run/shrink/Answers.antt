@@ -2,13 +2,13 @@ use Rattle.std.proofs.Common.{◌∙◌, refl}
 use Rattle.bt_capture.proofs.connections.Run.shrink.Goals as goal
 
 pub oldest-init : goal.oldest-init
-oldest-init c = record { told = λ start now came i. i; terms = refl; json = refl; start = refl; utp = refl }
+oldest-init c = record { told = λ start now came i. i; terms = refl; form = refl; start = refl; utp = refl }
 
 pub oldest-preserved : goal.oldest-preserved
 oldest-preserved c = record {
   told = λ start now came i. c.in-Ok.ensures.goes start now came (c.oldest.invariant.told start now came i);
   terms = c.in-Ok.ensures.terms ∙ c.oldest.invariant.terms;
-  json = c.in-Ok.ensures.json ∙ c.oldest.invariant.json;
+  form = c.in-Ok.ensures.form ∙ c.oldest.invariant.form;
   start = c.in-Ok.ensures.start ∙ c.oldest.invariant.start;
   utp = c.in-Ok.ensures.utp ∙ c.oldest.invariant.utp;
 }

@@ -11,7 +11,7 @@ abbrev pub invariant-oldest : goal.invariant-oldest
 invariant-oldest l = record {
   told : (start now : TargetSeen) (came : List Arrival) → Follows start now came l.initial.self.table l.initial.self → Follows start now came l.self.table l.self;
   terms : l.self.terms ≡ l.initial.self.terms;
-  json : l.self.teller.json ≡ l.initial.self.teller.json;
+  form : l.self.teller.form ≡ l.initial.self.teller.form;
   start : l.self.start ≡ l.initial.self.start;
   utp : l.self.utp ≡ l.initial.self.utp;
 }

@@ -12,7 +12,7 @@ returns-in-Ok-clause-written g c start reports t =
     let calm : after.failed ≡ before.failed = search rules in
     let empty : c.clear.new.self.items ≡ [] = search rules in
     all_written start before after c.args.self.now
-    (record { text = c.clear.new.self; json = c.args.self.now.json; torrents = c.args.self.now.torrents; is_refused = c.args.self.now.is_refused }) reports held calm empty refl refl refl t
+    (record { text = c.clear.new.self; form = c.args.self.now.form; torrents = c.args.self.now.torrents; is_refused = c.args.self.now.is_refused }) reports held calm empty refl refl refl t
 
 pub returns-in-Err-clause-stopped : goal.returns-in-Err-clause-stopped
 returns-in-Err-clause-stopped g c start reports t =

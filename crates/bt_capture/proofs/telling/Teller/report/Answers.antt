@@ -1,16 +1,11 @@
-use Rattle.std.proofs.Common.{ap, refl}
-use Rattle.bt_told.specs.declared.report.Report.{Report}
+use Rattle.bt_capture.proofs.Shown.{has_more}
+use Rattle.bt_capture.specs.Forms.{showing_by}
 use Rattle.bt_capture.proofs.telling.Teller.report.Goals as goal
 
-pub returns-in-Ok-clause-told : goal.returns-in-Ok-clause-told
-returns-in-Ok-clause-told c a b i =
-    let r : Report = record { number = c.args.number; a = c.ends-ends.result.a; b = c.ends-ends.result.b; body = c.body_of-body.result } in (
-      r,
-      record {
-        number = refl;
-        end_a = ap (λ e. e.a) c.ends-ends.ensures;
-        end_b = ap (λ e. e.b) c.ends-ends.ensures;
-        body = c.body_of-body.ensures a b i;
-      },
-      c.in-Ok.ensures.told,
-    )
+pub returns-clause-told : goal.returns-clause-told
+returns-clause-told c = λ h a b i.
+    let showing = showing_by c.args.self.now.form in
+    let g = c.in_ok-show_gaps.ensures.others in
+    let rows = has_more showing c.args.room.now c.show_gaps.new.room g.0 g.2 h in
+    let r = c.report_on.ensures.told a b i in
+    (r.0, r.1, λ start now reports t. r.2 start now reports (c.in_ok-show.ensures.told rows start now reports t))

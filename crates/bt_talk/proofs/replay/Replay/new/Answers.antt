@@ -14,7 +14,7 @@ returns-in_default c = λ terms p q f all starts r.
 
 pub returns : goal.returns
 returns c = λ terms p q f all starts r.
-    let start = c.in-Some-start.start in
+    let start = c.in-Some-start.begin in
     let first : IsFirstHello p.front start = subst (λ (o : Option ℕ). IsStartOf p.front o) c.in-Some-start.is starts in
     let lookup = c.in-Some-get.ensures.lookup in
     let part : c.in-Some-get.bytes.now ≡ drop start p.out = lookup.0.2 ∙ whole c.args.front.now start lookup.0.0 ∙ ap (λ (l : List ℕ). drop start l) f in

@@ -1,14 +1,63 @@
-use Rattle.std.proofs.Common.{◌∙◌, refl}
-use Rattle.bt_talk.proofs.Talks.{both_same}
+use Rattle.std.proofs.Common.{◌≡◌, ◌∙◌, true, false, [], refl, sym, ap, inl, inr}
+use Rattle.std.proofs.lemmas.Bool.{cases_Bool}
+use Rattle.bt_talk.specs.declared.rows.Rows.{Rows}
+use Rattle.bt_talk.specs.declared.talk.Talk.{Talk}
+use Rattle.bt_talk.specs.declared.watch.Watch.{Watch}
+use Rattle.bt_talk.specs.Talks.{is_in_opening}
+use Rattle.bt_talk.proofs.Lent.{Alike, with_watch, talk_alike, opened_alike}
+use Rattle.bt_talk.proofs.Shown.{appends_none, appends_same}
+use Rattle.bt_talk.proofs.Talks.{both_same, flow_same}
 use Rattle.bt_talk.proofs.talk.Talk.end_opening.Goals as goal
 
-pub returns-clause-kept : goal.returns-clause-kept
-returns-clause-kept c = λ a b t.
-    let k = c.in_ok-open.ensures.kept a b (record { a_is = t.a_is; b_is = t.b_is; stages = t.stages; said = t.said }) in
-    record { a_is = k.a_is; b_is = k.b_is; stages = k.stages; said = k.said }
+pub returns-in-Ok-clause-kept : goal.returns-in-Ok-clause-kept
+returns-in-Ok-clause-kept c = λ a b t.
+    let self = c.args.self.now in
+    let mine = c.swap_rows.ensures.mine in
+    let back = c.swap_rows-2.ensures.mine in
+    let u : Talk = record self { is_lost = true; watch = c.swap_rows.new.self } in
+    let v = c.open-opened.new.self in
+    let w : Talk = record v { is_lost = false; watch = c.swap_rows-2.new.self } in
+    let i : Alike self u = with_watch self true c.swap_rows.new.self (ap (λ (x : Watch). x.matcher) mine) (ap (λ (x : Watch). x.a) mine) (ap (λ (x : Watch). x.b) mine) in
+    let k : Alike v w = with_watch v false c.swap_rows-2.new.self (ap (λ (x : Watch). x.matcher) back) (ap (λ (x : Watch). x.a) back) (ap (λ (x : Watch). x.b) back) in
+    talk_alike a b v w k (c.in-Ok.ensures.kept a b (talk_alike a b self u i t))
 
-pub returns-clause-cuts : goal.returns-clause-cuts
-returns-clause-cuts c = λ a b side t.
-    both_same side c.open.new.self _ refl refl
-    ∙ c.in_ok-open.ensures.cuts a b side (record { a_is = t.a_is; b_is = t.b_is; stages = t.stages; said = t.said })
-    ∙ both_same side c.args.self.now _ refl refl
+pub returns-in-Ok-clause-cuts : goal.returns-in-Ok-clause-cuts
+returns-in-Ok-clause-cuts c = λ a b side t.
+    let self = c.args.self.now in
+    let mine = c.swap_rows.ensures.mine in
+    let u : Talk = record self { is_lost = true; watch = c.swap_rows.new.self } in
+    let i : Alike self u = with_watch self true c.swap_rows.new.self (ap (λ (x : Watch). x.matcher) mine) (ap (λ (x : Watch). x.a) mine) (ap (λ (x : Watch). x.b) mine) in
+    both_same side c.open-opened.new.self _ refl refl ∙ c.in-Ok.ensures.cuts a b side (talk_alike a b self u i t) ∙ both_same side self u refl refl
+
+pub returns-in-Ok-clause-flows : goal.returns-in-Ok-clause-flows
+returns-in-Ok-clause-flows c = λ side.
+    let self = c.args.self.now in
+    let u : Talk = record self { is_lost = true; watch = c.swap_rows.new.self } in
+    flow_same side c.open-opened.new.self _ refl refl ∙ c.in-Ok.ensures.flows side ∙ flow_same side self u refl refl
+
+pub returns-in-Ok-clause-opened : goal.returns-in-Ok-clause-opened
+returns-in-Ok-clause-opened c = λ a b t o.
+    let self = c.args.self.now in
+    let mine = c.swap_rows.ensures.mine in
+    let back = c.swap_rows-2.ensures.mine in
+    let u : Talk = record self { is_lost = true; watch = c.swap_rows.new.self } in
+    let v = c.open-opened.new.self in
+    let i : Alike self u = with_watch self true c.swap_rows.new.self (ap (λ (x : Watch). x.matcher) mine) (ap (λ (x : Watch). x.a) mine) (ap (λ (x : Watch). x.b) mine) in
+    opened_alike a b v.a.stage v.b.stage v.watch c.swap_rows-2.new.self c.args.room.now.rows c.swap_rows-2.new.rows u.watch.rows v.watch.rows
+    (ap (λ (x : Watch). x.matcher) back) (ap (λ (x : Watch). x.a) back) (ap (λ (x : Watch). x.b) back) (ap (λ (x : Watch). x.rows) mine)
+    (sym c.swap_rows-2.ensures.others) (c.in-Ok.ensures.opened a b (talk_alike a b self u i t) o)
+
+pub returns-in-Ok-clause-open_already : goal.returns-in-Ok-clause-open_already
+returns-in-Ok-clause-open_already c = λ o.
+    c.swap_rows-2.ensures.others ∙ ap (λ (x : Talk). x.watch.rows) (c.in-Ok.ensures.open_already o) ∙ ap (λ (x : Watch). x.rows) c.swap_rows.ensures.mine
+
+pub returns-in-Ok-clause-rows : goal.returns-in-Ok-clause-rows
+returns-in-Ok-clause-rows c = λ a b t.
+    elim (cases_Bool (is_in_opening c.args.self.now)) [
+      | inl o ↦ let h = returns-in-Ok-clause-opened c a b t o in (h.rows, h.appends)
+      | inr o ↦ (
+        [],
+        appends_same [] c.args.room.now.rows c.args.room.now.rows c.args.room.now.rows c.swap_rows-2.new.rows refl (returns-in-Ok-clause-open_already c o)
+            (appends_none c.args.room.now.rows),
+      )
+    ]

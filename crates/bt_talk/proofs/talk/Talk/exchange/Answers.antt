@@ -1,4 +1,4 @@
-use Rattle.std.proofs.Common.{◌∙◌, Bool, sym, ap, subst}
+use Rattle.std.proofs.Common.{◌≡◌, ◌∙◌, ◌++◌, Bool, List, [], sym, ap, subst}
 use Rattle.bt_remarks.specs.declared.events.Side.{Side}
 use Rattle.bt_remarks.specs.declared.events.Side.TheVariants.{A, B}
 use Rattle.bt_talk.specs.declared.stage.Stage.{Stage}
@@ -6,7 +6,10 @@ use Rattle.bt_talk.specs.Pasts.{HasSent}
 use Rattle.bt_talk.specs.Stages.{is_opening, AreItemsIn}
 use Rattle.bt_talk.specs.Talks.{IsSender}
 use Rattle.bt_talk.specs.Watching.{tell, with_items}
-use Rattle.bt_talk.proofs.Items.{items_stay}
+use Rattle.bt_talk.specs.Rows.{Shown}
+use Rattle.bt_talk.specs.Shows.{Appends}
+use Rattle.bt_talk.proofs.Items.{items_stay, opening_items}
+use Rattle.bt_talk.proofs.Shown.{no_rows, nil_right}
 use Rattle.bt_talk.specs.Cuts.{cut_length}
 use Rattle.bt_talk.proofs.Talks.{acked_same, cuts_same}
 use Rattle.bt_talk.proofs.talk.Talk.exchange.Goals as goal
@@ -30,12 +33,12 @@ returns-in_ok-turn-in-A-clause-taken c = λ a b t.
         b_is = r.q_is;
         stages = c.in_ok-turn-in-A.ensures.from ∙ t.stages ∙ sym (ap is_opening to);
         said = record {
-          events = tell A g.0 s.0 t.said.events;
+          events = tell A g.1.known s.0 t.said.events;
           items = with_items A s.0 t.said.items;
           a_items = s.1;
           b_items = subst (λ (k : Stage). AreItemsIn k r.q' (t.said.items B)) (sym to)
               (items_stay self.b.stage b r.q' (t.said.items B) same.0 same.1 t.said.b_items);
-          watched = g.1;
+          watched = g.1.watched;
         };
       };
       sent = r.sent;
@@ -61,12 +64,12 @@ returns-in_ok-turn-in-B-clause-taken c = λ a b t.
         b_is = r.p_is;
         stages = ap is_opening to ∙ t.stages ∙ sym c.in_ok-turn-in-B.ensures.from;
         said = record {
-          events = tell B g.0 s.0 t.said.events;
+          events = tell B g.1.known s.0 t.said.events;
           items = with_items B s.0 t.said.items;
           a_items = subst (λ (k : Stage). AreItemsIn k r.q' (t.said.items A)) (sym to)
               (items_stay self.a.stage a r.q' (t.said.items A) same.0 same.1 t.said.a_items);
           b_items = s.1;
-          watched = g.1;
+          watched = g.1.watched;
         };
       };
       sent = subst (λ (o : Bool). HasSent c.args.segment.now o b self.b.flow r.p' c.turn-in-B.new.from.flow) (sym t.stages) r.sent;
@@ -104,3 +107,23 @@ returns-in_ok-turn-in-B-clause-order c = λ a b t.
       items = s.0;
       follow = s.2;
     }
+
+pub returns-in_ok-turn-in-A-clause-silent : goal.returns-in_ok-turn-in-A-clause-silent
+returns-in_ok-turn-in-A-clause-silent c = λ a b t o.
+    let self = c.args.self.now in
+    let x = c.in_ok-turn-in-A.ensures.taken self.terms a b t.a_is t.b_is t.stages in
+    let s = x.1 (t.said.items A) t.said.a_items in
+    let g = s.2 t.said.events t.said.items t.said.watched in
+    let all = opening_items c.turn.new.from.stage x.0.p' (t.said.items A ++ s.0) (c.in_ok-turn-in-A.ensures.from ∙ o) s.1 in
+    subst (λ (l : List Shown). Appends l self.watch.rows c.turn.new.watch.rows)
+    (no_rows self.watch.rows.heading self.watch.when A g.1.known s.0 t.said.events g.0 (nil_right (t.said.items A) s.0 all) g.1.shown) g.2
+
+pub returns-in_ok-turn-in-B-clause-silent : goal.returns-in_ok-turn-in-B-clause-silent
+returns-in_ok-turn-in-B-clause-silent c = λ a b t o.
+    let self = c.args.self.now in
+    let x = c.in_ok-turn-in-B.ensures.taken self.terms b a t.b_is t.a_is (sym t.stages) in
+    let s = x.1 (t.said.items B) t.said.b_items in
+    let g = s.2 t.said.events t.said.items t.said.watched in
+    let all = opening_items c.turn-in-B.new.from.stage x.0.p' (t.said.items B ++ s.0) (c.in_ok-turn-in-B.ensures.from ∙ (sym t.stages ∙ o)) s.1 in
+    subst (λ (l : List Shown). Appends l self.watch.rows c.turn-in-B.new.watch.rows)
+    (no_rows self.watch.rows.heading self.watch.when B g.1.known s.0 t.said.events g.0 (nil_right (t.said.items B) s.0 all) g.1.shown) g.2

@@ -1,8 +1,9 @@
-use Rattle.std.proofs.Common.{◌∙◌, sym, ap, subst}
+use Rattle.std.proofs.Common.{◌≡◌, ◌∙◌, true, false, sym, ap, subst}
+use Rattle.bt_talk.specs.declared.stage.Stage.{Stage}
 use Rattle.bt_talk.specs.declared.direction.Direction.{Direction}
 use Rattle.bt_talk.specs.declared.talk.Talk.{Talk}
 use Rattle.bt_talk.specs.Cuts.{cut_length}
-use Rattle.bt_talk.specs.Replays.{Opens}
+use Rattle.bt_talk.specs.Replays.{HasOpened, IsOpenedBy}
 use Rattle.bt_talk.proofs.Talks.{ended, cuts_same}
 use Rattle.bt_talk.proofs.talk.Talk.open.Goals as goal
 
@@ -15,11 +16,29 @@ returns-clause-kept c = λ a b t.
     let over = c.in_ok-of_a.ensures.open in
     let j = c.in_ok-of_a.ensures.judged a b t (sym c.is_opening.ensures ∙ c.if-not-is_opening.false) in
     ended a b self _ of_a of_b (ap (λ (k : Talk). k.terms) rest)
-    (subst (λ (d : Direction). Opens d of_a c.open.new.self) (ap (λ (k : Talk). k.a) rest) c.open.ensures.opens)
-    (subst (λ (d : Direction). Opens d of_b c.open-2.new.self) (ap (λ (k : Talk). k.b) rest) c.open-2.ensures.opens) over.0 over.1 j.0 j.1 j.2 t
+    (subst (λ (d : Direction). IsOpenedBy d of_a c.open.new.self) (ap (λ (k : Talk). k.a) rest) c.open.ensures.opens)
+    (subst (λ (d : Direction). IsOpenedBy d of_b c.open-2.new.self) (ap (λ (k : Talk). k.b) rest) c.open-2.ensures.opens) over.0 over.1 j.0 j.1 j.2.heard t
 
 pub returns-clause-cuts : goal.returns-clause-cuts
 returns-clause-cuts c = λ a b side t.
     let j = c.in_ok-of_a.ensures.judged a b t (sym c.is_opening.ensures ∙ c.if-not-is_opening.false) in
     cuts_same side c.args.self.now _ (ap cut_length c.open.ensures.opens.cut ∙ j.0.length)
     (ap cut_length c.open-2.ensures.opens.cut ∙ j.1.length)
+
+pub returns-then-not-is_opening-clause-opened : goal.returns-then-not-is_opening-clause-opened
+returns-then-not-is_opening-clause-opened c = λ a b t o. absurd (let e : true ≡ false = sym o ∙ sym c.is_opening.ensures ∙ c.if-not-is_opening.true in cc)
+
+pub returns-clause-opened : goal.returns-clause-opened
+returns-clause-opened c = λ a b t o.
+    let self = c.args.self.now in
+    let of_a = c.in_ok-of_a.of_a in
+    let of_b = c.in_ok-of_a.of_b in
+    let now = c.judge_opening.new.self in
+    let j = c.in_ok-of_a.ensures.judged a b t o in
+    let sa = c.open.ensures.opens.stage in
+    let sb = c.open-2.ensures.opens.stage in
+    subst (λ (s : Stage). HasOpened a b s c.open-2.new.self.stage now.watch self.watch.rows now.watch.rows) (sym sa)
+    (subst (λ (s : Stage). HasOpened a b of_a.stage s now.watch self.watch.rows now.watch.rows) (sym sb) j.2)
+
+pub returns-clause-open_already : goal.returns-clause-open_already
+returns-clause-open_already c = λ o. absurd (let e : true ≡ false = sym (sym c.is_opening.ensures ∙ c.if-not-is_opening.false) ∙ o in cc)

@@ -1,4 +1,5 @@
 use Rattle.std.proofs.Common.{◌≡◌, ◌∙◌, ◌+◌, ◌-◌, ◌^◌, min, true, false, not, refl, sym, ap, arith}
+use Rattle.bt_talk.proofs.Shown.{appends_none}
 use Rattle.bt_talk.proofs.Talks.{end_same, both_same}
 use Rattle.bt_talk.proofs.talk.Talk.settle.Goals as goal
 
@@ -30,3 +31,18 @@ pub returns-clause-cuts : goal.returns-clause-cuts
 returns-clause-cuts c = λ a b side t.
     c.in_ok-open.ensures.cuts a b side (record { a_is = t.a_is; b_is = t.b_is; stages = t.stages; said = t.said })
     ∙ both_same side c.args.self.now _ refl refl
+
+pub returns-then-not-is_opening-clause-opened : goal.returns-then-not-is_opening-clause-opened
+returns-then-not-is_opening-clause-opened c = λ a b t o. absurd (let e : true ≡ false = sym o ∙ sym c.is_opening.ensures ∙ c.if-not-is_opening.true in cc)
+
+pub returns-then-not-is_over-clause-opened : goal.returns-then-not-is_over-clause-opened
+returns-then-not-is_over-clause-opened c = λ a b t o. record {
+  quiet = λ _. appends_none c.args.self.now.watch.rows;
+  opened = λ n. absurd (let e : true ≡ false = sym o ∙ n in cc);
+}
+
+pub returns-clause-opened : goal.returns-clause-opened
+returns-clause-opened c = λ a b t o. record {
+  quiet = λ q. absurd (let e : true ≡ false = sym q ∙ c.in_ok-open.ensures.open in cc);
+  opened = λ _. c.in_ok-open.ensures.opened a b (record { a_is = t.a_is; b_is = t.b_is; stages = t.stages; said = t.said }) o;
+}

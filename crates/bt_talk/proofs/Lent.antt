@@ -1,0 +1,227 @@
+-- What rows need doesn't change what is known of a connection.
+use Rattle.std.proofs.Common.{◌≡◌, ◌∙◌, ◌-◌, ◌^◌, min, ◌+◌, ℕ, not, true, false, Bool, List, [], ◌++◌, length, refl, sym, ap, subst, inl, inr}
+use Rattle.std.specs.Prelude.{◌↔◌}
+use Rattle.std.specs.List.{filter}
+use Rattle.std.proofs.lemmas.Bool.{cases_Bool}
+use Rattle.bt_remarks.specs.declared.events.Side.{Side}
+use Rattle.bt_remarks.specs.declared.events.Side.TheVariants.{A, B}
+use Rattle.bt_remarks.specs.declared.matcher.Matcher.{Matcher}
+use Rattle.bt_packet.specs.declared.tcp.Segment.{Segment}
+use Rattle.bt_wire.specs.declared.item.Item.{Item}
+use Rattle.bt_remarks.specs.Said.{Told}
+use Rattle.bt_talk.specs.declared.closing.When.{When}
+use Rattle.bt_talk.specs.declared.closing.Closing.{Closing}
+use Rattle.bt_talk.specs.declared.direction.Direction.{Direction}
+use Rattle.bt_talk.specs.declared.ends.Ends.{Ends}
+use Rattle.bt_talk.specs.declared.rows.Heading.{Heading}
+use Rattle.bt_talk.specs.declared.rows.Rows.{Rows}
+use Rattle.bt_talk.specs.declared.stage.Stage.{Stage}
+use Rattle.bt_talk.specs.declared.talk.Talk.{Talk}
+use Rattle.bt_talk.specs.declared.terms.Terms.{Terms}
+use Rattle.bt_talk.specs.declared.watch.Notes.{Notes}
+use Rattle.bt_talk.specs.declared.watch.Watch.{Watch}
+use Rattle.bt_talk.specs.Closing.{Closes}
+use Rattle.bt_talk.specs.Cuts.{cut_after}
+use Rattle.bt_talk.specs.Pasts.{Past, HasSent}
+use Rattle.bt_talk.specs.Replays.{HasOpened}
+use Rattle.bt_talk.specs.Rows.{Shown, is_item}
+use Rattle.bt_talk.specs.Shown.{IsShown, AreTurnRows}
+use Rattle.bt_talk.specs.Shows.{Appends}
+use Rattle.bt_talk.specs.Stages.{IsDirection, IsHeard, is_opening}
+use Rattle.bt_talk.specs.Talks.{IsTalk, Takes, IsEnd, IsSender, Shows, HasSettled, is_in_opening, flow_of, cut_of, of_side, closing_of}
+use Rattle.bt_talk.specs.Watching.{IsWatched}
+use Rattle.bt_talk.proofs.Closes.{closes_same}
+use Rattle.bt_talk.proofs.Shown.{appends_more, appends_same, rows_same}
+use Rattle.bt_talk.proofs.Talks.{end_same, flow_same, sent_same, both_same}
+use Rattle.bt_talk.proofs.Watching.{watched_same}
+
+-- They differ at most in what rows need.
+pub record Alike (t u : Talk) : Type 0 where
+  pub terms : u.terms ≡ t.terms
+  pub ends : u.ends ≡ t.ends
+  pub a : u.a ≡ t.a
+  pub b : u.b ≡ t.b
+  pub segments : u.segments ≡ t.segments
+  pub closing : u.closing ≡ t.closing
+  pub matcher : u.watch.matcher ≡ t.watch.matcher
+  pub a_notes : u.watch.a ≡ t.watch.a
+  pub b_notes : u.watch.b ≡ t.watch.b
+
+pub alike_back : (t u : Talk) → Alike t u → Alike u t
+alike_back t u i = record {
+  terms = sym i.terms;
+  ends = sym i.ends;
+  a = sym i.a;
+  b = sym i.b;
+  segments = sym i.segments;
+  closing = sym i.closing;
+  matcher = sym i.matcher;
+  a_notes = sym i.a_notes;
+  b_notes = sym i.b_notes;
+}
+
+-- What rows need was noted, and rows were appended.
+pub after_steps : (t u v x : Talk) → u ≡ record t { courses = u.courses } → v ≡ record u { marks = v.marks }
+    → x ≡ record v { watch = record v.watch { rows = x.watch.rows } } → Alike t x
+after_steps t u v x e f g = record {
+  terms = ap (λ (k : Talk). k.terms) g ∙ ap (λ (k : Talk). k.terms) f ∙ ap (λ (k : Talk). k.terms) e;
+  ends = ap (λ (k : Talk). k.ends) g ∙ ap (λ (k : Talk). k.ends) f ∙ ap (λ (k : Talk). k.ends) e;
+  a = ap (λ (k : Talk). k.a) g ∙ ap (λ (k : Talk). k.a) f ∙ ap (λ (k : Talk). k.a) e;
+  b = ap (λ (k : Talk). k.b) g ∙ ap (λ (k : Talk). k.b) f ∙ ap (λ (k : Talk). k.b) e;
+  segments = ap (λ (k : Talk). k.segments) g ∙ ap (λ (k : Talk). k.segments) f ∙ ap (λ (k : Talk). k.segments) e;
+  closing = ap (λ (k : Talk). k.closing) g ∙ ap (λ (k : Talk). k.closing) f ∙ ap (λ (k : Talk). k.closing) e;
+  matcher = ap (λ (k : Talk). k.watch.matcher) g ∙ ap (λ (k : Talk). k.watch.matcher) f ∙ ap (λ (k : Talk). k.watch.matcher) e;
+  a_notes = ap (λ (k : Talk). k.watch.a) g ∙ ap (λ (k : Talk). k.watch.a) f ∙ ap (λ (k : Talk). k.watch.a) e;
+  b_notes = ap (λ (k : Talk). k.watch.b) g ∙ ap (λ (k : Talk). k.watch.b) f ∙ ap (λ (k : Talk). k.watch.b) e;
+}
+
+watched_alike : (events : List Told) (items : Side → List (ℕ × Item)) (t u : Talk) → Alike t u → IsWatched events items t.watch
+    → IsWatched events items u.watch
+watched_alike events items t u i w = watched_same events items t.watch u.watch i.matcher i.a_notes i.b_notes w
+
+pub talk_alike : (a b : Past) (t u : Talk) → Alike t u → IsTalk a b t → IsTalk a b u
+talk_alike a b t u i k =
+    let said : IsHeard a b t.a.stage t.b.stage u.watch = record {
+      events = k.said.events;
+      items = k.said.items;
+      a_items = k.said.a_items;
+      b_items = k.said.b_items;
+      watched = watched_alike k.said.events k.said.items t u i k.said.watched;
+    } in
+    record {
+      a_is = subst (λ (d : Direction). IsDirection u.terms a b d) (sym i.a) (subst (λ (n : Terms). IsDirection n a b t.a) (sym i.terms) k.a_is);
+      b_is = subst (λ (d : Direction). IsDirection u.terms b a d) (sym i.b) (subst (λ (n : Terms). IsDirection n b a t.b) (sym i.terms) k.b_is);
+      stages = ap (λ (d : Direction). is_opening d.stage) i.a ∙ k.stages ∙ sym (ap (λ (d : Direction). is_opening d.stage) i.b);
+      said = subst (λ (d : Direction). IsHeard a b d.stage u.b.stage u.watch) (sym i.a)
+          (subst (λ (d : Direction). IsHeard a b t.a.stage d.stage u.watch) (sym i.b) said);
+    }
+
+pub opening_alike : (t u : Talk) → Alike t u → is_in_opening u ≡ is_in_opening t
+opening_alike t u i = ap (λ (d : Direction). is_opening d.stage) i.a
+
+pub sender_alike : (s : Segment) (t u : Talk) (side : Side) → Alike t u → IsSender s t side → IsSender s u side
+sender_alike s t u side i k = subst (λ (e : Ends). (side ≡ A) ↔ (s.source ≡ e.a)) (sym i.ends) k
+
+-- A segment was taken.
+abbrev pub takes_alike : (s : Segment) (when : When) (a b : Past) (t t' u u' : Talk) → Alike t u → Alike t' u' → Takes s when a b t t' → Takes s when a b u u'
+takes_alike s when a b t t' u u' i k x =
+    let flow = λ (side : Side). flow_same side t u i.a i.b in
+    let flow' = λ (side : Side). flow_same side t' u' k.a k.b in
+    record {
+      side = x.side;
+      is_side = sender_alike s t u x.side i x.is_side;
+      a' = x.a';
+      b' = x.b';
+      is = talk_alike x.a' x.b' t' u' k x.is;
+      sent = subst (λ (o : Bool). HasSent s o (of_side x.side a b) (flow_of x.side u) (of_side x.side x.a' x.b') (flow_of x.side u')) (sym (opening_alike t u i))
+          (sent_same s (is_in_opening t) (of_side x.side a b) _ _ (of_side x.side x.a' x.b') _ _ (sym (flow x.side)) (sym (flow' x.side)) x.sent);
+      acked = x.acked;
+      opening = λ o. end_same x.a' x.b' _ _ _ _ (ap (λ (n : ℕ). min (n + 1) (2 ^ 32 - 1)) (sym i.segments)) (ap not (sym (opening_alike t' u' k)))
+          (x.opening (sym (opening_alike t u i) ∙ o));
+      after = λ o. opening_alike t' u' k ∙ x.after (sym (opening_alike t u i) ∙ o);
+      closes = closes_same s when x.side x.a' x.b' _ _ _ _ _ _ _ _ (sym (flow' A)) (sym (flow' B)) (sym i.closing) (sym k.closing) x.closes;
+      cut = λ side.
+          both_same side t' u' k.a k.b ∙ x.cut side
+          ∙ ap (λ (c : Closing). cut_after s.flags c.closed (length (of_side side x.a' x.b').out) (cut_of side t)) (sym i.closing)
+          ∙ ap (λ (n : _). cut_after s.flags u.closing.closed (length (of_side side x.a' x.b').out) n) (sym (both_same side t u i.a i.b));
+    }
+
+-- ---- rows
+
+-- Rows show the items of a segment.
+pub shows_alike : (s : Segment) (when when' : When) (t t' u u' : Talk) (r r' q q' : Rows) → Alike t u → Alike t' u' → when' ≡ when → q ≡ r → q' ≡ r'
+    → Shows s when' u u' q q' → Shows s when t t' r r'
+shows_alike s when when' t t' u u' r r' q q' i k e f g x = record {
+  side = x.side;
+  is_side = sender_alike s u t x.side (alike_back t u i) x.is_side;
+  items = x.items;
+  others = x.others;
+  no_item = x.no_item;
+  follow = λ events before w.
+      let y = x.follow events before (watched_alike events before t u i w) in
+      let rows = y.0 in (
+        rows,
+        record {
+          known = y.1.known;
+          watched = watched_alike _ _ u' t' (alike_back t' u' k) y.1.watched;
+          shown = rows_same r.heading q.heading when when' x.side x.side y.1.known y.1.known x.items events rows (ap (λ (z : Rows). z.heading) f) e refl refl
+              y.1.shown;
+        },
+        appends_same (rows ++ x.others) q q' r r' (sym f) (sym g) y.2,
+      );
+}
+
+-- Rows show the items of the opening.
+pub opened_alike : (p q : Past) (s s' : Stage) (w v : Watch) (r r' l l' : Rows) → v.matcher ≡ w.matcher → v.a ≡ w.a → v.b ≡ w.b → l ≡ r → l' ≡ r'
+    → HasOpened p q s s' w l l' → HasOpened p q s s' v r r'
+opened_alike p q s s' w v r r' l l' e f g m n h = record {
+  heard = record {
+    events = h.heard.events;
+    items = h.heard.items;
+    a_items = h.heard.a_items;
+    b_items = h.heard.b_items;
+    watched = watched_same h.heard.events h.heard.items w v e f g h.heard.watched;
+  };
+  turns = h.turns;
+  told = h.told;
+  items_are = h.items_are;
+  rows = h.rows;
+  appends = appends_same h.rows l l' r r' (sym m) (sym n) h.appends;
+  shown = subst (λ (z : Rows). AreTurnRows z.heading h.turns (filter is_item h.rows)) m h.shown;
+}
+
+-- No row was appended before.
+pub opened_after : (p q : Past) (s s' : Stage) (w : Watch) (r m m' r' : Rows) → Appends [] r m → m' ≡ m → HasOpened p q s s' w m' r'
+    → HasOpened p q s s' w r r'
+opened_after p q s s' w r m m' r' i e h = record {
+  heard = h.heard;
+  turns = h.turns;
+  told = h.told;
+  items_are = h.items_are;
+  rows = h.rows;
+  appends = appends_more [] h.rows r m r' i (appends_same h.rows m' r' m r' (sym e) refl h.appends);
+  shown = subst (λ (z : Heading). AreTurnRows z h.turns (filter is_item h.rows)) (ap (λ (z : Rows). z.heading) e ∙ i.heading) h.shown;
+}
+
+stages_opened : (p q : Past) (s s' z z' : Stage) (w : Watch) (r r' : Rows) → z ≡ s → z' ≡ s' → HasOpened p q s s' w r r' → HasOpened p q z z' w r r'
+stages_opened p q s s' z z' w r r' e f h =
+    subst (λ (k : Stage). HasOpened p q k z' w r r') (sym e) (subst (λ (k : Stage). HasOpened p q s k w r r') (sym f) h)
+
+pub settled_alike : (s : Segment) (when : When) (a b : Past) (t t' u u' : Talk) (r r' l l' : Rows) (i : Alike u t) (k : Alike u' t') → l ≡ r → l' ≡ r'
+    → (took : Takes s when a b u u') → HasSettled s when a b u u' took l l' → HasSettled s when a b t t' (takes_alike s when a b u u' t t' i k took) r r'
+settled_alike s when a b t t' u u' r r' l l' i k e f took h = record {
+  quiet = λ o. appends_same [] l l' r r' (sym e) (sym f) (h.quiet (sym (opening_alike u' t' k) ∙ o));
+  opened = λ o. stages_opened took.a' took.b' u'.a.stage u'.b.stage t'.a.stage t'.b.stage t'.watch r r' (ap (λ (d : Direction). d.stage) k.a)
+      (ap (λ (d : Direction). d.stage) k.b)
+      (opened_alike took.a' took.b' u'.a.stage u'.b.stage u'.watch t'.watch r r' l l' k.matcher k.a_notes k.b_notes e f
+      (h.opened (sym (opening_alike u' t' k) ∙ o)));
+}
+
+-- The watch has other rows.
+pub with_watch : (t : Talk) (lost : Bool) (w : Watch) → w.matcher ≡ t.watch.matcher → w.a ≡ t.watch.a → w.b ≡ t.watch.b
+    → Alike t (record t { is_lost = lost; watch = w })
+with_watch t lost w e f g = record {
+  terms = refl;
+  ends = refl;
+  a = refl;
+  b = refl;
+  segments = refl;
+  closing = refl;
+  matcher = e;
+  a_notes = f;
+  b_notes = g;
+}
+
+-- Some rows were appended, or none.
+pub some_rows : (s : Segment) (when : When) (a b : Past) (t t' : Talk) (r r' : Rows) → IsTalk a b t → (is_in_opening t ≡ false → Shows s when t t' r r')
+    → (is_in_opening t ≡ true → (took : Takes s when a b t t') × HasSettled s when a b t t' took r r') → (rows : List Shown) × Appends rows r r'
+some_rows s when a b t t' r r' i after opening =
+    elim (cases_Bool (is_in_opening t)) [
+      | inl e ↦
+          let h = opening e in
+          elim (cases_Bool (is_in_opening t')) [
+            | inl f ↦ ([], h.1.quiet f)
+            | inr f ↦ let o = h.1.opened f in (o.rows, o.appends)
+          ]
+      | inr e ↦ let x = after e in let y = x.follow i.said.events i.said.items i.said.watched in (y.0 ++ x.others, y.2)
+    ]

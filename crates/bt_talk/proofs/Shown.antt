@@ -1,0 +1,231 @@
+-- Rows show further items.
+use Rattle.std.proofs.Common.{◌≡◌, ◌∙◌, ℕ, Bool, true, List, [], ◌∷◌, ◌++◌, append-nil, append_assoc, Option, Some, None, unwrap_or, ◌-◌, refl, sym, ap, subst, if◌then◌else◌}
+use Rattle.std.specs.List.{filter}
+use Rattle.std.proofs.lemmas.Grind.{flat_map-append}
+use Rattle.std.proofs.lemmas.List.Elements.{filter-append}
+use Rattle.bt_feed.specs.Pumps.{Took}
+use Rattle.bt_remarks.specs.declared.events.Remarks.{Remarks}
+use Rattle.bt_remarks.specs.declared.events.Side.{Side}
+use Rattle.bt_remarks.specs.declared.events.Side.TheVariants.{A, B}
+use Rattle.bt_remarks.specs.Matched.{IsMatched}
+use Rattle.bt_remarks.specs.Said.{Told, Message, is_same}
+use Rattle.bt_tcp.specs.declared.covered.Gap.{Gap}
+use Rattle.bt_told.specs.declared.report.Means.{Means}
+use Rattle.bt_told.specs.declared.rows.Deed.TheVariants as deed
+use Rattle.bt_wire.specs.declared.item.Item.{Item}
+use Rattle.bt_wire.specs.declared.item.Refusal.{Refusal}
+use Rattle.bt_talk.specs.declared.closing.When.{When}
+use Rattle.bt_talk.specs.declared.rows.Heading.{Heading}
+use Rattle.bt_talk.specs.declared.rows.Rows.{Rows}
+use Rattle.bt_talk.specs.declared.watch.Watch.{Watch}
+use Rattle.bt_talk.specs.Courses.{refusal_rows, close_rows, gap_rows, no_remarks}
+use Rattle.bt_talk.specs.Rows.{Shown, row_at, shown_text, shown_texts, is_item}
+use Rattle.bt_talk.specs.Shows.{Appends}
+use Rattle.bt_talk.specs.Shown.{IsItemRow, AreItemRows, IsShown, GoesShown, Turn, told_by, items_by, AreTurnRows, IsSeen, ShowsOthers}
+use Rattle.bt_talk.specs.Watching.{IsWatched, Watches, told_of, tell, said_by, with_items}
+use Rattle.bt_talk.proofs.Watching.{watched_more, watched_same, turned, nothing_watched}
+
+-- ---- rows are appended
+
+pub appends_none : (r : Rows) → Appends [] r r
+appends_none r = record { text = sym (append-nil r.text.items); heading = refl }
+
+pub appends_more : (xs ys : List Shown) (a b c : Rows) → Appends xs a b → Appends ys b c → Appends (xs ++ ys) a c
+appends_more xs ys a b c f g = record {
+  text = g.text ∙ ap (λ (h : Heading). b.text.items ++ shown_texts h.showing ys) f.heading
+      ∙ ap (λ (l : List ℕ). l ++ shown_texts a.heading.showing ys) f.text
+      ∙ append_assoc a.text.items (shown_texts a.heading.showing xs) (shown_texts a.heading.showing ys)
+      ∙ ap (λ (l : List ℕ). a.text.items ++ l) (sym (flat_map-append (shown_text a.heading.showing) xs ys));
+  heading = g.heading ∙ f.heading;
+}
+
+pub appends_same : (xs : List Shown) (a b a' b' : Rows) → a' ≡ a → b' ≡ b → Appends xs a b → Appends xs a' b'
+appends_same xs a b a' b' e f i = subst (λ (r : Rows). Appends xs r b') (sym e) (subst (λ (r : Rows). Appends xs a r) (sym f) i)
+
+-- ---- items
+
+pub rows_same : (h h' : Heading) (when when' : When) (side side' : Side) (known known' : Bool) (xs : List (ℕ × Item)) (events : List Told) (rows : List Shown)
+    → h' ≡ h → when' ≡ when → side' ≡ side → known' ≡ known → AreItemRows h' when' side' known' xs events rows → AreItemRows h when side known xs events rows
+rows_same h h' when when' side side' known known' xs events rows e f g k i =
+    subst (λ (x : Heading). AreItemRows x when side known xs events rows) e
+    (subst (λ (x : When). AreItemRows h' x side known xs events rows) f
+    (subst (λ (x : Side). AreItemRows h' when' x known xs events rows) g
+    (subst (λ (x : Bool). AreItemRows h' when' side' x xs events rows) k i)))
+
+-- Each item has its row.
+pub rows_more : (more : List (ℕ × Item)) (events : List Told) (w w' : Watch) → Took Watches w more w' → IsMatched events w.matcher
+    → (rows : List Shown) × AreItemRows w.rows.heading w.when w.side w.known more events rows × Appends rows w.rows w'.rows × (w'.when ≡ w.when)
+rows_more [] events w w' took i =
+    ([], refl, subst (λ (k : Watch). Appends [] w.rows k.rows) (sym took) (appends_none w.rows), ap (λ (k : Watch). k.when) took)
+rows_more (x ∷ xs) events w w' took i =
+    let next = took.0 in
+    let s = took.1 in
+    let e = told_of w.side w.known x in
+    let m = s.matched events i in
+    let r = row_at w.rows.heading w.when w.side s.said.offset (deed.Item s.said.words) s.remarks in
+    let rest = rows_more xs (e ∷ events) next w' took.2 m.1 in (
+      r ∷ rest.0,
+      (
+        record {
+          said = s.said;
+          is_said = s.is;
+          is = ap (λ (k : Remarks). row_at w.rows.heading w.when w.side s.said.offset (deed.Item s.said.words) k) m.0;
+        },
+        rows_same w.rows.heading next.rows.heading w.when next.when w.side next.side w.known next.known xs (e ∷ events) rest.0 s.rows.heading s.when s.side
+            s.known rest.1,
+      ),
+      appends_more (r ∷ []) rest.0 w.rows next.rows w'.rows s.rows rest.2,
+      rest.3 ∙ s.when,
+    )
+
+-- A side's turn came, and then its items.
+pub shown_by : (side : Side) (known : Bool) (more : List (ℕ × Item)) (w v w' : Watch) → v ≡ record w { side = side; known = known } → Took Watches v more w'
+    → GoesShown side more w w'
+shown_by side known more w v w' e took = λ events items i.
+    let to : Watch = record w { side = side; known = known } in
+    let t = subst (λ (k : Watch). Took Watches k more w') e took in
+    let rs = rows_more more events to w' t i.matched in (
+      rs.0,
+      record { known = known; watched = watched_more more events items to w' t (turned side known events items w i); shown = rs.1 },
+      rs.2,
+      rs.3,
+    )
+
+pub shown_nowhere : (side : Side) (w : Watch) → GoesShown side [] w w
+shown_nowhere side w = λ events items i. (
+  [],
+  record { known = true; watched = nothing_watched side events items w i; shown = refl },
+  appends_none w.rows,
+  refl,
+)
+
+pub no_rows : (h : Heading) (when : When) (side : Side) (known : Bool) (xs : List (ℕ × Item)) (events : List Told) (rows : List Shown) → xs ≡ []
+    → AreItemRows h when side known xs events rows → rows ≡ []
+no_rows h when side known xs events rows e i = subst (λ (l : List (ℕ × Item)). AreItemRows h when side known l events rows) e i
+
+pub nil_right : {X : Type 0} (xs ys : List X) → xs ++ ys ≡ [] → ys ≡ []
+nil_right [] ys e = e
+nil_right (x ∷ xs) ys e = absurd (cc)
+
+-- ---- the opening
+
+all_items : (h : Heading) (when : When) (side : Side) (known : Bool) (xs : List (ℕ × Item)) (events : List Told) (rows : List Shown)
+    → AreItemRows h when side known xs events rows → filter is_item rows ≡ rows
+all_items h when side known [] events rows i = subst (λ (l : List Shown). filter is_item l ≡ l) (sym i) refl
+all_items h when side known (x ∷ xs) events [] i = absurd i
+all_items h when side known (x ∷ xs) events (r ∷ rs) i =
+    let one : is_item r ≡ true = ap is_item i.0.is in
+    (rw one refl) ∙ ap (λ (l : List Shown). r ∷ l) (all_items h when side known xs (told_of side known x ∷ events) rs i.1)
+
+-- Further items were judged, of the side whose turn it is.
+pub seen_more : (since : Rows) (more : List (ℕ × Item)) (events : List Told) (items : Side → List (ℕ × Item)) (w w' : Watch) → Took Watches w more w'
+    → IsSeen since events items w → IsSeen since (tell w.side w.known more events) (with_items w.side more items) w'
+seen_more since more events items w w' took i =
+    let rs = rows_more more events w w' took i.watched.matched in
+    let mine = subst (λ (h : Heading). AreItemRows h w.when w.side w.known more events rs.0) i.appends.heading rs.1 in
+    record {
+      watched = watched_more more events items w w' took i.watched;
+      turns = record { side = w.side; known = w.known; when = w.when; items = more } ∷ i.turns;
+      told = ap (tell w.side w.known more) i.told;
+      items_are = λ s. ap (λ (l : List (ℕ × Item)). if is_same w.side s then l ++ more else l) (i.items_are s);
+      rows = i.rows ++ rs.0;
+      appends = appends_more i.rows rs.0 since w.rows w'.rows i.appends rs.2;
+      shown = (
+        filter is_item i.rows,
+        rs.0,
+        filter-append is_item i.rows rs.0
+            ∙ ap (λ (l : List Shown). filter is_item i.rows ++ l) (all_items since.heading w.when w.side w.known more events rs.0 mine),
+        i.shown,
+        subst (λ (l : List Told). AreItemRows since.heading w.when w.side w.known more l rs.0) i.told mine,
+      );
+    }
+
+-- Rows of something else were appended, or none.
+pub seen_others : (since : Rows) (others : List Shown) (events : List Told) (items : Side → List (ℕ × Item)) (w v : Watch) → v.matcher ≡ w.matcher
+    → v.a ≡ w.a → v.b ≡ w.b → filter is_item others ≡ [] → Appends others w.rows v.rows → IsSeen since events items w → IsSeen since events items v
+seen_others since others events items w v e f g none appends i = record {
+  watched = watched_same events items w v e f g i.watched;
+  turns = i.turns;
+  told = i.told;
+  items_are = i.items_are;
+  rows = i.rows ++ others;
+  appends = appends_more i.rows others since w.rows v.rows i.appends appends;
+  shown = subst (λ (l : List Shown). AreTurnRows since.heading i.turns l)
+      (sym (filter-append is_item i.rows others ∙ ap (λ (l : List Shown). filter is_item i.rows ++ l) none ∙ append-nil (filter is_item i.rows))) i.shown;
+}
+
+pub seen_turned : (since : Rows) (side : Side) (known : Bool) (when : When) (events : List Told) (items : Side → List (ℕ × Item)) (w v : Watch)
+    → v ≡ record w { side = side; known = known; when = when } → IsSeen since events items w → IsSeen since events items v
+seen_turned since side known when events items w v e i =
+    let to : Watch = record w { side = side; known = known; when = when } in
+    subst (λ (k : Watch). IsSeen since events items k) (sym e) (seen_others since [] events items w to refl refl refl refl (appends_none w.rows) i)
+
+both_none : (items : Side → List (ℕ × Item)) → items A ≡ [] → items B ≡ [] → (s : Side) → items s ≡ []
+both_none items e f A = e
+both_none items e f B = f
+
+pub seen_none : (events : List Told) (items : Side → List (ℕ × Item)) (w : Watch) → events ≡ [] → items A ≡ [] → items B ≡ [] → IsWatched events items w
+    → IsSeen w.rows events items w
+seen_none events items w e f g i = record {
+  watched = i;
+  turns = [];
+  told = e;
+  items_are = both_none items f g;
+  rows = [];
+  appends = appends_none w.rows;
+  shown = refl;
+}
+
+not_nil : {X : Type 0} (xs : List X) (x : X) → xs ++ x ∷ [] ≡ [] → ⊥
+not_nil [] x e = absurd (cc)
+not_nil (y ∷ ys) x e = absurd (cc)
+
+one_said : (xs ys : List (ℕ × Message)) (x : ℕ × Message) (side : Side) → (if is_same side A then xs ++ x ∷ [] else xs) ≡ []
+    → (if is_same side B then ys ++ x ∷ [] else ys) ≡ [] → ⊥
+one_said xs ys x A e f = not_nil xs x e
+one_said xs ys x B e f = not_nil ys x f
+
+-- Without an item there is no event.
+pub no_events : (events : List Told) → said_by A events ≡ [] → said_by B events ≡ [] → events ≡ []
+no_events [] e f = refl
+no_events (x ∷ xs) e f = absurd (one_said (said_by A xs) (said_by B xs) (x.mark, x.message) x.side e f)
+
+-- ---- rows of other things
+
+others_by : (h : Heading) (when : When) (side : Side) (before now : Option Refusal) → filter is_item (refusal_rows h when side before now) ≡ []
+others_by h when side None None = refl
+others_by h when side None (Some r) = refl
+others_by h when side (Some r) now = refl
+
+closes_by : (h : Heading) (when : When) (side : Side) (offset : ℕ) (closed : Option Means) → filter is_item (close_rows h when side offset closed) ≡ []
+closes_by h when side offset None = refl
+closes_by h when side offset (Some by) = refl
+
+pub shows_none : (w : Watch) → ShowsOthers w w
+shows_none w = record { others = []; no_item = refl; appends = appends_none w.rows }
+
+pub shows_others : (w w' : Watch) (h : Heading) (when : When) (side : Side) (before now : Option Refusal) (offset : ℕ) (closed : Option Means)
+    → Appends (refusal_rows h when side before now ++ close_rows h when side offset closed) w.rows w'.rows → ShowsOthers w w'
+shows_others w w' h when side before now offset closed i = record {
+  others = refusal_rows h when side before now ++ close_rows h when side offset closed;
+  no_item = filter-append is_item (refusal_rows h when side before now) (close_rows h when side offset closed)
+      ∙ ap (λ (l : List Shown). l ++ filter is_item (close_rows h when side offset closed)) (others_by h when side before now)
+      ∙ closes_by h when side offset closed;
+  appends = i;
+}
+
+pub gaps_none : (h : Heading) (when : Option When) (side : Side) (start : ℕ) (gap : Option Gap) → filter is_item (gap_rows h when side start gap) ≡ []
+gaps_none h when side start None = refl
+gaps_none h when side start (Some gap) = refl
+
+pub gap_shown : (r r' : Rows) (grown : Option When) (side : Side) (start : ℕ) (first : Option Gap) (gap : Gap) (when : When) (offset : ℕ) → first ≡ Some gap
+    → when ≡ unwrap_or grown (record { nanos = r.heading.start; packet = 0 }) → offset ≡ gap.place - start
+    → Appends (row_at r.heading when side offset (deed.Gap gap.length) no_remarks ∷ []) r r' → Appends (gap_rows r.heading grown side start first) r r'
+gap_shown r r' grown side start first gap when offset e f g i =
+    subst (λ (o : Option Gap). Appends (gap_rows r.heading grown side start o) r r') (sym e)
+    (subst (λ (w : When). Appends (row_at r.heading w side (gap.place - start) (deed.Gap gap.length) no_remarks ∷ []) r r') f
+    (subst (λ (n : ℕ). Appends (row_at r.heading when side n (deed.Gap gap.length) no_remarks ∷ []) r r') g i))
+
+pub gap_unshown : (r : Rows) (grown : Option When) (side : Side) (start : ℕ) (first : Option Gap) → first ≡ None
+    → Appends (gap_rows r.heading grown side start first) r r
+gap_unshown r grown side start first e = subst (λ (o : Option Gap). Appends (gap_rows r.heading grown side start o) r r) (sym e) (appends_none r)

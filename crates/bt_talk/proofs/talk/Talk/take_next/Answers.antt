@@ -1,0 +1,112 @@
+use Rattle.std.proofs.Common.{◌≡◌, ◌∙◌, ℕ, ◌+◌, ◌-◌, ◌^◌, ◌++◌, [], min, length, Option, true, sym, ap, subst, refl}
+use Rattle.std.specs.Prelude.{◌↔◌}
+use Rattle.bt_remarks.specs.declared.events.Side.{Side}
+use Rattle.bt_remarks.specs.declared.events.Side.TheVariants.{A, B}
+use Rattle.bt_talk.specs.declared.closing.Closed.{Closed}
+use Rattle.bt_talk.specs.declared.closing.Closing.{Closing}
+use Rattle.bt_talk.specs.declared.ends.Ends.{Ends}
+use Rattle.bt_talk.specs.declared.talk.Talk.{Talk}
+use Rattle.bt_talk.specs.declared.watch.Watch.{Watch}
+use Rattle.bt_talk.specs.Cuts.{cut_after}
+use Rattle.bt_talk.specs.Talks.{IsTalk, is_in_opening, flow_of, cut_of, of_side}
+use Rattle.bt_talk.proofs.Closes.{closes_same}
+use Rattle.bt_talk.proofs.Lent.{Alike, talk_alike, opening_alike, opened_after, after_steps}
+use Rattle.bt_talk.proofs.Shown.{appends_more, appends_same}
+use Rattle.bt_talk.proofs.Talks.{end_same, flow_same, sent_same, both_same}
+use Rattle.bt_talk.proofs.Watching.{watched_same}
+use Rattle.bt_talk.proofs.talk.Talk.take_next.Goals as goal
+
+pub returns-clause-taken : goal.returns-clause-taken
+returns-clause-taken c = λ a b t.
+    let self = c.args.self.now in
+    let given = c.exchange.new.self in
+    let shown = c.show.new.self in
+    let x = c.in_ok-exchange.ensures.taken a b t in
+    let al : Alike given shown = after_steps given c.go_on-closed.new.self c.keep_mark.new.self shown c.go_on-closed.ensures.rest c.keep_mark.ensures c.show.ensures.rest in
+    let marked = talk_alike x.a' x.b' given shown al x.is in
+    let cut = c.cut.ensures.kept x.a' x.b' marked in
+    let sends = subst (λ (e : Ends). (x.side ≡ A) ↔ (c.args.segment.now.source ≡ e.a)) (sym (c.cut.ensures.ends ∙ al.ends ∙ c.in_ok-exchange.ensures.ends)) x.is_side in
+    let n = c.note.ensures.closes x.a' x.b' x.side cut sends in
+    let noted = subst (λ (k : Talk). IsTalk x.a' x.b' k) (sym c.note.ensures.rest)
+    (record { a_is = cut.a_is; b_is = cut.b_is; stages = cut.stages; said = cut.said }) in
+    let s = c.in_ok-settle.ensures.settles x.a' x.b' noted in
+    let was = ap is_in_opening c.note.ensures.rest ∙ c.cut.ensures.opening ∙ opening_alike given shown al ∙ c.in_ok-exchange.ensures.opening in
+    let segments = ap (λ (k : Talk). k.segments) c.note.ensures.rest ∙ c.cut.ensures.segments ∙ al.segments ∙ c.in_ok-exchange.ensures.segments in
+    let flows : (side : Side) → flow_of side c.cut.new.self ≡ flow_of side c.settle.new.self =
+    λ side. sym (c.in_ok-settle.ensures.flows side ∙ flow_same side c.cut.new.self c.note.new.self
+    (ap (λ (k : Talk). k.a) c.note.ensures.rest) (ap (λ (k : Talk). k.b) c.note.ensures.rest)) in
+    let kept : (side : Side) → flow_of side given ≡ flow_of side c.cut.new.self =
+    λ side. sym (c.cut.ensures.flows side ∙ flow_same side given shown al.a al.b) in
+    let closing = al.closing ∙ c.in_ok-exchange.ensures.closing in
+    let cuts : (side : Side) → cut_of side shown ≡ cut_of side self =
+    λ side. both_same side given shown al.a al.b ∙ c.in_ok-exchange.ensures.cuts side in (
+      record {
+        side = x.side;
+        is_side = x.is_side;
+        a' = x.a';
+        b' = x.b';
+        is = s.is;
+        sent = sent_same c.args.segment.now (is_in_opening self) (of_side x.side a b) _ _ (of_side x.side x.a' x.b') _ _ refl (kept x.side ∙ flows x.side) x.sent;
+        acked = x.acked;
+        opening = λ o. end_same x.a' x.b' _ _ _ _ (ap (λ (n : ℕ). min (n + 1) (2 ^ 32 - 1)) segments) refl (s.opening (was ∙ o));
+        after = λ o. c.in_ok-settle.ensures.after (was ∙ o);
+        closes = closes_same c.args.segment.now c.args.when x.side x.a' x.b' _ _ _ _ _ _ _ _ (flows A) (flows B) (c.cut.ensures.closing ∙ closing)
+            (sym c.in_ok-settle.ensures.closing) n;
+        cut = λ side.
+            c.in_ok-settle.ensures.cuts x.a' x.b' side noted
+            ∙ both_same side c.cut.new.self c.note.new.self (ap (λ (k : Talk). k.a) c.note.ensures.rest) (ap (λ (k : Talk). k.b) c.note.ensures.rest)
+            ∙ c.cut.ensures.cuts x.a' x.b' side marked
+            ∙ ap (λ (o : Option Closed). cut_after c.args.segment.now.flags o (length (of_side side x.a' x.b').out) (cut_of side shown))
+            (ap (λ (k : Closing). k.closed) closing)
+            ∙ ap (λ (o : Option ℕ). cut_after c.args.segment.now.flags self.closing.closed (length (of_side side x.a' x.b').out) o) (cuts side);
+      },
+      λ o.
+          let silent = c.in_ok-exchange.ensures.silent a b t o in
+          let in_opening = ap is_in_opening (c.keep_mark.ensures) ∙ ap is_in_opening c.go_on-closed.ensures.rest ∙ c.in_ok-exchange.ensures.opening ∙ o in
+          let watch : c.note.new.self.watch ≡ given.watch =
+          ap (λ (k : Talk). k.watch) c.note.ensures.rest ∙ c.cut.ensures.watch ∙ ap (λ (k : Talk). k.watch) (c.show.ensures.opening in_opening)
+          ∙ ap (λ (k : Talk). k.watch) c.keep_mark.ensures ∙ ap (λ (k : Talk). k.watch) c.go_on-closed.ensures.rest in
+          let rows = ap (λ (w : Watch). w.rows) watch in
+          let op = c.in_ok-settle.ensures.opened x.a' x.b' noted (was ∙ o) in
+          record {
+            quiet = λ q. appends_more [] [] self.watch.rows given.watch.rows c.settle.new.self.watch.rows silent
+                (appends_same [] c.note.new.self.watch.rows c.settle.new.self.watch.rows given.watch.rows c.settle.new.self.watch.rows (sym rows) refl (op.quiet q));
+            opened = λ n. opened_after x.a' x.b' c.settle.new.self.a.stage c.settle.new.self.b.stage c.settle.new.self.watch self.watch.rows given.watch.rows
+                c.note.new.self.watch.rows c.settle.new.self.watch.rows silent rows (op.opened n);
+          },
+    )
+
+pub returns-clause-order : goal.returns-clause-order
+returns-clause-order c = λ a b t o.
+    let self = c.args.self.now in
+    let given = c.exchange.new.self in
+    let marked = c.keep_mark.new.self in
+    let shown = c.show.new.self in
+    let settled = c.settle.new.self in
+    let x = c.in_ok-exchange.ensures.order a b t in
+    let al : Alike given shown = after_steps given c.go_on-closed.new.self marked shown c.go_on-closed.ensures.rest c.keep_mark.ensures c.show.ensures.rest in
+    let was = ap is_in_opening c.note.ensures.rest ∙ c.cut.ensures.opening ∙ opening_alike given shown al ∙ c.in_ok-exchange.ensures.opening in
+    let watch : settled.watch ≡ shown.watch =
+    c.in_ok-settle.ensures.watch (was ∙ o) ∙ ap (λ (k : Talk). k.watch) c.note.ensures.rest ∙ c.cut.ensures.watch in
+    let before : given.watch ≡ marked.watch = sym (ap (λ (k : Talk). k.watch) c.keep_mark.ensures ∙ ap (λ (k : Talk). k.watch) c.go_on-closed.ensures.rest) in
+    let others = c.in_ok-show.ensures.others in
+    record {
+      side = x.side;
+      is_side = x.is_side;
+      items = x.items;
+      others = others.others;
+      no_item = others.no_item;
+      follow = λ events items i.
+          let g = x.follow events items i in (
+            g.0,
+            record {
+              known = g.1.known;
+              watched = watched_same _ _ given.watch settled.watch (ap (λ (w : Watch). w.matcher) watch ∙ al.matcher)
+                  (ap (λ (w : Watch). w.a) watch ∙ al.a_notes) (ap (λ (w : Watch). w.b) watch ∙ al.b_notes) g.1.watched;
+              shown = g.1.shown;
+            },
+            appends_more g.0 others.others self.watch.rows given.watch.rows settled.watch.rows g.2
+                (appends_same others.others marked.watch.rows shown.watch.rows given.watch.rows settled.watch.rows (ap (λ (w : Watch). w.rows) before)
+                (ap (λ (w : Watch). w.rows) watch) others.appends),
+          );
+    }

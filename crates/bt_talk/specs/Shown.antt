@@ -1,0 +1,83 @@
+-- The rows that show the items of both sides, as they come.
+use Rattle.std.specs.Prelude.{◌≡◌, ℕ, Bool, List, [], ◌∷◌, ◌++◌, if◌then◌else◌}
+use Rattle.std.specs.List.{filter}
+use Rattle.bt_remarks.specs.declared.events.Side.{Side}
+use Rattle.bt_remarks.specs.Remarked.{remarks_on}
+use Rattle.bt_remarks.specs.Said.{Told, is_same}
+use Rattle.bt_told.specs.declared.rows.Deed.TheVariants as deed
+use Rattle.bt_told.specs.declared.said.Said.{Said}
+use Rattle.bt_wire.specs.declared.item.Item.{Item}
+use Rattle.bt_talk.specs.declared.closing.When.{When}
+use Rattle.bt_talk.specs.declared.rows.Heading.{Heading}
+use Rattle.bt_talk.specs.declared.rows.Rows.{Rows}
+use Rattle.bt_talk.specs.declared.watch.Watch.{Watch}
+use Rattle.bt_talk.specs.Rows.{Shown, row_at, is_item}
+use Rattle.bt_talk.specs.Shows.{Appends}
+use Rattle.bt_talk.specs.Watching.{IsSaid, IsWatched, told_of, tell, with_items}
+
+-- The row shows an item of a side, which came with this packet after these events: its offset, its words, and the remarks on it.
+pub record IsItemRow (h : Heading) (when : When) (side : Side) (known : Bool) (x : ℕ × Item) (events : List Told) (r : Shown) : Type 0 where
+  pub said : Said
+  pub is_said : IsSaid x said
+  pub is : r ≡ row_at h when side said.offset (deed.Item said.words) (remarks_on (told_of side known x) events)
+
+-- These rows show these items of a side, one for each, in order.
+abbrev pub AreItemRows : Heading → When → Side → Bool → List (ℕ × Item) → List Told → List Shown → Type 0
+AreItemRows h when side known [] events rows = rows ≡ []
+AreItemRows h when side known (x ∷ xs) events [] = ⊥
+AreItemRows h when side known (x ∷ xs) events (r ∷ rs) =
+    IsItemRow h when side known x events r × AreItemRows h when side known xs (told_of side known x ∷ events) rs
+
+-- Further items of a side came with this packet. They follow the events that came before, and these rows show them.
+pub record IsShown (h : Heading) (when : When) (side : Side) (more : List (ℕ × Item)) (events : List Told) (items : Side → List (ℕ × Item)) (w' : Watch)
+    (rows : List Shown) : Type 0 where
+  pub known : Bool
+  pub watched : IsWatched (tell side known more events) (with_items side more items) w'
+  pub shown : AreItemRows h when side known more events rows
+
+-- Further items of a side came, and their rows.
+abbrev pub GoesShown : Side → List (ℕ × Item) → Watch → Watch → Type 0
+GoesShown side more w w' = (events : List Told) (items : Side → List (ℕ × Item)) → IsWatched events items w
+    → (rows : List Shown) × IsShown w.rows.heading w.when side more events items w' rows × Appends rows w.rows w'.rows × (w'.when ≡ w.when)
+
+-- ---- the opening, which is judged at its end
+
+-- items of a side that came with a packet
+pub record Turn : Type 0 where
+  pub side : Side
+  pub known : Bool
+  pub when : When
+  pub items : List (ℕ × Item)
+
+-- the events of turns; of both the newest stands first
+abbrev pub told_by : List Turn → List Told
+told_by [] = []
+told_by (t ∷ earlier) = tell t.side t.known t.items (told_by earlier)
+
+-- the items of a side in turns
+abbrev pub items_by : Side → List Turn → List (ℕ × Item)
+items_by side [] = []
+items_by side (t ∷ earlier) = if is_same t.side side then items_by side earlier ++ t.items else items_by side earlier
+
+-- These rows show the items of turns, one for each, in order.
+abbrev pub AreTurnRows : Heading → List Turn → List Shown → Type 0
+AreTurnRows h [] rows = rows ≡ []
+AreTurnRows h (t ∷ earlier) rows =
+    (before : List Shown) × (mine : List Shown) × (rows ≡ before ++ mine) × AreTurnRows h earlier before
+    × AreItemRows h t.when t.side t.known t.items (told_by earlier) mine
+
+-- These are the events, and the items of both sides. Since there were the rows r, rows show each item, and some rows show none.
+pub record IsSeen (r : Rows) (events : List Told) (items : Side → List (ℕ × Item)) (w : Watch) : Type 0 where
+  pub watched : IsWatched events items w
+  pub turns : List Turn
+  pub told : events ≡ told_by turns
+  pub items_are : (side : Side) → items side ≡ items_by side turns
+  pub rows : List Shown
+  pub appends : Appends rows r w.rows
+  pub shown : AreTurnRows r.heading turns (filter is_item rows)
+
+-- Rows that show no item were appended.
+pub record ShowsOthers (w w' : Watch) : Type 0 where
+  pub others : List Shown
+  pub no_item : filter is_item others ≡ []
+  pub appends : Appends others w.rows w'.rows
