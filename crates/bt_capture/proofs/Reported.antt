@@ -24,7 +24,7 @@ use Rattle.bt_capture.specs.Tellings.{Tells}
 use Rattle.bt_capture.specs.declared.connections.Run.{Run}
 use Rattle.bt_capture.specs.declared.telling.Teller.{Teller}
 use Rattle.bt_capture.specs.declared.pair.Pair.{Pair}
-use Rattle.bt_capture.proofs.Entries.{lookup_back, same_self}
+use Rattle.bt_capture.proofs.Entries.{lookup_back, same_is, same_self}
 use Rattle.bt_capture.proofs.Shares.{own_of, others_of, over, moved, took, own_none, ready}
 
 pub reports_more : (fs : List Finished) (f : Finished) → reports_of (fs ++ f ∷ []) ≡ reports_of fs ++ report_in f.fate
@@ -303,6 +303,23 @@ holds_same start now came x p c es old new terms begin lost teller i = record {
   absent = i.absent;
   others = subst (λ y. (k : Pair) → same_pair k p ≡ false → IsShare y came i.fs k (lookup (same_pair k) es)) (sym terms) i.others;
 }
+
+-- The connection is given up.
+pub holds_stop : (start now : TargetSeen) (came : List Arrival) (x : Arrival) (p : Pair) (c : Held) (es : List (Pair × Held)) (run : Run)
+    → Holds start now came x p c es run → Stops start now came run
+holds_stop start now came x p c es run i = record {
+  fs = i.fs;
+  known = i.known;
+  shared = λ k.
+      elim (cases_Bool (same_pair k p)) [
+        | inl t ↦ subst (λ q. (rest : List Arrival) × IsShared q came i.fs rest) (sym (same_is k p t)) (i.taken, i.share)
+        | inr e ↦ let s = i.others k e in (s.taken, s.share)
+      ];
+}
+
+pub follows_table : (start now : TargetSeen) (came : List Arrival) (p : Pair) (c : Held) (es gs : List (Pair × Held)) (run : Run) → gs ≡ es
+    → Follows start now came ((p, c) ∷ es) run → Follows start now came ((p, c) ∷ gs) run
+follows_table start now came p c es gs run e i = subst (λ l. Follows start now came ((p, c) ∷ l) run) (sym e) i
 
 -- Rows were told.
 pub holds_told : (start now : TargetSeen) (came : List Arrival) (x : Arrival) (p : Pair) (c : Held) (es : List (Pair × Held)) (old new : Run) → new.terms ≡ old.terms

@@ -11,6 +11,7 @@ ghost use Rattle.bt_utp.specs.States.{AreCounted};
 ghost use Rattle.bt_packet.specs.declared.utp.Utp.{Utp};
 ghost use Rattle.bt_capture.specs.FlowTexts.{datagrams, datagrams_in, flow_texts};
 ghost use Rattle.bt_capture.specs.Connections.{IsOpen};
+ghost use Rattle.bt_talk.specs.Rooms.{rows_in};
 ghost use Rattle.bt_capture.specs.Following.{Follows, Goes, Finds, TellsOn};
 ghost use Rattle.bt_capture.specs.Sights.{seen};
 ghost use Rattle.bt_capture.specs.Tables.{Held, same_pair, IsApart};
@@ -96,12 +97,12 @@ impl Run {
             return Ok(());
         }
         let from = self.start.unwrap_or(0);
-        let number = connection.number;
-        self.room.turn_to(self.teller.showing(), number, from);
+        self.room
+            .turn_to(self.teller.showing(), connection.number, from);
         match connection.talk.end_opening(&mut self.room) {
             Ok(()) => self
                 .teller
-                .report(&connection.talk, number, from, &mut self.room),
+                .report(&connection.talk, connection.number, from, &mut self.room),
             Err(_) => {
                 self.lost = self.lost.saturating_add(1);
                 Ok(())
@@ -248,6 +249,7 @@ impl Run {
             → IsOpen terms (taken ++ a ∷ []) [] connection.new }
         ensures tells { (terms : Terms) (taken : List Arrival) → IsOpen terms taken (arrived segment.now when ∷ []) connection.old
             → TellsOn self.old.teller self.new.teller }
+        ensures text { OnOk result (self.new.teller.text.items ≡ self.old.teller.text.items ++ (rows_in self.new.room).text.items) }
         ensures form { self.new.teller.form ≡ self.old.teller.form }
         ensures rest { self.new ≡ record self.old { teller = self.new.teller; room = self.new.room } }
     {

@@ -8,6 +8,7 @@ ghost use Rattle.bt_talk.specs.Talks.{IsTalk};
 ghost use Rattle.bt_capture.specs.Forms.{showing_by};
 ghost use Rattle.bt_capture.specs.Reportings.{IsReportOf};
 ghost use Rattle.bt_capture.specs.Shown.{HasRows};
+ghost use Rattle.bt_talk.specs.Rooms.{rows_in};
 ghost use Rattle.bt_capture.specs.Tellings.{is_told_with, is_refused_with, text_by};
 
 use crate::ending::Form;
@@ -124,6 +125,7 @@ impl Teller {
     pub fn show(&mut self, room: &Room) -> Result<(), AllocError>
         ensures told { HasRows (showing_by self.old.form) room.now → (start now : TargetSeen) (reports : List Report) → Tells start now self.old reports
             → Tells start now self.new reports }
+        ensures text { OnOk result (self.new.text.items ≡ self.old.text.items ++ (rows_in room.now).text.items) }
         ensures form { self.new.form ≡ self.old.form }
     {
         self.text.extend_from_slice(room.rows())?;
@@ -171,7 +173,8 @@ impl Teller {
     {
         talk.show_gaps(room)?;
         self.show(room)?;
-        self.report_on(talk, number, from)
+        self.report_on(talk, number, from)?;
+        Ok(())
     }
 
     /// Tells whether the text is long enough to be written.

@@ -46,6 +46,7 @@ fn run(
             pieces: Some(4),
             torrent: None,
         },
+        show: false,
         json: false,
     };
     let end = run_capture(rt.alloc(), &mut reader, &mut writer, &job);

@@ -56,6 +56,7 @@ pub fn capture_in(options: &ArgMatches<'_>) -> Result<CaptureJob, &'static str>
                 pieces,
                 torrent: None,
             },
+            show: false,
             json: is_given(options, "json"),
         }),
         None => Err("'--pieces' takes a number from 0 to 4294967295"),

@@ -231,7 +231,8 @@ impl Talk {
         ensures closes { result ≡ closes_by segment.now.flags (course_of side self.old.courses).is_closed }
         ensures rest { self.new ≡ record self.old { courses = self.new.courses } }
     {
-        let begins = self.courses.of(side).grown.is_none() && !segment.payload.is_empty();
+        let has_data = !segment.flags.rst && !segment.payload.is_empty();
+        let begins = has_data && self.courses.of(side).grown.is_none();
         let grows = begins || self.length(side) > length;
         self.courses
             .take(side, segment.flags, grows, self.watch.when)

@@ -5,4 +5,4 @@ use Rattle.bt_capture.proofs.telling.Teller.show.Goals as goal
 pub returns-clause-told : goal.returns-clause-told
 returns-clause-told c h start now reports t =
     let old = c.args.self.now in
-    shown_more start now old _ reports h.rows (c.in_ok-extend_from_slice.ensures.ok ∙ ap (λ (l : List ℕ). old.text.items ++ l) (c.rows.ensures ∙ h.text)) refl refl refl t
+    shown_more start now old _ reports h.rows (c.in_ok-extend_from_slice.ensures.items ∙ ap (λ (l : List ℕ). old.text.items ++ l) (c.rows.ensures ∙ h.text)) refl refl refl t
