@@ -1,10 +1,10 @@
 -- Entries of which no two have the same key.
 use Rattle.std.proofs.Common.{rules, ◌≡◌, ◌∙◌, ℕ, ◌-◌, ◌+◌, ◌^◌, ◌<◌, ◌≤◌, Bool, true, false, List, [], ◌∷◌, ◌++◌, length, take, Option, Some, None, refl, sym, ap, subst, cond, arith, inl, inr, zero, suc}
 use Rattle.std.specs.Prelude.{slice_get}
-use Rattle.std.specs.List.{IsDistinct, AllByRecursion, cons_option}
+use Rattle.std.specs.List.{IsDistinct, AllByRecursion}
 use Rattle.std.proofs.lemmas.Option.{slice_get-get_or}
 use Rattle.std.specs.Map.{lookup, lookup_entry, remove_entry, keys_of}
-use Rattle.std.specs.Option.{option_map_or, option_to_list}
+use Rattle.std.specs.Option.{option_map_or}
 use Rattle.std.proofs.lemmas.Bool.{cases_Bool}
 use Rattle.std.proofs.lemmas.Map.Keys.{IsDistinct-head, IsDistinct-tail, IsDistinct-cons}
 use Rattle.lru.specs.LruCache.{LruCache, last_entry, put_entries}
@@ -112,24 +112,6 @@ module _ {X : Type 0} where
   apart_front [] fs i = apart_none
   apart_front (e ∷ es) fs i = IsDistinct-cons same_pair e.0 (keys_of es) (all_front _ es fs (IsDistinct-head same_pair e.0 (keys_of (es ++ fs)) i))
       (apart_front es fs (apart_rest e (es ++ fs) i))
-
-  -- the last of the others is taken out
-  pub parted : (o : Option (Pair × X)) (es : List (Pair × X)) (e : Pair × X) → Some e ≡ last_entry es
-      → cons_option o es ≡ cons_option o (take (length es - 1) es) ++ e ∷ []
-  parted None es e h = front_and_last es e h
-  parted (Some x) es e h = ap (λ l. x ∷ l) (front_and_last es e h)
-
-  pub apart_most : (o : Option (Pair × X)) (es : List (Pair × X)) (e : Pair × X) → Some e ≡ last_entry es → IsApart (cons_option o es)
-      → IsApart (cons_option o (take (length es - 1) es))
-  apart_most o es e h i = apart_front (cons_option o (take (length es - 1) es)) (e ∷ []) (subst (λ l. IsApart l) (parted o es e h) i)
-
-  -- there are no others
-  pub lone : (o : Option (Pair × X)) (es : List (Pair × X)) → None ≡ last_entry es → cons_option o es ≡ option_to_list o
-  lone None es h = none_last es h
-  lone (Some x) es h = ap (λ l. x ∷ l) (none_last es h)
-
-  pub apart_lone : (es : List (Pair × X)) → None ≡ last_entry es → IsApart (take (length es - 1) es)
-  apart_lone es h = let Q : List (Pair × X) → Type 0 = λ l. IsApart (take (length l - 1) l) in subst Q (sym (none_last es h)) apart_none
 
   pub no_more : (es : List (Pair × X)) → None ≡ last_entry es → take (length es - 1) es ≡ []
   no_more es h = let Q : List (Pair × X) → Type 0 = λ l. take (length l - 1) l ≡ [] in subst Q (sym (none_last es h)) refl

@@ -8,6 +8,8 @@ pub mod FlowLines
 pub mod Titles
 pub mod Taking
 pub mod Entries
+pub mod Parts
+pub mod Bounds
 pub mod Shares
 pub mod Reported
 pub mod Outcomes

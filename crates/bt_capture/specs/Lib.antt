@@ -14,3 +14,4 @@ pub mod Reportings
 pub mod Following
 pub mod Runs
 pub mod Tables
+pub mod Bounds

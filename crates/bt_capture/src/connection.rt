@@ -1,6 +1,6 @@
 //! A connection of a capture, with its number.
 ghost use Rattle.bt_talk.specs.declared.terms.Terms.{Terms};
-ghost use Rattle.std.specs.Prelude.{◌≡◌, ◌++◌, ◌∷◌, List, [], Option, ℕ};
+ghost use Rattle.std.specs.Prelude.{◌≡◌, ◌<◌, ◌^◌, ◌++◌, ◌∷◌, List, [], Option, ℕ};
 ghost use Rattle.bt_talk.specs.declared.closing.When.{When};
 ghost use Rattle.bt_capture.specs.Arrivals.{Arrival, arrived, has_data};
 ghost use Rattle.bt_talk.specs.Rooms.{rows_in, showing_in};
@@ -8,17 +8,12 @@ ghost use Rattle.bt_capture.specs.Connections.{IsOpen};
 ghost use Rattle.bt_capture.specs.Shown.{HasRows};
 
 use bt_packet::Segment;
-use bt_talk::{Room, Side, Talk, Terms, When};
+use bt_talk::{Room, Talk, Terms, When};
 use std::alloc::Global;
+use std::mem::size_of;
 
-/// How many bytes of memory a connection takes of which no byte was captured.
-const LEAST: u64 = 3_072;
-
-/// How many bytes of a side are kept for comparison with what comes again: the last ones.
-const HISTORY: u64 = 16_384;
-
-/// How many more the parsers of both sides take, besides a long message that isn't whole.
-const PARSERS: u64 = 24_576;
+/// How many bytes of memory a connection takes besides its fields and what it owns: its places in the table.
+const PLACES: usize = 256;
 
 /// A connection, with its number among those of the capture.
 #[derive(Drop)]
@@ -27,6 +22,16 @@ pub struct Connection {
     pub talk: Talk,
     /// Whether a byte of a stream was captured.
     pub has_payload: bool,
+    /// About how many bytes of memory it takes.
+    pub size: u32,
+}
+
+/// Returns about how many bytes of memory a connection takes.
+fn size_with(talk: &Talk) -> u32 {
+    let size = size_of::<Connection>()
+        .saturating_add(PLACES)
+        .saturating_add(talk.size());
+    size.min(u32::MAX as usize) as u32
 }
 
 /// Tells whether a segment has a byte of its sender's stream.
@@ -45,6 +50,7 @@ impl Connection {
             number,
             talk: Talk::new(alloc, first, terms),
             has_payload: false,
+            size: 0,
         }
     }
 
@@ -59,21 +65,14 @@ impl Connection {
     {
         self.has_payload |= has_payload(segment);
         let _taken = self.talk.take(segment, when, room);
+        self.size = size_with(&self.talk);
     }
 
-    /// Returns about how many bytes of memory it takes, besides a long message that isn't whole.
-    ///
-    /// In the opening its bytes are kept twice: as they are, and in a parser.
-    pub fn size(&self) -> u64 {
-        let a = self.talk.length(Side::A);
-        let b = self.talk.length(Side::B);
-        let kept = if self.talk.is_opening() {
-            a.saturating_add(b).saturating_mul(2)
-        } else {
-            PARSERS
-        };
-        kept.saturating_add(LEAST)
-            .saturating_add(a.min(HISTORY))
-            .saturating_add(b.min(HISTORY))
+    /// Returns about how many bytes of memory it took after its last segment.
+    pub fn size(&self) -> u64
+        ensures size { result ≡ self.now.size }
+        ensures range { result < 2 ^ 32 }
+    {
+        u64::from(self.size)
     }
 }

@@ -1,5 +1,5 @@
 //! The connections of a capture, and the reports of those that are over.
-ghost use Rattle.std.specs.Prelude.{◌≡◌, ◌∷◌, ◌++◌, [], ◌+◌, ◌-◌, ◌^◌, ◌<◌, min, ℕ, List, length, None, IfOk, OnOk};
+ghost use Rattle.std.specs.Prelude.{◌≡◌, ◌∷◌, ◌++◌, [], ◌+◌, ◌-◌, ◌^◌, ◌<◌, ◌≤◌, min, ℕ, List, length, false, None, IfOk, OnOk};
 ghost use Rattle.std.specs.Map.{lookup};
 ghost use Rattle.std.specs.List.Sorted.{IsPermutation};
 ghost use Rattle.bt_io.specs.Seen.{TargetSeen};
@@ -12,6 +12,7 @@ ghost use Rattle.bt_packet.specs.declared.utp.Utp.{Utp};
 ghost use Rattle.bt_capture.specs.FlowTexts.{datagrams, datagrams_in, flow_texts};
 ghost use Rattle.bt_capture.specs.Connections.{IsOpen};
 ghost use Rattle.bt_talk.specs.Rooms.{rows_in};
+ghost use Rattle.bt_capture.specs.Bounds.{IsBounded, IsCounted};
 ghost use Rattle.bt_capture.specs.Following.{Follows, Goes, Finds, TellsOn};
 ghost use Rattle.bt_capture.specs.Sights.{seen};
 ghost use Rattle.bt_capture.specs.Tables.{Held, same_pair, IsApart};
@@ -29,9 +30,18 @@ use bt_pcap::Packet;
 use bt_talk::{Room, Terms, When};
 use bt_utp::UtpFlows;
 use std::alloc::{AllocError, Global};
+use std::hash::RandomState;
 
-/// How many bytes of memory the connections take together. Past that the one that was used least recently is over.
-const BYTES: u64 = 500_000_000;
+/// How many bytes of memory the connections may take together. Past that one of them is over.
+///
+/// The process takes more: what is given back isn't all used again, if it is in other parts than are asked for next.
+const BYTES: u64 = 128_000_000;
+
+/// How many connections there may be.
+const MOST: usize = 16_384;
+
+/// How many of them may be silent: no byte of them came.
+const SILENT: usize = 8_192;
 
 /// The connections of a capture, and what is told of them.
 #[derive(Drop)]
@@ -41,7 +51,7 @@ pub struct Run {
     /// The time of the first packet.
     start: Option<u64>,
     table: Table,
-    /// How many bytes of memory those in the table take.
+    /// About how many bytes of memory those in the table take.
     bytes: u64,
     /// How many connections have begun.
     begun: u64,
@@ -54,22 +64,28 @@ pub struct Run {
 }
 
 impl Run {
-    /// Starts before a capture's first packet.
+    /// Starts before a capture's first packet. `keys` are those of the table of connections.
     ///
     /// # Errors
     /// `AllocError` when out of memory.
-    pub fn new(alloc: Global, terms: Terms, form: Form) -> Result<Run, AllocError>
+    pub fn new(
+        alloc: Global,
+        keys: RandomState,
+        terms: Terms,
+        form: Form,
+    ) -> Result<Run, AllocError>
         ensures follows { IfOk result (λ run. (start : TargetSeen) → Follows start start [] run.table run) }
         ensures start { IfOk result (λ run. run.start ≡ None) }
         ensures terms { IfOk result (λ run. run.terms ≡ terms) }
         ensures form { IfOk result (λ run. run.teller.form ≡ form) }
         ensures utp { IfOk result (λ run. AreCounted [] run.utp) }
+        ensures bounded { IfOk result IsBounded }
     {
         Ok(Run {
             alloc,
             terms,
             start: None,
-            table: Table::new(alloc)?,
+            table: Table::new(alloc, keys)?,
             bytes: 0,
             begun: 0,
             teller: Teller::new(alloc, form),
@@ -88,6 +104,7 @@ impl Run {
         ensures goes { (start now : TargetSeen) (came : List Arrival) (p : Pair) (es : List (Pair × Held)) → lookup (same_pair p) es ≡ None
             → Follows start now came ((p, connection) ∷ es) self.old → Goes start now came es self.new result }
         ensures table { self.new.table ≡ self.old.table }
+        ensures bytes { self.new.bytes ≡ self.old.bytes }
         ensures terms { self.new.terms ≡ self.old.terms }
         ensures form { self.new.teller.form ≡ self.old.teller.form }
         ensures start { self.new.start ≡ self.old.start }
@@ -115,6 +132,7 @@ impl Run {
         ensures goes { (start now : TargetSeen) (came : List Arrival) → Follows start now came self.old.table self.old
             → Goes start now came self.new.table self.new result }
         ensures shorter { 0 < length self.old.table → length self.new.table < length self.old.table }
+        ensures counted { IsCounted self.old → IsCounted self.new }
         ensures terms { self.new.terms ≡ self.old.terms }
         ensures form { self.new.teller.form ≡ self.old.teller.form }
         ensures start { self.new.start ≡ self.old.start }
@@ -129,16 +147,27 @@ impl Run {
         }
     }
 
-    /// Ends the connections that were used least recently, as long as they take too much memory together.
+    /// Tells whether there are too many connections, or they take too much memory together.
+    fn is_full(&self) -> bool
+        ensures bytes { result ≡ false → self.now.bytes ≤ 128000000 }
+        ensures count { result ≡ false → length self.now.table ≤ 16384 }
+    {
+        self.bytes > BYTES || self.table.len() > MOST || self.table.count_silent() > SILENT
+    }
+
+    /// Ends connections, as long as there are too many, or they take too much memory together: first the silent ones.
+    ///
+    /// The one that was used least recently is the first.
     fn shrink(&mut self) -> Result<(), AllocError>
         ensures goes { (start now : TargetSeen) (came : List Arrival) → Follows start now came self.old.table self.old
             → Goes start now came self.new.table self.new result }
+        ensures bounded { OnOk result (IsCounted self.old → IsBounded self.new) }
         ensures terms { self.new.terms ≡ self.old.terms }
         ensures form { self.new.teller.form ≡ self.old.teller.form }
         ensures start { self.new.start ≡ self.old.start }
         ensures utp { self.new.utp ≡ self.old.utp }
     {
-        'oldest: while self.bytes > BYTES && self.table.len() > 0 {
+        'oldest: while self.is_full() && self.table.len() > 0 {
             match self.end_oldest() {
                 Ok(()) => {}
                 Err(error) => return Err(error),
@@ -155,6 +184,7 @@ impl Run {
         requires { lookup (same_pair pair) self.old.table ≡ None }
         ensures goes { (start now : TargetSeen) (came : List Arrival) → Follows start now came ((pair, connection) ∷ self.old.table) self.old
             → Goes start now came self.new.table self.new result }
+        ensures bounded { OnOk result (IsBounded self.old → IsBounded self.new) }
         ensures terms { self.new.terms ≡ self.old.terms }
         ensures form { self.new.teller.form ≡ self.old.teller.form }
         ensures start { self.new.start ≡ self.old.start }
@@ -172,6 +202,7 @@ impl Run {
         ensures finds { (start now : TargetSeen) (came : List Arrival) (when : When) (p : Pair) (es : List (Pair × Held)) → lookup (same_pair p) es ≡ None
             → Follows start now came es self.old → Finds start now came (arrived segment.now when) p es self.new result }
         ensures table { self.new.table ≡ self.old.table }
+        ensures bytes { self.new.bytes ≡ self.old.bytes }
         ensures terms { self.new.terms ≡ self.old.terms }
         ensures form { self.new.teller.form ≡ self.old.teller.form }
         ensures start { self.new.start ≡ self.old.start }
@@ -197,6 +228,7 @@ impl Run {
         ensures finds { (start now : TargetSeen) (came : List Arrival) (p : Pair) (es : List (Pair × Held)) → lookup (same_pair p) es ≡ None
             → Follows start now came ((p, connection) ∷ es) self.old → Finds start now came (arrived segment.now when) p es self.new result }
         ensures table { self.new.table ≡ self.old.table }
+        ensures bytes { self.new.bytes ≡ self.old.bytes }
         ensures terms { self.new.terms ≡ self.old.terms }
         ensures form { self.new.teller.form ≡ self.old.teller.form }
         ensures start { self.new.start ≡ self.old.start }
@@ -221,6 +253,7 @@ impl Run {
         ensures finds { (start now : TargetSeen) (came : List Arrival) → Follows start now came self.old.table self.old
             → Finds start now came (arrived segment.now when) pair self.new.table self.new result }
         ensures absent { lookup (same_pair pair) self.new.table ≡ None }
+        ensures bounded { IsBounded self.old → IsBounded self.new }
         ensures terms { self.new.terms ≡ self.old.terms }
         ensures form { self.new.teller.form ≡ self.old.teller.form }
         ensures start { self.new.start ≡ self.old.start }
@@ -264,6 +297,7 @@ impl Run {
     fn take_segment(&mut self, segment: &Segment, when: When) -> Result<(), AllocError>
         ensures goes { (start now : TargetSeen) (came : List Arrival) → Follows start now came self.old.table self.old
             → Goes start now (came ++ arrived segment.now when ∷ []) self.new.table self.new result }
+        ensures bounded { OnOk result (IsBounded self.old → IsBounded self.new) }
         ensures terms { self.new.terms ≡ self.old.terms }
         ensures form { self.new.teller.form ≡ self.old.teller.form }
         ensures start { self.new.start ≡ self.old.start }
@@ -292,6 +326,7 @@ impl Run {
     fn take_sight(&mut self, sight: &Sight, when: When) -> Result<(), AllocError>
         ensures goes { (start now : TargetSeen) (came : List Arrival) → Follows start now came self.old.table self.old
             → Goes start now (came ++ arrivals_in when.packet when.nanos (seen sight.now)) self.new.table self.new result }
+        ensures bounded { OnOk result (IsBounded self.old → IsBounded self.new) }
         ensures terms { self.new.terms ≡ self.old.terms }
         ensures form { self.new.teller.form ≡ self.old.teller.form }
         ensures start { self.new.start ≡ self.old.start }
@@ -321,6 +356,7 @@ impl Run {
         ensures goes { (start now : TargetSeen) (packets : List Captured) → number ≡ min (length packets + 1) (2 ^ 64 - 1)
             → self.old.start ≡ first_time packets → Follows start now (arrivals packets) self.old.table self.old
             → Goes start now (arrivals (packets ++ captured packet.now ∷ [])) self.new.table self.new result }
+        ensures bounded { OnOk result (IsBounded self.old → IsBounded self.new) }
         ensures terms { self.new.terms ≡ self.old.terms }
         ensures form { self.new.teller.form ≡ self.old.teller.form }
         ensures start { (packets : List Captured) → self.old.start ≡ first_time packets → self.new.start ≡ first_time (packets ++ captured packet.now ∷ []) }

@@ -22,6 +22,7 @@ use crate::packets::{FileEnd, Packets};
 use bt_io::{Source, Target};
 use bt_jobs::output::write_out;
 use std::alloc::Global;
+use std::hash::RandomState;
 
 /// Writes the text that is kept.
 fn write<W: Target>(run: &mut Run, writer: &mut W) -> Result<(), CaptureFault>
@@ -287,11 +288,14 @@ fn tell_all<R: Source, W: Target>(
 /// on each two ends with packets of uTP, in the order of the first ones. What was told is written before more is read. If a read
 /// fails or the file is broken, all that was read up to there is reported.
 ///
+/// `keys` are those of the table of connections.
+///
 /// # Errors
 /// `File` if the bytes aren't those of a capture file. `Read` if a read failed, `Write` if a write failed or took no byte, `Memory`
 /// when out of memory.
 pub fn run_capture<R: Source, W: Target>(
     alloc: Global,
+    keys: RandomState,
     reader: &mut R,
     writer: &mut W,
     job: &CaptureJob,
@@ -302,7 +306,7 @@ pub fn run_capture<R: Source, W: Target>(
         show: job.show,
         json: job.json,
     };
-    match Run::new(alloc, job.terms, form) {
+    match Run::new(alloc, keys, job.terms, form) {
         Ok(mut run) => match Packets::new(alloc) {
             Ok(mut packets) => tell_all(&mut run, &mut packets, reader, writer),
             Err(_) => Err(CaptureFault::Memory),

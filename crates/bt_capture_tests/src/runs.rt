@@ -2,6 +2,8 @@
 use bt_capture::{CaptureEnd, CaptureFault, CaptureJob, run_capture};
 use bt_io::{MemSource, MemTarget};
 use bt_talk::Terms;
+use std::alloc::AllocError;
+use std::hash::RandomState;
 use std::test::Fail;
 
 /// A connection with a handshake in each direction, and a have of piece 9.
@@ -32,6 +34,9 @@ const FOUR: &[u8] = b"connection 0  A 10.0.0.1:1000 > B 10.0.0.2:6881\n\
 \x20   options --reserved 0000000000000000 --metadata-id 0 --pieces 4\n\
 \x20 still open at the capture's end\n";
 
+/// How many connections there may be.
+const MOST: u32 = 16_384;
+
 /// How a run ends over a source that gives `most` bytes a call, and what it writes.
 fn run(
     rt: &HostRuntime,
@@ -49,7 +54,10 @@ fn run(
         show: false,
         json: false,
     };
-    let end = run_capture(rt.alloc(), &mut reader, &mut writer, &job);
+    let Ok(keys) = RandomState::new(rt) else {
+        return (Err(CaptureFault::Read), writer);
+    };
+    let end = run_capture(rt.alloc(), keys, &mut reader, &mut writer, &job);
     (end, writer)
 }
 
@@ -73,5 +81,42 @@ fn a_have_out_of_range(rt: HostRuntime) -> Result<(), Fail> {
         right = right && is_reported(&end, writer.bytes());
     }
     assert!(rt; right);
+    Ok(())
+}
+
+/// Appends a packet with a byte, of another connection for each number.
+fn push_other(file: &mut Vec<u8>, k: u32) -> Result<(), AllocError> {
+    file.extend_from_slice(b"\x01\0\0\0\xa0\x0f\0\0)\0\0\0)\0\0\0E\0\0)\0\x01\0\0@\x06\0\0\x0b")?;
+    file.extend_from_slice(&k.to_be_bytes()[1..])?;
+    file.extend_from_slice(b"\x0a\0\0\x02\x03\xe8\x1a\xe1\0\0\0e\0\0\x01\xf5P\x18\x03\xe8\0\0\0\0x")?;
+    Ok(())
+}
+
+/// How many connections a text reports.
+fn count_reports(text: &[u8]) -> usize {
+    text.split(|byte| *byte == b'\n')
+        .filter(|line| line.starts_with(b"connection "))
+        .count()
+}
+
+/// The first connection is over when there are too many: what follows between its ends is another one.
+#[test]
+fn a_flood(rt: HostRuntime) -> Result<(), Fail> {
+    let mut file = Vec::from_slice(rt.alloc(), FILE)?;
+    for k in 0..MOST {
+        push_other(&mut file, k)?;
+    }
+    file.extend_from_slice(&FILE[FILE.len() - 65..])?;
+    let (end, writer) = run(&rt, file, 65_536);
+    let all = Ok(CaptureEnd {
+        packets: 16_390,
+        skipped: 0,
+        torrents: 1,
+        lost: 0,
+        is_refused: true,
+        is_cut: false,
+    });
+    let text = writer.bytes();
+    assert!(rt; end == all && text.starts_with(&FOUR[..48]) && count_reports(text) == 16_386);
     Ok(())
 }

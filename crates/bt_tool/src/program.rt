@@ -31,6 +31,7 @@ use either::Either;
 use std::alloc::AllocError;
 use std::cell::Cell;
 use std::fs;
+use std::hash::RandomState;
 use std::io::{Input, Write};
 use std::net::Net;
 use std::random::RandomSource;
@@ -322,8 +323,11 @@ impl<'a, R: Files + Input + Net + Clock + RandomSource + AllocGlobal, W: Write, 
         let Some(mut reader) = self.open(name, CAPTURE_AWAITED) else {
             return end_by_fault(ToolFault::Read, prefix, false, &mut self.errors);
         };
+        let Ok(keys) = RandomState::new(self.host) else {
+            return end_by_fault(ToolFault::Read, prefix, false, &mut self.errors);
+        };
         let alloc = self.host.alloc();
-        let end = run_capture(alloc, &mut reader, &mut self.writer, job);
+        let end = run_capture(alloc, keys, &mut reader, &mut self.writer, job);
         let is_gone = self.is_gone.get();
         end_capture(alloc, end, prefix, is_gone, &mut self.errors)
     }

@@ -1,9 +1,11 @@
-use Rattle.std.proofs.Common.{◌≡◌, ◌∙◌, None, refl, sym, subst, List, ◌∷◌}
+use Rattle.std.proofs.Common.{◌≡◌, ◌∙◌, ◌-◌, None, refl, sym, ap, subst, List, ◌∷◌}
 use Rattle.std.specs.Map.{lookup}
 use Rattle.bt_capture.specs.Arrivals.{arrived}
 use Rattle.bt_capture.specs.Following.{Follows, Finds}
 use Rattle.bt_capture.specs.Tables.{Held, same_pair}
+use Rattle.bt_capture.specs.declared.connection.Connection.{Connection}
 use Rattle.bt_capture.specs.declared.pair.Pair.{Pair}
+use Rattle.bt_capture.proofs.Bounds.{bounded_same, taken_out}
 use Rattle.bt_capture.proofs.Entries.{lookup_gone, lookup_kept}
 use Rattle.bt_capture.proofs.Reported.{follows_same, follows_out}
 use Rattle.bt_capture.proofs.connections.Run.connection_of.Goals as goal
@@ -42,3 +44,15 @@ returns-in-None-clause-absent c =
     let p = c.args.pair in
     subst (λ (l : List (Pair × Held)). lookup (same_pair p) l ≡ None) (sym (c.begin.ensures.table ∙ c.in-None.ensures.rest))
     (lookup_gone p c.args.self.now.table c.in-None.ensures.apart)
+
+pub returns-in-Some-clause-bounded : goal.returns-in-Some-clause-bounded
+returns-in-Some-clause-bounded c i =
+    let old = c.args.self.now in
+    taken_out (same_pair c.args.pair) c.in-Some.connection c.take_out.new.self old c.goes_on.new.self c.in-Some.ensures.found c.in-Some.ensures.rest
+    c.goes_on.ensures.table (c.goes_on.ensures.bytes ∙ c.saturating_sub-self.ensures ∙ ap (λ n. old.bytes - n) (c.size.ensures.size ∙ ap (λ (k : Connection). k.size) c.deref.ensures)) i
+
+pub returns-in-None-clause-bounded : goal.returns-in-None-clause-bounded
+returns-in-None-clause-bounded c i =
+    let p = c.args.pair in
+    let es : List (Pair × Held) = c.args.self.now.table in
+    bounded_same c.args.self.now c.begin.new.self (c.begin.ensures.table ∙ c.in-None.ensures.rest ∙ lookup_kept p es (sym c.in-None.ensures.found)) c.begin.ensures.bytes i

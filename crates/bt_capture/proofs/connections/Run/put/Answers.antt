@@ -1,8 +1,12 @@
-use Rattle.std.proofs.Common.{refl, sym, subst, List, ◌∷◌}
+use Rattle.std.proofs.Common.{◌≡◌, ◌∙◌, ◌+◌, ◌-◌, ◌^◌, ◌<◌, min, refl, ap, subst, List, ◌∷◌}
 use Rattle.bt_capture.specs.Following.{Follows}
 use Rattle.bt_capture.specs.Tables.{Held}
+use Rattle.bt_capture.specs.declared.connection.Connection.{Connection}
 use Rattle.bt_capture.specs.declared.pair.Pair.{Pair}
-use Rattle.bt_capture.proofs.Reported.{follows_same, stops_of}
+use Rattle.bt_capture.proofs.Bounds.{one_more}
+use Rattle.bt_capture.proofs.Parts.{on_ok}
+use Rattle.bt_capture.proofs.Entries.{lookup_moved, apart_put}
+use Rattle.bt_capture.proofs.Reported.{follows_same, follows_moved, stops_of}
 use Rattle.bt_capture.proofs.connections.Run.put.Goals as goal
 
 pub returns-in-Ok-clause-goes : goal.returns-in-Ok-clause-goes
@@ -11,10 +15,22 @@ returns-in-Ok-clause-goes c start now came i =
     let es : List (Pair × Held) = c.args.self.now.table in
     c.shrink.ensures.goes start now came
     (follows_same start now came c.put.new.self c.args.self.now _ refl refl refl refl
-    (subst (λ (l : List (Pair × Held)). Follows start now came l c.args.self.now) (sym c.in-Ok.ensures.put) i))
+    (follows_moved start now came (e ∷ es) c.put.new.self c.args.self.now
+    (lookup_moved (e ∷ es) c.put.new.self c.in-Ok.ensures.put (apart_put e es c.requires c.in-Ok.ensures.apart)) i))
 
 pub returns-in-Err-clause-goes : goal.returns-in-Err-clause-goes
 returns-in-Err-clause-goes c start now came i =
     let e : Pair × Held = (c.args.pair, c.args.connection) in
     let es : List (Pair × Held) = c.args.self.now.table in
     stops_of start now came (e ∷ es) _ (follows_same start now came (e ∷ es) c.args.self.now _ refl refl refl refl i)
+
+pub returns-in-Ok-clause-bounded : goal.returns-in-Ok-clause-bounded
+returns-in-Ok-clause-bounded c =
+    let old = c.args.self.now in
+    let p = c.args.pair in
+    let k = c.args.connection in
+    let is : c.size.result ≡ k.value.size = c.size.ensures.size ∙ ap (λ (x : Connection). x.size) c.deref.ensures in
+    let small : k.value.size < 2 ^ 32 = subst (λ n. n < 2 ^ 32) is c.size.ensures.range in
+    let sum : c.saturating_add-self.result ≡ min (old.bytes + k.value.size) (2 ^ 64 - 1) =
+    c.saturating_add-self.ensures ∙ ap (λ n. min (old.bytes + n) (2 ^ 64 - 1)) is in
+    on_ok c.shrink.result (λ f i. f (one_more p k c.put.new.self c.saturating_add-self.result old small c.in-Ok.ensures.put sum i)) c.shrink.ensures.bounded

@@ -1,6 +1,7 @@
 use Rattle.std.proofs.Common.{◌≡◌, List, length}
 use Rattle.bt_io.specs.Seen.{TargetSeen}
 use Rattle.bt_capture.specs.Arrivals.{Arrival}
+use Rattle.bt_capture.specs.Bounds.{IsCounted}
 use Rattle.bt_capture.specs.Following.{Follows}
 use Rattle.bt_capture.proofs.connections.Run.shrink.Given as goal
 
@@ -14,4 +15,5 @@ invariant-oldest l = record {
   form : l.self.teller.form ≡ l.initial.self.teller.form;
   start : l.self.start ≡ l.initial.self.start;
   utp : l.self.utp ≡ l.initial.self.utp;
+  counted : IsCounted l.initial.self → IsCounted l.self;
 }
