@@ -26,6 +26,9 @@ fn drain(
     ensures drained { OnOk result (HandsOut ring.old.next (ahead ring.old known.old memory.now) out.old.items ring.new.next (ahead ring.new known.new memory.now) out.new.items) }
 {
     loop {
+        if ring.is_empty() {
+            return Ok(());
+        }
         let part = ring.ready(known, memory);
         if part.is_empty() {
             return Ok(());
@@ -96,6 +99,7 @@ impl Window {
     }
 
     /// Drops the bytes ahead, and their memory.
+    #[cold]
     pub fn close(&mut self)
         ensures next { next_of self.new ≡ next_of self.old }
         ensures none { (k : ℕ) → seen self.new k ≡ None }
@@ -119,6 +123,7 @@ impl Window {
     }
 
     /// Makes room for bytes before a place, if there may be as much. It is at least doubled.
+    #[cold]
     fn make_room(&mut self, end: u64) -> Result<(), AllocError>
         ensures next { next_of self.new ≡ next_of self.old }
         ensures room { OnOk result (end ≤ next_of self.old + 16777216 → end ≤ next_of self.new + capacity_of self.new) }

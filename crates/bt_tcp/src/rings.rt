@@ -34,6 +34,30 @@ fn slot(capacity: usize, head: usize, k: usize) -> usize
     }
 }
 
+/// Tells whether none of some bytes has come. It has no early end, so that it looks at many at once.
+fn are_unknown(known: &[bool]) -> bool
+    ensures all { result ≡ true → (k : ℕ) → k < length known.now → slice_index_or known.now k false ≡ false }
+    ensures some { result ≡ false → (k : ℕ) × (k < length known.now) × (slice_index_or known.now k false ≡ true) }
+{
+    let mut any = false;
+    for b in known {
+        any = any | *b;
+    }
+    !any
+}
+
+/// Tells whether no byte has come from an offset on, for `count` of them.
+fn is_free(known: &[bool], head: usize, gap: usize, count: usize) -> bool
+    requires head { head < length known.now }
+    requires gap { gap < length known.now }
+    requires room { gap + count ≤ length known.now }
+    ensures { result ≡ true → (k : ℕ) → gap ≤ k → k < gap + count → is_known known.now head k ≡ false }
+{
+    let from = slot(known.len(), head, gap);
+    let fitting = count.min(known.len() - from);
+    are_unknown(&known[from..from + fitting]) && are_unknown(&known[..count - fitting])
+}
+
 /// Counts the offsets without a byte from the head on, at most `most`.
 ///
 /// Past the ring there is no byte.
@@ -44,6 +68,9 @@ fn count_unknown(known: &[bool], head: usize, most: usize) -> usize
     ensures ends { result < most → is_known known.now head result ≡ true }
 {
     let capacity = known.len();
+    if most <= capacity && is_free(known, head, 0, most) {
+        return most;
+    }
     for k in 0..capacity {
         if k >= most {
             return most;
@@ -81,12 +108,12 @@ fn write(known: &mut [bool], bytes: &mut [u8], from: usize, part: &[u8])
     bytes[from..from + part.len()].copy_from_slice(part);
 }
 
-/// Puts bytes from an offset on, if there is none from there on.
+/// Puts bytes from an offset on, where there are none.
 fn append(known: &mut [bool], bytes: &mut [u8], head: usize, gap: usize, part: &[u8])
     requires ring { IsRing known.old bytes.old head }
     requires room { gap + length part.now ≤ length known.old }
     requires some { 0 < length part.now }
-    requires unknown { (k : ℕ) → gap ≤ k → is_known known.old head k ≡ false }
+    requires unknown { (k : ℕ) → gap ≤ k → k < gap + length part.now → is_known known.old head k ≡ false }
     ensures { (k : ℕ) → ring known.new bytes.new head k ≡ or_else (ring known.old bytes.old head k) (byte_in (record { place = gap; bytes = part.now }) k) }
 {
     let from = slot(known.len(), head, gap);
@@ -103,7 +130,7 @@ fn keep(known: &mut [bool], bytes: &mut [u8], head: usize, gap: usize, part: &[u
     requires last { is_last ≡ true → (k : ℕ) → gap ≤ k → is_known known.old head k ≡ false }
     ensures { (k : ℕ) → ring known.new bytes.new head k ≡ or_else (ring known.old bytes.old head k) (byte_in (record { place = gap; bytes = part.now }) k) }
 {
-    if is_last {
+    if is_last || is_free(known, head, gap, part.len()) {
         append(known, bytes, head, gap, part);
     } else {
         store(known, bytes, head, gap, part);
@@ -117,7 +144,7 @@ fn are_known(known: &[bool]) -> bool
 {
     let mut all = true;
     for b in known {
-        all = all && *b;
+        all = all & *b;
     }
     all
 }
@@ -364,6 +391,18 @@ impl Ring {
         known[i] && bytes[i] != byte
     }
 
+    /// Tells whether no byte is ahead at `count` places, if that is quickly told.
+    fn is_apart(&self, known: &[bool], at: u64, count: usize) -> bool
+        requires { self.now.head < length known.now }
+        ensures { result ≡ true → (k : ℕ) → at ≤ self.now.next + k → self.now.next + k < at + count → is_known known.now self.now.head k ≡ false }
+    {
+        if at < self.next || at - self.next >= known.len() as u64 {
+            return false;
+        }
+        let gap = (at - self.next) as usize;
+        count <= known.len() - gap && is_free(known, self.head, gap, count)
+    }
+
     /// Counts the bytes of a segment that differ from those ahead, which came first.
     ///
     /// It looks at none if nothing is ahead at its place or after it.
@@ -373,6 +412,9 @@ impl Ring {
         ensures { result ≡ conflicts (held self.now.next (ahead self.now known.now bytes.now)) at part.now }
     {
         if at.max(self.next) >= self.end {
+            return 0;
+        }
+        if self.is_apart(known, at, part.len()) {
             return 0;
         }
         let mut count = 0usize;
