@@ -20,7 +20,7 @@ import tempfile
 sys.dont_write_bytecode = True
 ROOT = os.path.dirname(os.path.dirname(os.path.abspath(__file__)))
 # Options that only btcap has.
-OTHERS = {"--show", "--torrent", "--tool", "--piece"}
+OTHERS = {"--show", "--tool", "--piece"}
 ONLY_BTCAP = re.compile(r"uTP ")
 # The status of a file that is no capture: a fault, as in all commands of bt_tool.
 FAULT = {2: 3}
@@ -41,6 +41,8 @@ def reported(text):
 
 def fault_of(words):
     """What `capture` says on standard error for what btcap says."""
+    if b"no torrent" in words:
+        return b"fault: torrent: "
     return words if b"BitTorrent" in words or b"inside a packet" in words else words and b"fault: capture: "
 
 
@@ -175,10 +177,14 @@ def main():
         failed = 1
         print("capture: %s has other words in bt_told than in tools/reasons.json" % reason)
     with tempfile.TemporaryDirectory() as folder:
-        path = os.path.join(folder, "capture")
-        for name, words, capture, out, errors, status in module_of("btcap").rows():
+        btcap = module_of("btcap")
+        path, torrent = os.path.join(folder, "capture"), os.path.join(folder, "a.torrent")
+        with open(torrent, "wb") as file:
+            file.write(btcap.TORRENT)
+        for name, words, capture, out, errors, status in btcap.rows():
             if OTHERS & {*words} or callable(out):
                 continue
+            words = [{"CAPTURE": path, "TORRENT": torrent}.get(word, word) for word in words]
             with open(path, "wb") as file:
                 file.write(capture)
             wanted = reported(out), FAULT.get(status, status)

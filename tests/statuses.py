@@ -417,7 +417,9 @@ COMMANDS = {
     "unpack": ("bt_tool unpack [OPTIONS] [FILE]", RECEIVER, ["--torrent", "--hints no"]),
     "pack": ("bt_tool pack [OPTIONS] [FILE]", RECEIVER, ["--window 1", "--info-hash 00"]),
     "link": ("bt_tool link [FILE]", "", ["--limit 32768", "--hints always", "a b"]),
-    "capture": ("bt_tool capture [OPTIONS] [FILE]", "pieces json", ["--limit 1", "--json a b", "--pieces", "--pieces x", "--pieces 4294967296", "a b"]),
+    "capture": ("bt_tool capture [OPTIONS] [FILE]", "pieces torrent limit json",
+                ["--rules bep", "--json a b", "--pieces", "--pieces x", "--pieces 4294967296", "--pieces 1 --torrent a b", "--torrent",
+                 "--torrent a --torrent a b", "--torrent -", "--torrent - -", "--limit 0", "--limit 1048577", "--limit x", "a b"]),
     "loop": ("bt_tool loop [OPTIONS]", "rules limit", ["--hints always", "--limit 32767", "--rules", "more"]),
     "fetch": ("bt_tool fetch [OPTIONS] MAGNET|INFOHASH [ADDRESS]..", "peers at-once rules limit timeout window max-size torrent json",
               ["", HASH, HASH + " 127.0.0.1:9 --max-connections 1", HASH + " 127.0.0.1:9 --window 9", HASH + " a", "0 127.0.0.1:9",
@@ -602,6 +604,35 @@ REPORT_38 = (b'{"connection":0,"a":"10.0.0.1:51413","b":"10.0.0.2:6881","bittorr
              b'"info_hash":"a9993e364706816aba3e25717850c26c9cd0d89d","peer_id":"2d4242303030312d303030303030303030303030"}}}}\n')
 CUT_IN_PACKET = b"capture: ends inside a packet, which is left out\n"
 
+
+def torrent(members):
+    """A .torrent whose info dictionary has these members."""
+    return b"d8:announce1:x4:infod%see" % members
+
+
+# Torrents of 38 pieces, and of more than a message's string may have SHA-1s for.
+TORRENT_38, TORRENT_52429 = (torrent(b"6:lengthi1e6:pieces%d:%s" % (20 * n, 20 * n * b"p")) for n in (38, 52429))
+
+
+def hash_of(file):
+    """The info hash of a .torrent of `torrent`."""
+    return hashlib.sha1(file[file.index(b"4:info") + 6:-1]).digest()
+
+
+def of(file):
+    """The capture REFUSED, of a connection of this torrent."""
+    return REFUSED.replace(bytes.fromhex(HASH), hash_of(file))
+
+
+def no_torrent(why):
+    return b"t: fault: torrent: %s\n" % why
+
+
+NO_DICTIONARY = no_torrent(b"not one bencoded dictionary that nests at most 32 deep")
+NO_INFO = no_torrent(b"no dictionary under 'info'")
+NO_PIECES = no_torrent(b"no string under 'pieces' in 'info': a torrent of version 2 only has none")
+NO_COUNT = no_torrent(b"the length of 'pieces' in 'info' is no multiple of 20, or too great")
+
 # Words, files, standard input, standard output, standard error, exit status. The words are run where the files are.
 FILES = [
     # files
@@ -654,6 +685,29 @@ FILES = [
     ("capture --json --pieces 38 a", {"a": REFUSED}, b"", REPORT_38, b"", 1),
     ("capture --json", {}, REFUSED[:24], b"", b"no BitTorrent connection in 0 packets; 0 of them aren't TCP\n", 3),
     ("capture a", {"a": HAND}, b"", b"", b"a: fault: capture: neither a pcap nor a pcapng file\n", 3),
+    # a .torrent: its connections have its piece count, and others none
+    ("capture --json --torrent t a", {"t": TORRENT_38, "a": of(TORRENT_38)}, b"",
+     REPORT_38.replace(HASH.encode(), hash_of(TORRENT_38).hex().encode()), b"", 1),
+    ("capture --torrent t a", {"t": TORRENT_38, "a": REFUSED}, b"", TEXT, b"", 0),
+    ("capture --torrent - a", {"a": of(TORRENT_38)}, TORRENT_38, TEXT, b"", 1),
+    ("capture --torrent=t", {"t": TORRENT_38}, of(TORRENT_38), TEXT, b"", 1),
+    # more than 52,428 pieces
+    ("capture --torrent t a", {"t": TORRENT_52429, "a": of(TORRENT_52429)}, b"", TEXT, b"", 0),
+    # files that are none
+    ("capture --torrent none a", {"a": REFUSED}, b"", b"", b"none: fault: read\n", 3),
+    ("capture --torrent . a", {"a": REFUSED}, b"", b"", b".: fault: read\n", 3),
+    ("capture --torrent t a", {"t": b"", "a": REFUSED}, b"", b"", NO_DICTIONARY, 3),
+    ("capture --torrent t a", {"t": TORRENT_38[:-1], "a": REFUSED}, b"", b"", NO_DICTIONARY, 3),
+    ("capture --torrent t a", {"t": TORRENT_38 + b"\n", "a": REFUSED}, b"", b"", NO_DICTIONARY, 3),
+    ("capture --torrent t a", {"t": b"d8:announce1:xe", "a": REFUSED}, b"", b"", NO_INFO, 3),
+    ("capture --torrent t a", {"t": b"d4:info1:xe", "a": REFUSED}, b"", b"", NO_INFO, 3),
+    ("capture --torrent t a", {"t": torrent(b"9:file treede12:meta versioni2e"), "a": REFUSED}, b"", b"", NO_PIECES, 3),
+    ("capture --torrent t a", {"t": torrent(b"6:piecesi20e"), "a": REFUSED}, b"", b"", NO_PIECES, 3),
+    ("capture --torrent t a", {"t": torrent(b"6:pieces19:" + 19 * b"p"), "a": REFUSED}, b"", b"", NO_COUNT, 3),
+    ("capture --torrent -", {}, REFUSED, b"", MISTAKE, 2),
+    # a limit that each message keeps, and a smaller one
+    ("capture --limit 10 a", {"a": REFUSED}, b"", TEXT, b"", 0),
+    ("capture --limit 4 a", {"a": REFUSED}, b"", TEXT, b"", 1),
     # the other direction: its reserved bits
     other_row(hand(NO_FAST), HAVE_ALL, [b"refused message=1 at=72 NotNegotiated"], status=1),
     other_row(hand(NO_FAST), HAVE_ALL, [b"68 have-all", b"ok messages=1 bytes=73"], "--reserved " + FAST),

@@ -15,7 +15,7 @@ use Rattle.bt_cli.specs.declared.commands.Asked.TheVariants.{Run, Link, Capture,
 abbrev pub IsLimited : Asked → Type 0
 IsLimited (Run r) = HasLimit r.own
 IsLimited (Link files) = Unit {0}
-IsLimited (Capture job files) = Unit {0}
+IsLimited (Capture request) = Unit {0}
 IsLimited (Fetch job) = IsWish job.wish
 IsLimited (Serve job) = HasLoopLimit job.limit
 IsLimited (Loop rules limit) = HasLoopLimit limit
@@ -25,7 +25,7 @@ IsLimited (Told notice text) = Unit {0}
 abbrev pub HasText : Notice → Asked → Type 0
 HasText kind (Run r) = ⊥
 HasText kind (Link files) = ⊥
-HasText kind (Capture job files) = ⊥
+HasText kind (Capture request) = ⊥
 HasText kind (Fetch job) = ⊥
 HasText kind (Serve job) = ⊥
 HasText kind (Loop rules limit) = ⊥
@@ -38,7 +38,7 @@ IsShowByDefault (Run r) = (r.job ≡ Show) × IsDefault r.own × (r.given ≡ re
     × (r.hints ≡ Auto)
     × (r.files.items ≡ [])
 IsShowByDefault (Link files) = ⊥
-IsShowByDefault (Capture job files) = ⊥
+IsShowByDefault (Capture request) = ⊥
 IsShowByDefault (Fetch job) = ⊥
 IsShowByDefault (Serve job) = ⊥
 IsShowByDefault (Loop rules limit) = ⊥

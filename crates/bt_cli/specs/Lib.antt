@@ -7,3 +7,4 @@ pub mod Wanted
 pub mod Services
 pub mod Lists
 pub mod Captures
+pub mod Torrents

@@ -12,7 +12,7 @@ use Rattle.bt_run.specs.declared.commands.Request.{Request}
 use Rattle.bt_run.specs.declared.values.Written.{Written}
 use Rattle.bt_run.specs.Commands.{as_json, job_of}
 use Rattle.bt_run.specs.Options.{IsReceiver, hints_in, limit_in, rules_in}
-use Rattle.bt_cli.specs.Wanted.{IsCaptureAsked, IsFetchAsked, IsServeAsked}
+use Rattle.bt_cli.specs.Wanted.{IsCaptureRequested, IsFetchAsked, IsServeAsked}
 use Rattle.bt_cli.specs.declared.commands.Asked.{Asked}
 use Rattle.bt_cli.specs.declared.commands.Asked.TheVariants.{Run, Link, Capture, Fetch, Serve, Told, Loop}
 
@@ -60,8 +60,7 @@ pub record IsRequested (name : List ℕ) (f : Found) (r : Request) : Type 0 wher
 abbrev pub IsAskedBy : List ℕ → Found → Asked → Type 0
 IsAskedBy name f (Run r) = IsRequested name f r
 IsAskedBy name f (Link files) = (bytes_eq name (codes "link") ≡ true) × (map string_bytes files.items ≡ files_in f)
-IsAskedBy name f (Capture job files) =
-    (bytes_eq name (codes "capture") ≡ true) × IsCaptureAsked f job × (map string_bytes files.items ≡ files_in f)
+IsAskedBy name f (Capture request) = (bytes_eq name (codes "capture") ≡ true) × IsCaptureRequested f request
 IsAskedBy name f (Loop rules limit) =
     (bytes_eq name (codes "loop") ≡ true) × (rules_in Check (first_value f (codes "rules")) ≡ Some rules)
     × (limit_in (first_value f (codes "limit")) ≡ Some limit)

@@ -1,5 +1,5 @@
 -- What the options of `fetch`, `serve` and `capture` say.
-use Rattle.std.specs.Prelude.{◌≡◌, ℕ, Bool, List, [], map, string_bytes, unwrap_or, codes, Option, Some, None, option_map}
+use Rattle.std.specs.Prelude.{◌≡◌, ◌&&◌, ℕ, Bool, false, List, [], map, string_bytes, is_some, unwrap_or, codes, Option, Some, None, option_map}
 use Rattle.std.specs.Str.{bytes_eq}
 use Rattle.std.specs.Net.Grammar.{IsSocketText}
 use Rattle.clap.specs.declared.parser.matches.Found.{Found}
@@ -10,6 +10,7 @@ use Rattle.bt_magnet.specs.Links.{IsMagnet}
 use Rattle.bt_run.specs.Options.{number_in, rules_of, value_of}
 use Rattle.bt_fetch.specs.declared.wish.Wish.{Wish}
 use Rattle.bt_capture.specs.declared.ending.CaptureJob.{CaptureJob}
+use Rattle.bt_cli.specs.declared.capture.CaptureRequest.{CaptureRequest}
 use Rattle.bt_cli.specs.declared.fetch.FetchJob.{FetchJob}
 use Rattle.bt_cli.specs.declared.serve.ServeJob.{ServeJob}
 
@@ -44,6 +45,9 @@ max_connections_in t = number_or 1 1024 64 t
 
 abbrev pub capture_pieces_in : Option (List ℕ) → Option (Option ℕ)
 capture_pieces_in t = value_of None (λ s. option_map (λ n. Some n) (number_in 0 4294967295 s)) t
+
+abbrev pub capture_limit_in : Option (List ℕ) → Option ℕ
+capture_limit_in t = number_or 1 1048576 262144 t
 
 -- the texts of all words of this name
 abbrev pub words_in : Found → List ℕ → List (List ℕ)
@@ -90,6 +94,19 @@ pub record IsServeAsked (f : Found) (job : ServeJob) : Type 0 where
 
 -- ---- `capture`
 
+-- both options are given
+abbrev pub are_given : Found → List ℕ → List ℕ → Bool
+are_given f one other = is_some (first_value f one) && is_some (first_value f other)
+
+-- the options say how the capture is judged and told; a torrent's file isn't read yet
 pub record IsCaptureAsked (f : Found) (job : CaptureJob) : Type 0 where
   pub pieces : capture_pieces_in (first_value f (codes "pieces")) ≡ Some job.terms.pieces
+  pub apart : are_given f (codes "pieces") (codes "torrent") ≡ false
+  pub limit : capture_limit_in (first_value f (codes "limit")) ≡ Some job.terms.limit
+  pub torrent : job.terms.torrent ≡ None
   pub json : job.json ≡ flag_in f (codes "json")
+
+pub record IsCaptureRequested (f : Found) (r : CaptureRequest) : Type 0 where
+  pub job : IsCaptureAsked f r.job
+  pub torrent : option_map string_bytes r.torrent ≡ first_value f (codes "torrent")
+  pub files : map string_bytes r.files.items ≡ words_in f (codes "FILE")

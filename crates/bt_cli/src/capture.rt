@@ -1,23 +1,34 @@
 //! The command `capture`: what its words ask for, what it says at its end, and the exit status.
-ghost use Rattle.std.specs.Prelude.{◌≡◌, ◌++◌, IfOk, option_map};
-ghost use Rattle.clap.specs.Matches.{found_of};
+ghost use Rattle.std.specs.Prelude.{◌≡◌, ◌++◌, ◌&&◌, IfOk, is_some, option_map};
+ghost use Rattle.clap.specs.Matches.{first_value, found_of};
 ghost use Rattle.bt_run.specs.Runs.{IsSaid};
 ghost use Rattle.bt_cli.specs.Captures.{IsCaptureSaid, IsEndSaid, capture_fault_status, capture_fault_words, capture_status, cut_words, file_words, nothing_words, outcome_in, outcome_status};
 ghost use Rattle.bt_cli.specs.declared.capture.Outcome.TheVariants.{Nothing};
 ghost use Rattle.bt_cli.specs.Wanted.{IsCaptureAsked, capture_pieces_in};
 
-use crate::fetch::is_given;
+use crate::fetch::{DEFAULT_LIMIT, is_given, number_or};
 use bt_capture::{CaptureEnd, CaptureFault, CaptureJob};
 use bt_feed::Target;
 use bt_link::text::push_number;
 use bt_pcap::FileFault;
 use bt_run::ending::{end_by_fault, say_both};
 use bt_run::values::number_within;
-use bt_text::ended::ToolFault;
 use bt_talk::Terms;
+use bt_text::ended::ToolFault;
 use bt_text::lines::fault_line;
 use clap::ArgMatches;
 use std::alloc::{AllocError, Global};
+
+/// A report on a capture that is asked for.
+#[derive(Debug, Drop)]
+pub struct CaptureRequest {
+    /// What is asked for, still without a torrent.
+    pub job: CaptureJob,
+    /// The name of a .torrent: connections with its info hash have its piece count.
+    pub torrent: Option<String>,
+    /// The names of captures, at most one.
+    pub files: Vec<String>,
+}
 
 /// What was found in a capture that was read to its end.
 #[derive(Clone, Copy, PartialEq, Eq, Debug)]
@@ -42,25 +53,38 @@ fn pieces_in(text: Option<&str>) -> Option<Option<u32>>
     }
 }
 
-/// Returns what the options of the command ask for.
+/// Returns whether both options are given.
+fn are_given(options: &ArgMatches<'_>, one: &str, other: &str) -> bool
+    ensures { result ≡ (is_some (first_value (found_of options.now) one.now) && is_some (first_value (found_of options.now) other.now)) }
+{
+    options.get_str(one).is_some() && options.get_str(other).is_some()
+}
+
+/// Returns what the options of the command ask for, without the torrent, whose file isn't read here.
 ///
 /// # Errors
-/// The option that has no meaning.
+/// The option that has no meaning, or two that exclude each other.
 pub fn capture_in(options: &ArgMatches<'_>) -> Result<CaptureJob, &'static str>
     ensures { IfOk result (IsCaptureAsked (found_of options.now)) }
 {
-    match pieces_in(options.get_str("pieces")) {
-        Some(pieces) => Ok(CaptureJob {
-            terms: Terms {
-                limit: 262_144,
-                pieces,
-                torrent: None,
-            },
-            show: false,
-            json: is_given(options, "json"),
-        }),
-        None => Err("'--pieces' takes a number from 0 to 4294967295"),
+    let Some(pieces) = pieces_in(options.get_str("pieces")) else {
+        return Err("'--pieces' takes a number from 0 to 4294967295");
+    };
+    if are_given(options, "pieces", "torrent") {
+        return Err("'--pieces' and '--torrent' can't both be given");
     }
+    let Some(limit) = number_or(options.get_str("limit"), 1, 1_048_576, DEFAULT_LIMIT) else {
+        return Err("'--limit' takes a number from 1 to 1048576");
+    };
+    Ok(CaptureJob {
+        terms: Terms {
+            limit,
+            pieces,
+            torrent: None,
+        },
+        show: false,
+        json: is_given(options, "json"),
+    })
 }
 
 /// Returns what was found in a capture.

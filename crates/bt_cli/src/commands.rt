@@ -1,7 +1,7 @@
 //! What the command line can ask for. The module `options` makes it, and the program's `main` does it.
+use crate::capture::CaptureRequest;
 use crate::fetch::FetchJob;
 use crate::serve::ServeJob;
-use bt_capture::CaptureJob;
 use bt_ext::Rules;
 pub use bt_run::commands::{
     DEFAULT_LIMIT, DEFAULT_METADATA_ID, DEFAULT_RESERVED, Given, Hints, Job, Notice, Request,
@@ -16,7 +16,7 @@ pub enum Asked {
     /// The link of two ends, which a script describes: that of the first file, or of standard input.
     Link(Vec<String>),
     /// Reports on the connections of a capture: that of the first file, or of standard input.
-    Capture(CaptureJob, Vec<String>),
+    Capture(CaptureRequest),
     /// A fetch of metadata from peers.
     Fetch(FetchJob),
     /// A service of metadata to peers.

@@ -9,6 +9,7 @@ pub mod commands;
 pub mod ending;
 pub mod fetch;
 pub mod fetching;
+pub mod input;
 pub mod link;
 pub mod looped;
 pub mod options;
@@ -16,5 +17,6 @@ pub mod peers;
 pub mod report;
 pub mod serve;
 mod texts;
+pub mod torrent;
 
 pub use bt_run::{hints, notice, other, run, values};

@@ -8,7 +8,7 @@ ghost use Rattle.bt_run.specs.Options.{rules_in, limit_in};
 ghost use Rattle.bt_cli.specs.Commands.{HasNotice, HasText, IsLimited, IsShowByDefault};
 ghost use Rattle.bt_cli.specs.Options.{IsAskedBy, IsChosen, IsRequested, IsWritten, files_in, given_in, json_in, lacks_command as lacks_command_by_rule, lacks_first, mistake_words, version_words};
 
-use crate::capture::capture_in;
+use crate::capture::{CaptureRequest, capture_in};
 use crate::commands::{Asked, Given, Hints, Job, Notice, Request, default_own};
 use crate::fetch::{Mistake, fetch_asked};
 use crate::serve::serve_asked;
@@ -28,6 +28,9 @@ const VERSION: &str = "0.2.0";
 
 /// What is wrong with several files.
 const ONE_FILE: &str = "only 'check' takes more than one file";
+
+/// What is wrong with a .torrent on standard input, if the capture is there.
+const TORRENT_TWICE: &str = "'--torrent' and the capture can't both be standard input";
 
 /// What is printed if the arguments aren't text.
 pub const NO_TEXT: &str =
@@ -74,9 +77,9 @@ pub fn is_input(name: &str) -> bool
     name == "-"
 }
 
-/// Returns whether standard input is wanted as the other direction and as the stream.
-fn wants_input_twice(other: &Option<String>, files: &[String]) -> bool {
-    match other {
+/// Returns whether standard input is wanted as an option's file and as the command's.
+fn wants_input_twice(named: &Option<String>, files: &[String]) -> bool {
+    match named {
         Some(name) if is_input(name.as_str()) => {
             files.is_empty() || files.iter().any(|file| is_input(file.as_str()))
         }
@@ -316,11 +319,15 @@ fn given(options: &ArgMatches<'_>) -> Given
     }
 }
 
-/// Returns the file with the other direction, if one is given.
-fn other(alloc: Global, options: &ArgMatches<'_>) -> Result<Option<String>, AllocError>
-    ensures { IfOk result (λ o. option_map string_bytes o ≡ first_value (found_of options.now) (codes "other")) }
+/// Returns the file that an option names, if it is given.
+fn named(
+    alloc: Global,
+    options: &ArgMatches<'_>,
+    option: &str,
+) -> Result<Option<String>, AllocError>
+    ensures { IfOk result (λ o. option_map string_bytes o ≡ first_value (found_of options.now) option.now) }
 {
-    match options.get_str("other") {
+    match options.get_str(option) {
         Some(name) => Ok(Some(String::from_str(alloc, name)?)),
         None => Ok(None),
     }
@@ -381,7 +388,7 @@ fn requested(alloc: Global, name: &str, options: &ArgMatches<'_>) -> Result<Requ
     let Some(hints) = read_hints(options.get_str("hints")) else {
         return Err(NoRequest::Wrong("'--hints' takes 'auto', 'always' or 'never'"));
     };
-    let other = other(alloc, options)?;
+    let other = named(alloc, options, "other")?;
     if wants_input_twice(&other, &files) {
         return Err(NoRequest::Wrong("'--other' and the stream can't both be standard input"));
     }
@@ -467,11 +474,19 @@ fn capture_asked(alloc: Global, name: &str, options: &ArgMatches<'_>) -> Result<
         Ok(job) => job,
         Err(what) => return mistake(alloc, usage_of(name), what),
     };
+    let torrent = named(alloc, options, "torrent")?;
     let files = files(alloc, options)?;
     if files.len() > 1 {
         return mistake(alloc, usage_of(name), ONE_FILE);
     }
-    Ok(Asked::Capture(job, files))
+    if wants_input_twice(&torrent, &files) {
+        return mistake(alloc, usage_of(name), TORRENT_TWICE);
+    }
+    Ok(Asked::Capture(CaptureRequest {
+        job,
+        torrent,
+        files,
+    }))
 }
 
 /// Returns what the options of `loop` ask for.

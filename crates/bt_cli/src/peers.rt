@@ -1,8 +1,9 @@
 //! The list of peers of `fetch`.
-ghost use Rattle.std.specs.Prelude.{◌≡◌, IfOk, ◌≤◌, length};
+ghost use Rattle.std.specs.Prelude.{IfOk};
 ghost use Rattle.std.specs.Io.KnownBytes.{Consumes};
 ghost use Rattle.bt_cli.specs.Lists.{IsListed};
 
+use crate::input::{NoInput, read_whole};
 use bt_feed::Source;
 use bt_magnet::{ListError, read_list};
 use bt_text::ended::ToolFault;
@@ -10,9 +11,6 @@ use std::alloc::Global;
 
 /// The greatest length of a list in bytes.
 const LONGEST: usize = 16_777_216;
-
-/// How many reads a list may take.
-const READS: u64 = 1 << 32;
 
 /// Why an input is no list of peers.
 #[derive(Clone, Copy, PartialEq, Eq, Debug)]
@@ -32,24 +30,11 @@ pub enum NoPeers {
 pub fn list_from<R: Source>(alloc: Global, reader: &mut R) -> Result<Vec<u8>, NoPeers>
     ensures { IfOk result (λ text. Consumes (R.seen reader.old).left (R.seen reader.new).left text.items) }
 {
-    let mut text = Vec::new(alloc);
-    let mut buffer = [0; 4096];
-    for _read in 0..READS {
-        match reader.read(&mut buffer) {
-            Ok(0) => return Ok(text),
-            Ok(count) => {
-                if count > LONGEST - text.len() {
-                    return Err(NoPeers::TooLong);
-                }
-                match text.extend_from_slice(&buffer[..count]) {
-                    Ok(()) => {}
-                    Err(_) => return Err(NoPeers::Fault(ToolFault::Memory)),
-                }
-            }
-            Err(_) => return Err(NoPeers::Fault(ToolFault::Read)),
-        }
+    match read_whole(alloc, reader, LONGEST) {
+        Ok(text) => Ok(text),
+        Err(NoInput::TooLong) => Err(NoPeers::TooLong),
+        Err(NoInput::Fault(fault)) => Err(NoPeers::Fault(fault)),
     }
-    Err(NoPeers::TooLong)
 }
 
 /// Returns the peers that the lines of a text name.

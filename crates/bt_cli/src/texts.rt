@@ -188,6 +188,13 @@ const JSON_OF_FETCH: OptionText = OptionText {
     help: "Writes a JSON object a line on standard error: one for each connection's end, and one for the summary",
 };
 
+const TORRENT_OF_CAPTURE: OptionText = OptionText {
+    name: "torrent",
+    alias: "",
+    value: "FILE",
+    help: "A .torrent, whose piece count the connections with its info hash have [default: none]",
+};
+
 const JSON_OF_CAPTURE: OptionText = OptionText {
     name: "json",
     alias: "",
@@ -390,7 +397,7 @@ pub(crate) const CAPTURE: CommandText = CommandText {
     name: "capture",
     usage: CAPTURE_USAGE,
     about: "Prints a report on each BitTorrent connection of a packet capture",
-    options: &[PIECES, JSON_OF_CAPTURE],
+    options: &[PIECES, TORRENT_OF_CAPTURE, LIMIT, JSON_OF_CAPTURE],
     operands: &[PACKETS],
     after: "\
 Example:

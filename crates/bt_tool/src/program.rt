@@ -6,7 +6,7 @@ ghost use Rattle.bt_fetch.specs.Wishes.{IsWish};
 
 use crate::piped::Piped;
 use bt_capture::{CaptureJob, run_capture};
-use bt_cli::capture::end_capture;
+use bt_cli::capture::{CaptureRequest, end_capture};
 use bt_cli::commands::{Asked, Job, Notice, Request};
 use bt_cli::ending::{end_by_fault, end_job, end_link, end_loop, end_text};
 use bt_cli::fetch::FetchJob;
@@ -18,6 +18,7 @@ use bt_cli::other::receiver_by;
 use bt_cli::peers::{NoPeers, list_from, peers_in};
 use bt_cli::run::{JobEnd, do_job, say};
 use bt_cli::serve::{ServeJob, end_serve, run_serve};
+use bt_cli::torrent::{end_torrent, job_for};
 use bt_ext::Rules;
 use bt_feed::Host;
 use bt_jobs::output::write_out;
@@ -47,6 +48,9 @@ const SCRIPT_AWAITED: &[u8] = b"bt_tool: a script is awaited on standard input\n
 
 /// What is printed if a capture is expected from a terminal.
 const CAPTURE_AWAITED: &[u8] = b"bt_tool: a capture is awaited on standard input\n";
+
+/// What is printed if a .torrent is expected from a terminal.
+const TORRENT_AWAITED: &[u8] = b"bt_tool: a .torrent is awaited on standard input\n";
 
 /// What is printed if metadata is expected from a terminal.
 const METADATA_AWAITED: &[u8] = b"bt_tool: metadata is awaited on standard input\n";
@@ -108,7 +112,7 @@ impl<'a, R: Files + Input + Net + Clock + RandomSource + AllocGlobal, W: Write, 
         match asked {
             Asked::Run(request) => self.run(request),
             Asked::Link(files) => self.link(files),
-            Asked::Capture(job, files) => self.capture(job, files),
+            Asked::Capture(request) => self.capture(request),
             Asked::Loop(rules, limit) => self.run_loop(*rules, *limit),
             Asked::Fetch(job) => self.fetch(job),
             Asked::Serve(job) => self.serve(job),
@@ -332,14 +336,45 @@ impl<'a, R: Files + Input + Net + Clock + RandomSource + AllocGlobal, W: Write, 
         end_capture(alloc, end, prefix, is_gone, &mut self.errors)
     }
 
+    /// As `capture_job`; `prefix` stands before the line of a fault.
+    fn capture_job_after(
+        &mut self,
+        prefix: &[u8],
+        name: &str,
+        job: &CaptureJob,
+    ) -> Result<CaptureJob, u8> {
+        let Some(mut reader) = self.open(name, TORRENT_AWAITED) else {
+            return Err(end_by_fault(ToolFault::Read, prefix, false, &mut self.errors));
+        };
+        match job_for(self.host.alloc(), job, &mut reader) {
+            Ok(job) => Ok(job),
+            Err(why) => Err(end_torrent(why, prefix, &mut self.errors)),
+        }
+    }
+
+    /// Returns the job, with the torrent whose file is named; or the exit status if that is none.
+    fn capture_job(&mut self, request: &CaptureRequest) -> Result<CaptureJob, u8> {
+        let Some(name) = &request.torrent else {
+            return Ok(request.job);
+        };
+        match self.prefix(name.as_str()) {
+            Ok(prefix) => self.capture_job_after(prefix.as_bytes(), name.as_str(), &request.job),
+            Err(_) => Err(self.fail(ToolFault::Memory)),
+        }
+    }
+
     /// Reports on the connections of a capture, and returns the exit status.
-    fn capture(&mut self, job: &CaptureJob, files: &[String]) -> u8 {
-        let name = match files {
+    fn capture(&mut self, request: &CaptureRequest) -> u8 {
+        let job = match self.capture_job(request) {
+            Ok(job) => job,
+            Err(status) => return status,
+        };
+        let name = match request.files.as_slice() {
             [] => "-",
             [name, ..] => name.as_str(),
         };
         match self.prefix(name) {
-            Ok(prefix) => self.capture_after(prefix.as_bytes(), name, job),
+            Ok(prefix) => self.capture_after(prefix.as_bytes(), name, &job),
             Err(_) => self.fail(ToolFault::Memory),
         }
     }

@@ -1,7 +1,0 @@
-use Rattle.std.proofs.Common.{length, ◌≤◌}
-use Rattle.std.specs.Io.KnownBytes.{Consumes}
-use Rattle.bt_cli.proofs.peers.list_from.Given as goal
-
--- what was read so far
-abbrev pub invariant-loop-read : goal.invariant-loop-read
-invariant-loop-read g l = Consumes (g.R.Source.seen l.initial.reader).left (g.R.Source.seen l.reader).left l.text.items × (length l.text.items ≤ 16777216)
