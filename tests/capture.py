@@ -5,7 +5,8 @@ usage: tests/capture.py [PROGRAM]
 
 PROGRAM is the built bt_tool, or else the script at the top of the repository. The expected reports are those that tests/btcap.py
 states, without the lines that only btcap has: uTP.
-The objects of `--json` say what these lines say, and nothing else.
+The objects of `--json` say what these lines say, and nothing else. With `--show` the rows stand before the report, and reports are the
+same.
 The sentences on reasons that bt_told defines have the words of tools/reasons.json.
 """
 import importlib.machinery
@@ -20,8 +21,10 @@ import tempfile
 sys.dont_write_bytecode = True
 ROOT = os.path.dirname(os.path.dirname(os.path.abspath(__file__)))
 # Options that only btcap has.
-OTHERS = {"--show", "--tool", "--piece"}
+OTHERS = {"--tool", "--piece"}
 ONLY_BTCAP = re.compile(r"uTP ")
+# A row of --show, in front of which `capture` has the connection's number.
+ROW = re.compile(r"\d* +\d+\.\d{6} [AB] ")
 # The status of a file that is no capture: a fault, as in all commands of bt_tool.
 FAULT = {2: 3}
 
@@ -37,6 +40,17 @@ def module_of(name):
 def reported(text):
     """The lines of a text that `capture` has too."""
     return "".join(line for line in text.splitlines(True) if not ONLY_BTCAP.match(line))
+
+
+def in_turn(text):
+    """The report of btcap on connection 0 as `capture` has it: after its rows, each after the connection's number."""
+    lines = text.splitlines(True)
+    rows = [line for line in lines if ROW.match(line)]
+    return "".join(["0" + line for line in rows] + [line for line in lines if line not in rows])
+
+
+def without_rows(text):
+    return "".join(line for line in text.splitlines(True) if not ROW.match(line))
 
 
 def fault_of(words):
@@ -133,9 +147,27 @@ def remark_lines(side, found):
     assert not found, found
 
 
+def row_of(found):
+    """The row that says what an object says."""
+    connection, time, _, side = (found.pop(key) for key in ("connection", "time", "packet", "side"))
+    remarks = "  (%s)" % ", ".join(found.pop("remarks")) if "remarks" in found else ""
+    if "verdict" in found:
+        words = "%d %s" % (found["offset"], verdict_of(found))
+    elif "gap" in found:
+        words = "%d (gap of %d bytes; nothing after it is shown)" % (found.pop("offset"), found.pop("gap"))
+    elif "closed" in found:
+        words = "%d (%s)" % (found.pop("offset"), found.pop("closed"))
+    else:
+        words, found = item_of(found), {}
+    assert not found, found
+    return "%d  %11s %s %s%s\n" % (connection, time, side, words, remarks)
+
+
 def lines_of(line):
     """The text that says what an object says."""
     found = json.loads(line, parse_float=str, object_pairs_hook=unique)
+    if "packet" in found:
+        return row_of(found)
     text = "connection %d  A %s > B %s" % (found.pop("connection"), found.pop("a"), found.pop("b"))
     if not found.pop("bittorrent"):
         assert not found, found
@@ -187,17 +219,22 @@ def main():
             words = [{"CAPTURE": path, "TORRENT": torrent}.get(word, word) for word in words]
             with open(path, "wb") as file:
                 file.write(capture)
-            wanted = reported(out), FAULT.get(status, status)
-            for given, data in (([path], None), (["-"], capture), (["--json", path], None)):
+            wanted = in_turn(reported(out)), FAULT.get(status, status)
+            ways = [([path], None), (["-"], capture), (["--json", path], None)]
+            if "--show" not in words:
+                ways += [(["--show", path], None), (["--json", "--show", path], None)]
+            for given, data in ways:
                 done = subprocess.run([program, "capture", *words, *given], input=data, capture_output=True, timeout=100)
                 found = done.stdout.decode(), done.returncode
                 if "--json" in given:
                     found = "".join(map(lines_of, found[0].splitlines(True))), found[1]
+                if "--show" in given:
+                    found = without_rows(found[0]), found[1]
                 said = fault_of(errors)
                 tried += 1
                 if found != wanted or (said not in done.stderr if said else done.stderr):
                     failed += 1
-                    print("capture: %s, %s: got\n%s\nexpected\n%s\nstandard error: %s" % (name, given[0][-7:], found, wanted, done.stderr))
+                    print("capture: %s, %s: got\n%s\nexpected\n%s\nstandard error: %s" % (name, " ".join(given)[-15:], found, wanted, done.stderr))
     print("capture: %d of %d as expected" % (tried - failed, tried))
     return int(failed > 0 or tried == 1)
 

@@ -105,6 +105,7 @@ pub record IsCaptureAsked (f : Found) (job : CaptureJob) : Type 0 where
   pub limit : capture_limit_in (first_value f (codes "limit")) ≡ Some job.terms.limit
   pub torrent : job.terms.torrent ≡ None
   pub json : job.json ≡ flag_in f (codes "json")
+  pub show : job.show ≡ flag_in f (codes "show")
 
 pub record IsCaptureRequested (f : Found) (r : CaptureRequest) : Type 0 where
   pub job : IsCaptureAsked f r.job

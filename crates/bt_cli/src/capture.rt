@@ -84,6 +84,7 @@ pub fn capture_in(options: &ArgMatches<'_>) -> Result<CaptureJob, &'static str>
         },
         show: false,
         json: is_given(options, "json"),
+        show: is_given(options, "show"),
     })
 }
 

@@ -195,11 +195,18 @@ const TORRENT_OF_CAPTURE: OptionText = OptionText {
     help: "A .torrent, whose piece count the connections with its info hash have [default: none]",
 };
 
+const ROWS_OF_CAPTURE: OptionText = OptionText {
+    name: "show",
+    alias: "",
+    value: "",
+    help: "Prints a row for each item, refusal, gap and close too, as it comes",
+};
+
 const JSON_OF_CAPTURE: OptionText = OptionText {
     name: "json",
     alias: "",
     value: "",
-    help: "Prints a JSON object a line: one for each connection",
+    help: "Prints a JSON object a line: one for each connection, and with '--show' one for each row",
 };
 
 const STREAM: OperandText = OperandText {
@@ -397,7 +404,13 @@ pub(crate) const CAPTURE: CommandText = CommandText {
     name: "capture",
     usage: CAPTURE_USAGE,
     about: "Prints a report on each BitTorrent connection of a packet capture",
-    options: &[PIECES, TORRENT_OF_CAPTURE, LIMIT, JSON_OF_CAPTURE],
+    options: &[
+        PIECES,
+        TORRENT_OF_CAPTURE,
+        LIMIT,
+        ROWS_OF_CAPTURE,
+        JSON_OF_CAPTURE,
+    ],
     operands: &[PACKETS],
     after: "\
 Example:
