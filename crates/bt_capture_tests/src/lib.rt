@@ -21,3 +21,5 @@ mod runs;
 mod streams;
 #[cfg(test)]
 mod told;
+#[cfg(test)]
+mod torrents;
