@@ -82,9 +82,8 @@ pub fn capture_in(options: &ArgMatches<'_>) -> Result<CaptureJob, &'static str>
             pieces,
             torrent: None,
         },
-        show: false,
-        json: is_given(options, "json"),
         show: is_given(options, "show"),
+        json: is_given(options, "json"),
     })
 }
 
