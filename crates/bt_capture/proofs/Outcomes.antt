@@ -226,7 +226,10 @@ part_written o left before now run r empty i p failed =
       r = r;
       read = i.read;
       fs = i.follows.fs;
-      over = over_by o before i.packets run i.terms i.time (stops_of o.target before (arrivals i.packets) [] run i.follows);
+      over = record {
+        finished = finished_by o i.packets i.follows.fs run i.terms i.time known.finished;
+        shared = λ k. ((i.follows.shared k).taken, (i.follows.shared k).share);
+      };
       text = w.0;
       texts_are = w.1;
       lines = utp_lines o.form i.packets;
@@ -240,13 +243,13 @@ part_written o left before now run r empty i p failed =
       failed = subst (λ (n : ℕ). Grew n now.failed) known.tells.calm failed;
     }
 
-pub not_added : {T : Type 0} (f : CaptureFault) (o : Origin) (left : Option (List ℕ)) (before now : TargetSeen) (run : Run) (r : Reading) → IsEmpty run.teller
+pub not_added : (T : Type 0) (f : CaptureFault) (o : Origin) (left : Option (List ℕ)) (before now : TargetSeen) (run : Run) (r : Reading) → IsEmpty run.teller
     → (i : IsTelling o left before [] run r) → Adds {T = T} (utp_lines run.teller.form i.packets) before now (Err f) → IsToldTo f o left now
-not_added Write o left before now run r empty i a = part_written o left before now run r empty i a.0 a.1
-not_added Memory o left before now run r empty i a = subst (ArePartlyWritten o left) (sym a) (partly o left before [] run r i)
-not_added (File f) o left before now run r empty i a = absurd a
-not_added Read o left before now run r empty i a = absurd a
-not_added Turns o left before now run r empty i a = absurd a
+not_added T Write o left before now run r empty i a = part_written o left before now run r empty i a.0 a.1
+not_added T Memory o left before now run r empty i a = subst (ArePartlyWritten o left) (sym a) (partly o left before [] run r i)
+not_added T (File f) o left before now run r empty i a = absurd a
+not_added T Read o left before now run r empty i a = absurd a
+not_added T Turns o left before now run r empty i a = absurd a
 
 -- The text couldn't be made or written.
 pub told_fault : (f : CaptureFault) (o : Origin) (left : Option (List ℕ)) (now : TargetSeen) (es : List (Pair × Held)) (run : Run) (r : Reading) → IsOfTelling f

@@ -9,12 +9,12 @@ returns-in-Ok-write_utp g c o left r i =
     told_unread c.args.fault o left (g.W.Target.seen c.finish.new.writer) (g.W.Target.seen c.write_utp.new.writer) c.finish.new.run r c.requires c.in-Ok.ensures.empty told
     (c.in-Ok-write_utp.ensures (datagrams told.packets) told.utp).0
 
+pub returns-in-Err-write_utp : goal.returns-in-Err-write_utp
+returns-in-Err-write_utp g c o left r i =
+    let told = c.in-Ok.ensures.after o left r i in
+    not_added (Unit {0}) c.in-Err-write_utp.other o left (g.W.Target.seen c.finish.new.writer) (g.W.Target.seen c.write_utp.new.writer) c.finish.new.run r c.in-Ok.ensures.empty told
+    (c.in-Err-write_utp.ensures (datagrams told.packets) told.utp)
+
 pub returns-in-Err : goal.returns-in-Err
 returns-in-Err g c o left r i =
-    let told = c.in-Ok.ensures.after o left r i in
-    not_added c.in-Err.other o left (g.W.Target.seen c.finish.new.writer) (g.W.Target.seen c.write_utp.new.writer) c.finish.new.run r c.in-Ok.ensures.empty told
-    (c.in-Err.ensures (datagrams told.packets) told.utp)
-
-pub returns-in-Err-finish : goal.returns-in-Err-finish
-returns-in-Err-finish g c o left r i =
-    told_fault c.in-Err-finish.other o left (g.W.Target.seen c.finish.new.writer) [] c.finish.new.run r c.in-Err-finish.ensures.fault (c.in-Err-finish.ensures.after o left r i)
+    told_fault c.in-Err.other o left (g.W.Target.seen c.finish.new.writer) [] c.finish.new.run r c.in-Err.ensures.fault (c.in-Err.ensures.after o left r i)

@@ -9,13 +9,13 @@ returns-in-Ok-write_utp g c o left i ended =
     c.end_of.ensures o left (g.W.Target.seen c.finish.new.writer) (g.W.Target.seen c.write_utp.new.writer) told c.in-Ok.ensures.empty ended
     (c.in-Ok-write_utp.ensures (datagrams told.packets) told.utp)
 
+pub returns-in-Err-write_utp : goal.returns-in-Err-write_utp
+returns-in-Err-write_utp g c o left i ended =
+    let told = c.in-Ok.ensures.after o left c.args.packets.now i in
+    not_added (Unit {0}) c.in-Err-write_utp.fault o left (g.W.Target.seen c.finish.new.writer) (g.W.Target.seen c.write_utp.new.writer) c.finish.new.run c.args.packets.now c.in-Ok.ensures.empty told
+    (c.in-Err-write_utp.ensures (datagrams told.packets) told.utp)
+
 pub returns-in-Err : goal.returns-in-Err
 returns-in-Err g c o left i ended =
-    let told = c.in-Ok.ensures.after o left c.args.packets.now i in
-    not_added c.in-Err.fault o left (g.W.Target.seen c.finish.new.writer) (g.W.Target.seen c.write_utp.new.writer) c.finish.new.run c.args.packets.now c.in-Ok.ensures.empty told
-    (c.in-Err.ensures (datagrams told.packets) told.utp)
-
-pub returns-in-Err-finish : goal.returns-in-Err-finish
-returns-in-Err-finish g c o left i ended =
-    told_fault c.in-Err-finish.fault o left (g.W.Target.seen c.finish.new.writer) [] c.finish.new.run c.args.packets.now c.in-Err-finish.ensures.fault
-    (c.in-Err-finish.ensures.after o left c.args.packets.now i)
+    told_fault c.in-Err.fault o left (g.W.Target.seen c.finish.new.writer) [] c.finish.new.run c.args.packets.now c.in-Err.ensures.fault
+    (c.in-Err.ensures.after o left c.args.packets.now i)

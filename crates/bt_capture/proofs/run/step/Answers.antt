@@ -1,6 +1,6 @@
 use Rattle.std.proofs.Common.{rules, ◌∙◌, [], ◌∷◌, ◌++◌}
 use Rattle.bt_pcap.specs.Steps.{captured}
-use Rattle.bt_capture.proofs.Outcomes.{read_packet, read_quiet, hands_none, hands_some, told_read, next_number, given_up}
+use Rattle.bt_capture.proofs.Outcomes.{read_packet, read_quiet, hands_none, hands_some, hands_fault, told_read, next_number, given_up}
 use Rattle.bt_capture.proofs.run.step.Goals as goal
 
 pub returns-in-Err-take-clause-after : goal.returns-in-Err-take-clause-after
@@ -14,4 +14,9 @@ returns-in-Err-take-clause-after c o left now i =
 pub returns-in-Ok-None-clause-after : goal.returns-in-Ok-None-clause-after
 returns-in-Ok-None-clause-after c o left now i =
     let goes = hands_none c.args.packets.now _ c.take.result (search rules) c.take.follows.holds-at-none.0 in
+    told_read o left left now c.args.run.now.table c.args.run.now c.args.packets.now _ (λ packets h. read_quiet o left packets c.args.packets.now _ goes h) i
+
+pub returns-in-Err-clause-after : goal.returns-in-Err-clause-after
+returns-in-Err-clause-after c o left now i =
+    let goes = hands_fault c.args.packets.now _ c.take.result c.in-Err.fault (search rules) c.take.follows.holds-at-none.0 in
     told_read o left left now c.args.run.now.table c.args.run.now c.args.packets.now _ (λ packets h. read_quiet o left packets c.args.packets.now _ goes h) i

@@ -1,10 +1,12 @@
-use Rattle.std.proofs.Common.{sym, subst, ◌++◌, List, OnOk, append-nil}
+use Rattle.std.proofs.Common.{sym, subst, ap, ◌++◌, List, OnOk, append-nil}
 use Rattle.bt_packet.specs.declared.utp.Utp.{Utp}
 use Rattle.bt_utp.specs.States.{AreCounted}
 use Rattle.bt_capture.specs.FlowTexts.{datagrams_in}
 use Rattle.bt_capture.proofs.FlowLines.{ok_any}
-use Rattle.bt_capture.specs.Arrivals.{arrivals_in}
-use Rattle.bt_capture.specs.Following.{Goes}
+use Rattle.bt_capture.specs.Arrivals.{Arrival, arrivals_in}
+use Rattle.bt_capture.specs.declared.connections.Run.{Run}
+use Rattle.bt_capture.specs.Following.{Goes, Stops}
+use Rattle.bt_capture.proofs.Reported.{follows_same, stops_of}
 use Rattle.bt_capture.specs.Sights.{seen}
 use Rattle.bt_capture.specs.declared.sight.Sight.{Sight}
 use Rattle.bt_capture.proofs.connections.Run.take_sight.Goals as goal
@@ -22,3 +24,13 @@ returns-in-Segment-clause-utp c =
     let P : Sight → Type 0 = λ s. OnOk c.take_segment.result ((ds : List Utp) → AreCounted ds old → AreCounted (ds ++ datagrams_in (seen s)) new) in
     subst P (sym c.in-Segment.is)
     (ok_any c.take_segment.result (λ ds are. subst (λ l. AreCounted l new) (sym (append-nil ds)) (subst (AreCounted ds) (sym c.take_segment.ensures.utp) are)))
+
+pub returns-in-Err-clause-goes : goal.returns-in-Err-clause-goes
+returns-in-Err-clause-goes c start now came i =
+    let old = c.args.self.now in
+    let new : Run = record c.skip.new.self { utp = c.take.new.self } in
+    let P : Sight → Type 0 = λ s. Stops start now (came ++ arrivals_in c.args.when.packet c.args.when.nanos (seen s)) new in
+    let Q : List Arrival → Type 0 = λ l. Stops start now l new in
+    let follows = follows_same start now came old.table old new (ap (λ r. r.terms) c.skip.ensures) (ap (λ r. r.start) c.skip.ensures) (ap (λ r. r.lost) c.skip.ensures)
+        (ap (λ r. r.teller) c.skip.ensures) i in
+    subst P (sym c.in-Utp.is) (subst Q (sym (append-nil came)) (stops_of start now came old.table new follows))
