@@ -37,11 +37,19 @@ const FOUR: &[u8] = b"connection 0  A 10.0.0.1:1000 > B 10.0.0.2:6881\n\
 /// How many connections there may be.
 const MOST: u32 = 16_384;
 
+/// The rows before it: each handshake once both are there, and the refusal at its packet.
+const ROWS: &[u8] = b"0     0.002000 A 0 handshake 0000000000000000 000102030405060708090a0b0c0d0e0f10111213 \
+2d4141303030312d616161616161616161616161\n\
+0     0.003000 B 0 handshake 0000000000000000 000102030405060708090a0b0c0d0e0f10111213 \
+2d4242303030312d626262626262626262626262\n\
+0     0.004000 A 73 refused message=1 at=73 BadIndex\n";
+
 /// How a run ends over a source that gives `most` bytes a call, and what it writes.
 fn run(
     rt: &HostRuntime,
     file: Vec<u8>,
     most: usize,
+    show: bool,
 ) -> (Result<CaptureEnd, CaptureFault>, MemTarget) {
     let mut reader = MemSource::new(file, most.max(1), None);
     let mut writer = MemTarget::new(Vec::new(rt.alloc()), 4_096, None);
@@ -51,7 +59,7 @@ fn run(
             pieces: Some(4),
             torrent: None,
         },
-        show: false,
+        show,
         json: false,
     };
     let Ok(keys) = RandomState::new(rt) else {
@@ -77,7 +85,7 @@ fn is_reported(end: &Result<CaptureEnd, CaptureFault>, text: &[u8]) -> bool {
 fn a_have_out_of_range(rt: HostRuntime) -> Result<(), Fail> {
     let mut right = true;
     for most in [1, 7, 65_536] {
-        let (end, writer) = run(&rt, Vec::from_slice(rt.alloc(), FILE)?, most);
+        let (end, writer) = run(&rt, Vec::from_slice(rt.alloc(), FILE)?, most, false);
         right = right && is_reported(&end, writer.bytes());
     }
     assert!(rt; right);
@@ -107,7 +115,7 @@ fn a_flood(rt: HostRuntime) -> Result<(), Fail> {
         push_other(&mut file, k)?;
     }
     file.extend_from_slice(&FILE[FILE.len() - 65..])?;
-    let (end, writer) = run(&rt, file, 65_536);
+    let (end, writer) = run(&rt, file, 65_536, false);
     let all = Ok(CaptureEnd {
         packets: 16_390,
         skipped: 0,
@@ -118,5 +126,13 @@ fn a_flood(rt: HostRuntime) -> Result<(), Fail> {
     });
     let text = writer.bytes();
     assert!(rt; end == all && text.starts_with(&FOUR[..48]) && count_reports(text) == 16_386);
+    Ok(())
+}
+
+#[test]
+fn a_have_shown(rt: HostRuntime) -> Result<(), Fail> {
+    let (_, writer) = run(&rt, Vec::from_slice(rt.alloc(), FILE)?, 65_536, true);
+    let right = writer.bytes().strip_prefix(ROWS) == Some(FOUR);
+    assert!(rt; right);
     Ok(())
 }
