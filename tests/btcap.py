@@ -540,6 +540,32 @@ def passed_over():
 """
 
 
+def open_requests():
+    """Names, captures and lines. B answers the second of two requests, and A closes: nothing is said of the first if B ends inside a
+    message, if bytes of B are lost, or without the Fast Extension. A reject is an answer, too: B closes with the second one open."""
+    full, none, fast = "0000000000100005", "0000000000100000", "0000000000000004"
+    cut, lost = "refused message=4 at=95 EndInside (cut by the close of the other end)", "ok messages=3 bytes=92 (up to the gap)"
+    gap, said = "    gap at 92: 9 bytes aren't in the capture\n", "  A sent a request that got no answer: 90 request 0 1 1\n"
+    reject = message(b"\x10", number(0, 0, 1))
+    for name, bits, answers, drop, free, notes, sent, last, closer, remark in (
+            ("inside a message", full, [block_of(0, 1), have(1)[:3]], None, cut, "", 95, "78 piece 0 1 1", "A", ""),
+            ("before a gap", full, [block_of(0, 1), have(1)], 11, lost, gap, 92, "78 piece 0 1 1", "A", ""),
+            ("without the Fast Extension", none, [block_of(0, 1)], None, "ok messages=2 bytes=87", "", 87, "73 piece 0 1 1", "A", ""),
+            ("after a reject", fast, [reject], None, "ok messages=3 bytes=95", "", 95, "78 reject 0 0 1", "B", said)):
+        first = message(b"\x0f") if bits != none else b""
+        left, right = handshakes(reserved=bits)
+        found = Talk().say("A", left + first).say("B", right + first + message(b"\x01")).say("A", request(0, 0, 1) + request(0, 1, 1))
+        for it in answers:
+            found.say("B", it)
+        at, size = len(found.packets), len(left + first) + 34
+        packets = [it for k, it in enumerate(found.close(closer).packets) if k != drop]
+        options, ok = "--reserved %s --metadata-id 0" % bits, "ok messages=%d bytes=%d" % (2 + bool(first), size)
+        lines = report("-AA0001-000000000000", size, ok, ok, options) + report("-BB0001-000000000000", sent, free, free, options, "B", notes)
+        lines += "  %s closed first, by FIN, at 0.%03d000 s\n" % (closer, at)
+        ends = ["    B had sent %d bytes, last: %s\n" % (sent, last), "    A had sent %d bytes, last: %d request 0 1 1\n" % (size, size - 17)]
+        yield name, pcap(frames(packets)), NAMES + lines + "".join(ends if closer == "A" else ends[::-1]) + remark
+
+
 def dropped():
     """libtorrent closes at a block of a byte that nobody had asked for: neither direction is refused."""
     left, right = handshakes()
@@ -635,6 +661,7 @@ def rows():
     yield "the two directions together", [], *together(), b"", 0
     yield "requests without an answer", [], *choked(), b"", 0
     yield "a request that is passed over", [], *passed_over(), b"", 0
+    yield from (("an open request " + name, [], file, lines, b"", 0) for name, file, lines in open_requests())
     yield from ((name, words, file, lines, b"", status) for name, words, file, lines, status, _ in drops())
     yield "uTP", [], *utp(), b"no BitTorrent connection in 5 packets", 3
     yield "no packet", [], whole[:24], "", b"no BitTorrent connection in 0 packets", 3
