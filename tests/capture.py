@@ -14,9 +14,11 @@ import importlib.util
 import json
 import os
 import re
+import select
 import subprocess
 import sys
 import tempfile
+import time
 
 sys.dont_write_bytecode = True
 ROOT = os.path.dirname(os.path.dirname(os.path.abspath(__file__)))
@@ -180,6 +182,40 @@ def lines_of(line):
     return text + "\n" + "".join(lines)
 
 
+def lines_within(seconds, pipe, count):
+    """The next lines of a pipe, `count` of them or as many as come in time."""
+    text, end = b"", time.monotonic() + seconds
+    while text.count(b"\n") < count and select.select([pipe], [], [], max(0, end - time.monotonic()))[0]:
+        more = os.read(pipe.fileno(), 65536)
+        if not more:
+            break
+        text += more
+    return text.decode().splitlines(True)
+
+
+def is_live(program, made):
+    """Whether each row comes with the packet that completes it, while the pipe stays open: after the opening one by one."""
+    link, framed = made.frames(made.talk())
+    done = subprocess.run([program, "capture", "--show", "-"], input=made.pcap((link, framed)), capture_output=True)
+    rows = [line for line in done.stdout.decode().splitlines(True) if ROW.match(line)]
+    # the time of a packet in milliseconds is that of its rows
+    due = [sum(round(1000 * float(row.split()[1])) <= at for row in rows) for at, _ in framed]
+    with subprocess.Popen([program, "capture", "--show", "-"], stdin=subprocess.PIPE, stdout=subprocess.PIPE) as running:
+        running.stdin.write(made.pcap((link, [])))
+        found, steps = [], 0
+        for k, one in enumerate(framed):
+            running.stdin.write(made.pcap((link, [one]))[24:])
+            running.stdin.flush()
+            if steps or k == len(framed) // 2:
+                steps += 1
+                found += lines_within(10, running.stdout, due[k] - len(found))
+                if found != rows[:due[k]]:
+                    running.kill()
+                    return False
+        running.stdin.close()
+        return steps > 3 and len(rows) > 8
+
+
 def read(*names):
     with open(os.path.join(ROOT, *names), encoding="utf8") as file:
         return file.read()
@@ -235,6 +271,10 @@ def main():
                 if found != wanted or (said not in done.stderr if said else done.stderr):
                     failed += 1
                     print("capture: %s, %s: got\n%s\nexpected\n%s\nstandard error: %s" % (name, " ".join(given)[-15:], found, wanted, done.stderr))
+    tried += 1
+    if not is_live(program, btcap):
+        failed += 1
+        print("capture: rows of a pipe don't come with their packets")
     print("capture: %d of %d as expected" % (tried - failed, tried))
     return int(failed > 0 or tried == 1)
 
