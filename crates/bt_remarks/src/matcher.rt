@@ -1,9 +1,9 @@
 //! What the events of a connection show together.
-ghost use Rattle.std.specs.Prelude.{◌≡◌, ◌||◌, ℕ, Bool, List, [], ◌∷◌, OnOk, OnErr, IfOk, IfSome};
+ghost use Rattle.std.specs.Prelude.{◌≡◌, ◌||◌, ℕ, Bool, List, [], ◌∷◌, OnOk, OnErr, IfOk, IfSome, unwrap_or};
 ghost use Rattle.bt_remarks.specs.declared.events.Side.{Side};
 ghost use Rattle.bt_remarks.specs.Said.{Told, Other, told, message_of, other, Blocks, Metadata};
 ghost use Rattle.bt_remarks.specs.Known.{number_after, overflowed};
-ghost use Rattle.bt_remarks.specs.Remarked.{remarks_on, tally_of};
+ghost use Rattle.bt_remarks.specs.Remarked.{remarks_on, tally_after, tally_of};
 ghost use Rattle.bt_remarks.specs.Steps.{IsHalfAfter};
 ghost use Rattle.bt_remarks.specs.Ends.{unanswered, AreFoundOf, IsAsked};
 ghost use Rattle.bt_remarks.specs.Matched.{IsHalf, IsTurn};
@@ -42,6 +42,24 @@ fn remarks_on(mine: &Half, theirs: &Half, heard: &Heard) -> Remarks
     }
 }
 
+/// Returns the tally after an event, if the event has a remark: else it is the same.
+///
+/// # Errors
+/// `AllocError` if there are 2^64 of a remark.
+fn counted(tally: &Tally, remarks: Remarks, mark: u64) -> Result<Option<Tally>, AllocError>
+    ensures { IfOk result (λ after. unwrap_or after tally.now ≡ tally_after remarks mark tally.now) }
+{
+    match remarks {
+        Remarks {
+            unasked: false,
+            choked: false,
+            again: false,
+            elsewhere: false,
+        } => Ok(None),
+        _ => Ok(Some(tally.with(remarks, mark)?)),
+    }
+}
+
 /// Takes an event of the first side, and returns its remarks.
 fn turn(
     mine: &mut Half,
@@ -58,9 +76,11 @@ fn turn(
     ensures tally { OnErr result (tally.new ≡ tally.old) }
 {
     let remarks = remarks_on(mine, theirs, heard);
-    let counted = tally.with(remarks, heard.mark)?;
+    let counted = counted(tally, remarks, heard.mark)?;
     note(mine, theirs, heard, number)?;
-    *tally = counted;
+    if let Some(counted) = counted {
+        *tally = counted;
+    }
     Ok(remarks)
 }
 
