@@ -41,3 +41,8 @@ has_taken (Ok x) false fault t room room' stays some none talk empty =
     let rows = some k.0 k.1 k.2 in has_first room room' rows.0 empty rows.1
 has_taken (Err x) lost fault t room room' stays some none talk empty =
     record { showing_is = ap (λ h. h.showing) none.heading; rows = []; text = none.empty }
+
+-- a fact of an error
+pub on_err : {A E P : Type 0} (r : Result A E) → P → OnErr r P
+on_err (Ok x) p = tt
+on_err (Err e) p = p
