@@ -1,5 +1,5 @@
 -- Rows show further items.
-use Rattle.std.proofs.Common.{◌≡◌, ◌∙◌, ℕ, Bool, true, List, [], ◌∷◌, ◌++◌, append-nil, append_assoc, Option, Some, None, unwrap_or, ◌-◌, refl, sym, ap, subst, if◌then◌else◌}
+use Rattle.std.proofs.Common.{◌≡◌, ◌∙◌, ℕ, Bool, true, List, [], ◌∷◌, ◌++◌, append-nil, append_assoc, Option, Some, None, unwrap_or, ◌-◌, Result, Ok, Err, OnErr, refl, sym, ap, subst, if◌then◌else◌}
 use Rattle.std.specs.List.{filter}
 use Rattle.std.proofs.lemmas.Grind.{flat_map-append}
 use Rattle.std.proofs.lemmas.List.Elements.{filter-append}
@@ -19,6 +19,7 @@ use Rattle.bt_talk.specs.declared.rows.Heading.{Heading}
 use Rattle.bt_talk.specs.declared.rows.Rows.{Rows}
 use Rattle.bt_talk.specs.declared.watch.Watch.{Watch}
 use Rattle.bt_talk.specs.Courses.{refusal_rows, close_rows, gap_rows, no_remarks}
+use Rattle.bt_talk.specs.Inside.{inside_rows}
 use Rattle.bt_talk.specs.Rows.{Shown, row_at, shown_text, shown_texts, is_item}
 use Rattle.bt_talk.specs.Shows.{Appends}
 use Rattle.bt_talk.specs.Shown.{IsItemRow, AreItemRows, IsShown, GoesShown, Turn, told_by, items_by, AreTurnRows, IsSeen, ShowsOthers}
@@ -229,3 +230,22 @@ gap_shown r r' grown side start first gap when offset e f g i =
 pub gap_unshown : (r : Rows) (grown : Option When) (side : Side) (start : ℕ) (first : Option Gap) → first ≡ None
     → Appends (gap_rows r.heading grown side start first) r r
 gap_unshown r grown side start first e = subst (λ (o : Option Gap). Appends (gap_rows r.heading grown side start o) r r) (sym e) (appends_none r)
+
+pub inside_none : (h : Heading) (when : Option When) (side : Side) (r : Option Refusal) → filter is_item (inside_rows h when side r) ≡ []
+inside_none h when side None = refl
+inside_none h when side (Some r) = refl
+
+pub inside_shown : (r r' : Rows) (grown : Option When) (side : Side) (o : Option Refusal) (f : Refusal) (when : When) → o ≡ Some f
+    → when ≡ unwrap_or grown (record { nanos = r.heading.start; packet = 0 }) → Appends (row_at r.heading when side f.at (deed.Refused f) no_remarks ∷ []) r r'
+    → Appends (inside_rows r.heading grown side o) r r'
+inside_shown r r' grown side o f when e g i =
+    subst (λ (x : Option Refusal). Appends (inside_rows r.heading grown side x) r r') (sym e)
+    (subst (λ (w : When). Appends (row_at r.heading w side f.at (deed.Refused f) no_remarks ∷ []) r r') g i)
+
+pub inside_unshown : (r : Rows) (grown : Option When) (side : Side) (o : Option Refusal) → o ≡ None → Appends (inside_rows r.heading grown side o) r r
+inside_unshown r grown side o e = subst (λ (x : Option Refusal). Appends (inside_rows r.heading grown side x) r r) (sym e) (appends_none r)
+
+-- Rows were appended before an error.
+pub rows_before : {A E : Type 0} (r : Result A E) (rows : List Shown) (old new : Rows) → Appends rows old new → OnErr r ((xs : List Shown) × Appends xs old new)
+rows_before (Ok x) rows old new i = tt
+rows_before (Err e) rows old new i = (rows, i)

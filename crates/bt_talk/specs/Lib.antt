@@ -16,3 +16,4 @@ pub mod Ends
 pub mod Closing
 pub mod Talks
 pub mod Unanswered
+pub mod Inside

@@ -80,7 +80,13 @@ impl Courses {
     /// Notes a segment of a side, and returns how the side closes with it, if it hasn't closed before.
     ///
     /// `grows` says whether its stream grew, or its first byte came.
-    pub(crate) fn take(&mut self, side: Side, flags: Flags, grows: bool, when: When) -> Option<Means>
+    pub(crate) fn take(
+        &mut self,
+        side: Side,
+        flags: Flags,
+        grows: bool,
+        when: When,
+    ) -> Option<Means>
         ensures closes { result ≡ closes_by flags (course_of side self.old).is_closed }
         ensures after { (s : Side) → course_of s self.new ≡ (if is_same side s then course_after flags grows when (course_of s self.old) else course_of s self.old) }
     {

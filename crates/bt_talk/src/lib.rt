@@ -7,6 +7,7 @@ mod closing;
 mod course;
 mod direction;
 mod ends;
+mod inside;
 mod refused;
 mod replay;
 mod room;

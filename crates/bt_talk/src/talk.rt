@@ -11,6 +11,7 @@ use crate::closing::{Closed, Closing, When, is_end, opens};
 use crate::course::Courses;
 use crate::direction::Direction;
 use crate::ends::Ends;
+use crate::inside::ended_inside;
 use crate::refused::Judgement;
 use crate::replay::{Mark, Opened, judge_both};
 use crate::room::Room;
@@ -150,6 +151,7 @@ impl Talk {
     ghost use Rattle.bt_talk.specs.Cuts.{IsLastBefore, cut_after};
     ghost use Rattle.std.specs.List.{filter};
     ghost use Rattle.bt_talk.specs.Courses.{closes_by, course_of};
+    ghost use Rattle.bt_talk.specs.Inside.{EndsInside, ShowsInside};
     ghost use Rattle.bt_talk.specs.Replays.{IsOpened, HasOpened};
     ghost use Rattle.bt_talk.specs.Rooms.{rows_in};
     ghost use Rattle.bt_talk.specs.Rows.{Shown, is_item};
@@ -413,7 +415,12 @@ impl Talk {
     }
 
     /// Takes the next segment, to whose packet the watch has come.
-    fn take_next(&mut self, segment: &Segment, when: When, room: &mut Room) -> Result<(), AllocError>
+    fn take_next(
+        &mut self,
+        segment: &Segment,
+        when: When,
+        room: &mut Room,
+    ) -> Result<(), AllocError>
         ensures taken { OnOk result ((a b : Past) → IsTalk a b self.old → (took : Takes segment.now when a b self.old self.new)
             × (is_in_opening self.old ≡ true → HasSettled segment.now when a b self.old self.new took self.old.watch.rows self.new.watch.rows)) }
         ensures order { OnOk result ((a b : Past) → IsTalk a b self.old → is_in_opening self.old ≡ false
@@ -545,9 +552,47 @@ impl Talk {
         Ok(())
     }
 
+    /// Returns the refusal of a side's stream that ends inside an item, though nothing cut it.
+    fn end_inside(&self, side: Side) -> Option<Refusal>
+        ensures { (a b : Past) → IsTalk a b self.now → EndsInside side a b self.now result }
+    {
+        let closed = has_closed(side, &self.closing.closed);
+        let gaps = self.gaps(side);
+        ended_inside(closed, &gaps.first, &self.verdicts(side))
+    }
+
+    /// Appends to the rows of the room the row of a side's stream that ends inside an item, though nothing cut it.
+    fn show_inside(&self, side: Side, room: &mut Room) -> Result<(), AllocError>
+        ensures inside { OnOk result (ShowsInside side self.now (rows_in room.old) (rows_in room.new)) }
+        ensures err { OnErr result (Appends [] (rows_in room.old) (rows_in room.new)) }
+    {
+        let Some(refusal) = self.end_inside(side) else {
+            return Ok(());
+        };
+        let begin = When {
+            nanos: room.rows.heading.start,
+            packet: 0,
+        };
+        let when = self.courses.of(side).grown.unwrap_or(begin);
+        let deed = Deed::Refused(refusal);
+        room.rows.put(when, side, refusal.at, deed, NO_REMARKS)?;
+        Ok(())
+    }
+
+    /// Appends to the rows of the room the last ones of a side.
+    fn show_last(&self, side: Side, room: &mut Room) -> Result<(), AllocError>
+        ensures others { OnOk result ((others : List Shown) × (filter is_item others ≡ []) × Appends others (rows_in room.old) (rows_in room.new)) }
+        ensures err { OnErr result ((rows : List Shown) × Appends rows (rows_in room.old) (rows_in room.new)) }
+    {
+        self.show_inside(side, room)?;
+        self.show_gap(side, room)?;
+        Ok(())
+    }
+
     /// Appends to the rows of the room the row of each side's first gap, at the packet with which the last byte before it came.
     ///
-    /// Without a handshake there are none.
+    /// If a side closed first and its stream, which has no gap, ends inside an item, that refusal has a row in its place. Without a
+    /// handshake there are none.
     ///
     /// # Errors
     /// `AllocError` when out of memory.
@@ -558,8 +603,8 @@ impl Talk {
         if !self.is_torrent() {
             return Ok(());
         }
-        self.show_gap(Side::A, room)?;
-        self.show_gap(Side::B, room)?;
+        self.show_last(Side::A, room)?;
+        self.show_last(Side::B, room)?;
         Ok(())
     }
 
