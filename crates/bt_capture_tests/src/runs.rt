@@ -22,7 +22,8 @@ const FILE: &[u8] = b"\xd4\xc3\xb2\xa1\x02\0\x04\0\0\0\0\0\0\0\0\0\xff\xff\0\0e\
     \x03\xe8\x1a\xe1\0\0\0\xa9\0\0\x029P\x18\x03\xe8\0\0\0\0\0\0\0\x05\x04\0\0\0\x09";
 
 /// Its last packet.
-const AGAIN: &[u8] = b"\x01\0\0\0\xa0\x0f\0\01\0\0\01\0\0\0E\0\01\0\x01\0\0@\x06\0\0\x0a\0\0\x01\x0a\0\0\x02\
+const AGAIN: &[u8] =
+    b"\x01\0\0\0\xa0\x0f\0\01\0\0\01\0\0\0E\0\01\0\x01\0\0@\x06\0\0\x0a\0\0\x01\x0a\0\0\x02\
     \x03\xe8\x1a\xe1\0\0\0\xa9\0\0\x029P\x18\x03\xe8\0\0\0\0\0\0\0\x05\x04\0\0\0\x09";
 
 /// The report if the torrent has four pieces.
@@ -39,7 +40,8 @@ const FOUR: &[u8] = b"connection 0  A 10.0.0.1:1000 > B 10.0.0.2:6881\n\
 \x20 still open at the capture's end\n";
 
 /// The rows before it: each handshake once both are there, and the refusal at its packet.
-const ROWS: &[u8] = b"0     0.002000 A 0 handshake 0000000000000000 000102030405060708090a0b0c0d0e0f10111213 \
+const ROWS: &[u8] =
+    b"0     0.002000 A 0 handshake 0000000000000000 000102030405060708090a0b0c0d0e0f10111213 \
 2d4141303030312d616161616161616161616161\n\
 0     0.003000 B 0 handshake 0000000000000000 000102030405060708090a0b0c0d0e0f10111213 \
 2d4242303030312d626262626262626262626262\n\
@@ -100,7 +102,9 @@ fn a_have_out_of_range(rt: HostRuntime) -> Result<(), Fail> {
 fn push_other(file: &mut Vec<u8>, k: u32) -> Result<(), AllocError> {
     file.extend_from_slice(b"\x01\0\0\0\xa0\x0f\0\0)\0\0\0)\0\0\0E\0\0)\0\x01\0\0@\x06\0\0")?;
     file.extend_from_slice(&(0x0b00_0000 | k).to_be_bytes())?;
-    file.extend_from_slice(b"\x0a\0\0\x02\x03\xe8\x1a\xe1\0\0\0e\0\0\x01\xf5P\x18\x03\xe8\0\0\0\0x")?;
+    file.extend_from_slice(
+        b"\x0a\0\0\x02\x03\xe8\x1a\xe1\0\0\0e\0\0\x01\xf5P\x18\x03\xe8\0\0\0\0x",
+    )?;
     Ok(())
 }
 
