@@ -4,7 +4,7 @@
 usage: tests/capture.py [PROGRAM]
 
 PROGRAM is the built bt_tool, or else the script at the top of the repository. The expected reports are those that tests/btcap.py
-states, without the lines that only btcap has: uTP.
+states.
 The objects of `--json` say what these lines say, and nothing else. With `--show` the rows stand before the report, and reports are the
 same.
 The sentences on reasons that bt_told defines have the words of tools/reasons.json.
@@ -24,7 +24,6 @@ sys.dont_write_bytecode = True
 ROOT = os.path.dirname(os.path.dirname(os.path.abspath(__file__)))
 # Options that only btcap has.
 OTHERS = {"--tool", "--piece"}
-ONLY_BTCAP = re.compile(r"uTP ")
 # A row of --show, in front of which `capture` has the connection's number.
 ROW = re.compile(r"\d* +\d+\.\d{6} [AB] ")
 # The status of a file that is no capture: a fault, as in all commands of bt_tool.
@@ -37,11 +36,6 @@ def module_of(name):
     module = importlib.util.module_from_spec(importlib.util.spec_from_loader(name, loader))
     loader.exec_module(module)
     return module
-
-
-def reported(text):
-    """The lines of a text that `capture` has too."""
-    return "".join(line for line in text.splitlines(True) if not ONLY_BTCAP.match(line))
 
 
 def in_turn(text):
@@ -165,9 +159,16 @@ def row_of(found):
     return "%d  %11s %s %s%s\n" % (connection, time, side, words, remarks)
 
 
+def utp_line(source, target, packets, at_least=False):
+    count = "at least %d" % packets if at_least else packets
+    return "uTP  %s > %s  %s packets, not read: this is BitTorrent over UDP (BEP 29)\n" % (source, target, count)
+
+
 def lines_of(line):
     """The text that says what an object says."""
     found = json.loads(line, parse_float=str, object_pairs_hook=unique)
+    if "utp" in found:
+        return utp_line(**found["utp"])
     if "packet" in found:
         return row_of(found)
     text = "connection %d  A %s > B %s" % (found.pop("connection"), found.pop("a"), found.pop("b"))
@@ -255,7 +256,7 @@ def main():
             words = [{"CAPTURE": path, "TORRENT": torrent}.get(word, word) for word in words]
             with open(path, "wb") as file:
                 file.write(capture)
-            wanted = in_turn(reported(out)), FAULT.get(status, status)
+            wanted = in_turn(out), FAULT.get(status, status)
             ways = [([path], None), (["-"], capture), (["--json", path], None)]
             if "--show" not in words:
                 ways += [(["--show", path], None), (["--json", "--show", path], None)]

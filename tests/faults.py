@@ -148,7 +148,7 @@ COMMANDS = [
 def capture_of(name):
     """A capture of tests/btcap.py, which nothing is wrong with, and what is written of it at the end."""
     rows = capture.module_of("btcap").rows()
-    return next(("capture", packets, [(None, capture.reported(text).encode())]) for what, _, packets, text, _, _ in rows if what == name)
+    return next(("capture", packets, [(None, text.encode())]) for what, _, packets, text, _, _ in rows if what == name)
 
 
 CAPTURE = capture_of("two connections")
