@@ -19,10 +19,12 @@ const FILE: &[u8] = b"\xd4\xc3\xb2\xa1\x02\0\x04\0\0\0\0\0\0\0\0\0\xff\xff\0\0e\
     \xc8\xd5\x1a\xe1\0\x1c\0\0\x01\0\x03\x84\0\0\0\x01\0\0\0\x02\0\0\0\x03\0\x04\0\x05";
 
 /// What is written of it.
-const LINE: &[u8] = b"uTP  10.0.0.1:51413 > 10.0.0.2:6881  3 packets, not read: this is BitTorrent over UDP (BEP 29)\n";
+const LINE: &[u8] =
+    b"uTP  10.0.0.1:51413 > 10.0.0.2:6881  3 packets, not read: this is BitTorrent over UDP (BEP 29)\n";
 
 /// What is written of it as a JSON object.
-const OBJECT: &[u8] = b"{\"utp\":{\"source\":\"10.0.0.1:51413\",\"target\":\"10.0.0.2:6881\",\"packets\":3}}\n";
+const OBJECT: &[u8] =
+    b"{\"utp\":{\"source\":\"10.0.0.1:51413\",\"target\":\"10.0.0.2:6881\",\"packets\":3}}\n";
 
 /// One of the two ends, by its host's last byte and its port.
 fn end(last: u8, port: u16) -> Address {
@@ -59,12 +61,13 @@ fn near_ids_count(rt: HostRuntime) -> Result<(), Fail> {
     }
     let counted = flows.counted(0);
     assert!(rt;
-        counted == Some(Counted {
-            source: end(1, 51413),
-            target: end(2, 6881),
-            count: 3,
-            is_least: false,
-        })
+        counted
+            == Some(Counted {
+                source: end(1, 51413),
+                target: end(2, 6881),
+                count: 3,
+                is_least: false,
+            })
     );
     Ok(())
 }

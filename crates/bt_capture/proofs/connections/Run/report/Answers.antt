@@ -30,9 +30,9 @@ returns-in-Ok-clause-goes c start now came p es absent i =
     let P : Type 0 = HasRows showing c.end_opening.new.room in
     let Z : Connection → Type 0 = λ x. (a b : Past) → IsTalk a b x.talk → P in
     let shown : Z c.deref_mut.result.now = λ a b t.
-        let rows = c.in-Ok.ensures.rows a b t in
-        subst (λ (s : Showing). HasRows s c.end_opening.new.room) (ap (λ (h : Heading). h.showing) c.turn_to.ensures.heading ∙ c.showing.ensures)
-        (has_first c.turn_to.new.self c.end_opening.new.room rows.0 c.turn_to.ensures.empty rows.1) in
+    let rows = c.in-Ok.ensures.rows a b t in
+    subst (λ (s : Showing). HasRows s c.end_opening.new.room) (ap (λ (h : Heading). h.showing) c.turn_to.ensures.heading ∙ c.showing.ensures)
+    (has_first c.turn_to.new.self c.end_opening.new.room rows.0 c.turn_to.ensures.empty rows.1) in
     let R : Talk → Type 0 = λ t. OnOk c.report.result (P → Says c.args.self.now.teller c.report.new.self c.deref-in-Ok-2.result.now.number c.unwrap_or-from.result t) in
     let S : ℕ → Type 0 = λ n. OnOk c.report.result (P → Says c.args.self.now.teller c.report.new.self c.deref-in-Ok-2.result.now.number n talk) in
     reported c.report.result start now came p c.args.connection es c.args.self.now _ absent some refl refl refl
