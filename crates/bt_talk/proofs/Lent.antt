@@ -5,7 +5,6 @@ use Rattle.std.specs.List.{filter}
 use Rattle.std.proofs.lemmas.Bool.{cases_Bool}
 use Rattle.bt_remarks.specs.declared.events.Side.{Side}
 use Rattle.bt_remarks.specs.declared.events.Side.TheVariants.{A, B}
-use Rattle.bt_remarks.specs.declared.matcher.Matcher.{Matcher}
 use Rattle.bt_packet.specs.declared.tcp.Segment.{Segment}
 use Rattle.bt_wire.specs.declared.item.Item.{Item}
 use Rattle.bt_remarks.specs.Said.{Told}
@@ -18,17 +17,15 @@ use Rattle.bt_talk.specs.declared.rows.Rows.{Rows}
 use Rattle.bt_talk.specs.declared.stage.Stage.{Stage}
 use Rattle.bt_talk.specs.declared.talk.Talk.{Talk}
 use Rattle.bt_talk.specs.declared.terms.Terms.{Terms}
-use Rattle.bt_talk.specs.declared.watch.Notes.{Notes}
 use Rattle.bt_talk.specs.declared.watch.Watch.{Watch}
-use Rattle.bt_talk.specs.Closing.{Closes}
 use Rattle.bt_talk.specs.Cuts.{cut_after}
 use Rattle.bt_talk.specs.Pasts.{Past, HasSent}
 use Rattle.bt_talk.specs.Replays.{HasOpened}
 use Rattle.bt_talk.specs.Rows.{Shown, is_item}
-use Rattle.bt_talk.specs.Shown.{IsShown, AreTurnRows}
+use Rattle.bt_talk.specs.Shown.{AreTurnRows}
 use Rattle.bt_talk.specs.Shows.{Appends}
 use Rattle.bt_talk.specs.Stages.{IsDirection, IsHeard, is_opening}
-use Rattle.bt_talk.specs.Talks.{IsTalk, Takes, IsEnd, IsSender, Shows, HasSettled, is_in_opening, flow_of, cut_of, of_side, closing_of}
+use Rattle.bt_talk.specs.Talks.{IsTalk, Takes, IsSender, Shows, HasSettled, is_in_opening, flow_of, cut_of, of_side}
 use Rattle.bt_talk.specs.Watching.{IsWatched}
 use Rattle.bt_talk.proofs.Closes.{closes_same}
 use Rattle.bt_talk.proofs.Shown.{appends_more, appends_same, rows_same}

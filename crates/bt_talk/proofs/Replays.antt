@@ -1,5 +1,5 @@
 -- How far the bytes of the opening are judged.
-use Rattle.std.proofs.Common.{◌≡◌, ◌∙◌, ℕ, Bool, List, [], ◌∷◌, ◌++◌, append-nil, append_assoc, drop, take, Option, Some, None, refl, sym, ap, subst}
+use Rattle.std.proofs.Common.{◌≡◌, ◌∙◌, ℕ, List, [], ◌∷◌, ◌++◌, append-nil, append_assoc, drop, take, Option, Some, None, refl, sym, ap, subst}
 use Rattle.bt_feed.specs.Pumps.{Took}
 use Rattle.bt_intro.specs.declared.settling.Receiver.{Receiver}
 use Rattle.bt_intro.specs.Hellos.{IsFirstHello}

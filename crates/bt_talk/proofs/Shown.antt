@@ -22,7 +22,7 @@ use Rattle.bt_talk.specs.Courses.{refusal_rows, close_rows, gap_rows, no_remarks
 use Rattle.bt_talk.specs.Inside.{inside_rows}
 use Rattle.bt_talk.specs.Rows.{Shown, row_at, shown_text, shown_texts, is_item}
 use Rattle.bt_talk.specs.Shows.{Appends}
-use Rattle.bt_talk.specs.Shown.{IsItemRow, AreItemRows, IsShown, GoesShown, Turn, told_by, items_by, AreTurnRows, IsSeen, ShowsOthers}
+use Rattle.bt_talk.specs.Shown.{AreItemRows, GoesShown, AreTurnRows, IsSeen, ShowsOthers}
 use Rattle.bt_talk.specs.Watching.{IsWatched, Watches, told_of, tell, said_by, with_items}
 use Rattle.bt_talk.proofs.Watching.{watched_more, watched_same, turned, nothing_watched}
 

@@ -1,5 +1,5 @@
 -- The rows of what the sides of a connection do, as text.
-use Rattle.std.specs.Prelude.{◌≡◌, ℕ, ◌-◌, Bool, true, false, List, []}
+use Rattle.std.specs.Prelude.{ℕ, ◌-◌, Bool, true, false, List, []}
 use Rattle.std.specs.List.{flat_map}
 use Rattle.bt_remarks.specs.declared.events.Remarks.{Remarks}
 use Rattle.bt_remarks.specs.declared.events.Side.{Side}

@@ -1,5 +1,4 @@
-use Rattle.std.proofs.Common.{Option, None, refl, sym, subst}
-use Rattle.bt_wire.specs.declared.item.Refusal.{Refusal}
+use Rattle.std.proofs.Common.{None, refl, sym, subst}
 use Rattle.bt_talk.specs.declared.stage.Stage.{Stage}
 use Rattle.bt_talk.specs.Stages.{IsStage, IsRefusedIn}
 use Rattle.bt_talk.proofs.direction.Direction.refusal.Goals as goal

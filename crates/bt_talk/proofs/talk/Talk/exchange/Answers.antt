@@ -1,4 +1,4 @@
-use Rattle.std.proofs.Common.{◌≡◌, ◌∙◌, ◌++◌, Bool, List, [], sym, ap, subst}
+use Rattle.std.proofs.Common.{◌∙◌, ◌++◌, Bool, List, sym, ap, subst}
 use Rattle.bt_remarks.specs.declared.events.Side.{Side}
 use Rattle.bt_remarks.specs.declared.events.Side.TheVariants.{A, B}
 use Rattle.bt_talk.specs.declared.stage.Stage.{Stage}

@@ -1,4 +1,4 @@
-use Rattle.std.proofs.Common.{◌≡◌, ◌∙◌, ◌-◌, ℕ, unwrap_or, ap}
+use Rattle.std.proofs.Common.{◌∙◌, ◌-◌, ℕ, unwrap_or, ap}
 use Rattle.bt_talk.specs.declared.closing.When.{When}
 use Rattle.bt_talk.specs.declared.course.Course.{Course}
 use Rattle.bt_talk.specs.Courses.{course_of}
