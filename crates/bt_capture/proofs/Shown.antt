@@ -1,5 +1,5 @@
 -- The rows of a connection, which the room has.
-use Rattle.std.proofs.Common.{◌≡◌, ◌∙◌, ℕ, Bool, true, false, List, [], ◌++◌, Result, Ok, Err, OnOk, OnErr, refl, sym, ap, subst}
+use Rattle.std.proofs.Common.{◌≡◌, ◌∙◌, ℕ, Bool, true, false, List, [], ◌++◌, Result, Ok, Err, OnOk, OnErr, refl, sym, ap}
 use Rattle.std.proofs.lemmas.Grind.{flat_map-append}
 use Rattle.bt_talk.specs.declared.room.Room.{Room}
 use Rattle.bt_talk.specs.declared.rows.Showing.{Showing}

@@ -1,6 +1,6 @@
 -- A connection of a capture, by the segments that it took.
 use Rattle.bt_talk.specs.declared.terms.Terms.{Terms}
-use Rattle.std.specs.Prelude.{◌≡◌, ℕ, true, false, List, [], ◌∷◌, ◌++◌, Option}
+use Rattle.std.specs.Prelude.{◌≡◌, true, false, List, [], ◌∷◌, ◌++◌}
 use Rattle.std.specs.List.{list_any}
 use Rattle.bt_packet.specs.Tcp.{segment}
 use Rattle.bt_packet.specs.declared.tcp.Segment.{Segment}

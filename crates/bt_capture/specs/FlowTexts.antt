@@ -1,5 +1,5 @@
 -- The packets of uTP of a capture (BEP 29), and the lines on them.
-use Rattle.std.specs.Prelude.{ℕ, ◌==◌, Bool, List, [], ◌∷◌, ◌++◌, if◌then◌else◌}
+use Rattle.std.specs.Prelude.{ℕ, ◌==◌, Bool, List, [], ◌∷◌, if◌then◌else◌}
 use Rattle.std.specs.List.{flat_map}
 use Rattle.bt_packet.specs.declared.utp.Utp.{Utp}
 use Rattle.bt_pcap.specs.Formats.{Captured}

@@ -1,4 +1,4 @@
-use Rattle.std.proofs.Common.{rules, ◌≡◌, refl, sym, ap, subst, List, [], ◌∷◌, ◌++◌}
+use Rattle.std.proofs.Common.{rules, ◌≡◌, sym, ap, subst, List, [], ◌∷◌, ◌++◌}
 use Rattle.bt_talk.specs.declared.terms.Terms.{Terms}
 use Rattle.bt_capture.specs.Arrivals.{Arrival, arrived}
 use Rattle.bt_capture.specs.Connections.{IsOpen}
