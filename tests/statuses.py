@@ -1330,7 +1330,7 @@ def has_help(program, name):
     with_values = re.findall(r"^ +--(\S+) <\w+> .* \[default: .+\]$", text, re.M)
     return (texts[1:] == [texts[0]] * 2 and texts[0][1:] == (b"", 0) and "\n\nUsage: %s\n" % usage in text
             and sections == ["Usage", "Options", "Example", "Exit status"] and sorted(lines) == sorted(options.split() + ["help"])
-            and set(lines) - set(with_values) <= {"help", "json", "torrent"}
+            and set(lines) - set(with_values) <= {"help", "json", "show", "torrent"}
             and "\nExample:\n  bt_tool %s " % name in text and "\n  2    Usage error" in text)
 
 
