@@ -72,6 +72,29 @@ impl Rows {
         self.heading = heading;
     }
 
+    /// Appends the row of an item, if rows are shown.
+    ///
+    /// # Errors
+    /// `AllocError` when out of memory.
+    #[inline(always)]
+    pub(crate) fn put_item(
+        &mut self,
+        when: When,
+        side: Side,
+        said: &Said,
+        remarks: Remarks,
+    ) -> Result<(), AllocError>
+        ensures ok { OnOk result (Appends (row_at self.old.heading when side said.now.offset (Deed.Item said.now.words) remarks ∷ []) self.old self.new) }
+        ensures err { OnErr result (Appends [] self.old self.new) }
+    {
+        match self.heading.showing {
+            Showing::Nothing => Ok(()),
+            Showing::Text | Showing::Objects => {
+                self.put(when, side, said.offset, Deed::Item(said.words), remarks)
+            }
+        }
+    }
+
     /// Appends a row, if rows are shown.
     ///
     /// # Errors

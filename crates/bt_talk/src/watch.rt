@@ -107,6 +107,7 @@ fn event_of<'a>(view: &View<'a>) -> Event<'a>
 }
 
 /// Keeps the first item that has a remark.
+#[inline(always)]
 fn keep_first(first: &mut Option<Said>, has: bool, said: &Said)
     ensures { first.new ≡ first_said has said.now first.old }
 {
@@ -143,6 +144,7 @@ const NO_NOTES: Notes = Notes {
 
 impl Notes {
     /// Keeps an item with its remarks.
+    #[inline(always)]
     fn note(&mut self, said: Said, remarks: Remarks)
         ensures { self.new ≡ noted_by remarks said self.old }
     {
@@ -155,6 +157,7 @@ impl Notes {
 }
 
 /// Keeps an item of a side with its remarks.
+#[inline(always)]
 fn note(side: Side, a: &mut Notes, b: &mut Notes, said: Said, remarks: Remarks)
     ensures a { a.new ≡ (if is_same side sides.A then noted_by remarks said a.old else a.old) }
     ensures b { b.new ≡ (if is_same side sides.B then noted_by remarks said b.old else b.old) }
@@ -364,8 +367,7 @@ impl Sink for Watch {
         match self.matcher.take(&heard) {
             Ok(remarks) => {
                 note(self.side, &mut self.a, &mut self.b, said, remarks);
-                let deed = Deed::Item(said.words);
-                match self.rows.put(self.when, self.side, at, deed, remarks) {
+                match self.rows.put_item(self.when, self.side, &said, remarks) {
                     Ok(()) => Ok(()),
                     Err(_) => {
                         self.failed = self.failed.saturating_add(1);
