@@ -1,63 +1,29 @@
 #!/usr/bin/env python3
-"""Runs `bt_tool capture` on the captures of tests/btcap.py, from a file and from a pipe, and compares its output and exit status.
+"""Runs `bt_tool capture` on captures that tests/made_captures.py makes, from a file and from a pipe, and compares its output and exit status.
 
 usage: tests/capture.py [PROGRAM]
 
-PROGRAM is the built bt_tool, or else the script at the top of the repository. The expected reports are those that tests/btcap.py
-states, without the lines that only btcap has: uTP.
-The objects of `--json` say what these lines say, and nothing else. With `--show` the rows stand before the report, and reports are the
-same.
-The sentences on reasons that bt_told defines have the words of tools/reasons.json.
+PROGRAM is the built bt_tool, or else the script at the top of the repository. The objects of `--json` say what the lines of the text
+say, and nothing else. `bt_tool check` gives the same verdicts on the streams that `--stream` writes, with the options that are printed.
+The sentences on reasons that bt_told defines have the words of tools/reasons.json, and that has what docs/RULES.md says. Where
+tcpdump is installed and may capture, two ends talk over loopback, and their capture is read too.
 """
-import importlib.machinery
-import importlib.util
 import json
 import os
 import re
+import shutil
+import socket
 import subprocess
 import sys
 import tempfile
+import threading
+import time
 
 sys.dont_write_bytecode = True
+sys.path.insert(0, os.path.dirname(os.path.abspath(__file__)))
+import made_captures as made  # noqa: E402
+
 ROOT = os.path.dirname(os.path.dirname(os.path.abspath(__file__)))
-# Options that only btcap has.
-OTHERS = {"--tool", "--piece"}
-ONLY_BTCAP = re.compile(r"uTP ")
-# A row of --show, in front of which `capture` has the connection's number.
-ROW = re.compile(r"\d* +\d+\.\d{6} [AB] ")
-# The status of a file that is no capture: a fault, as in all commands of bt_tool.
-FAULT = {2: 3}
-
-
-def module_of(name):
-    """The script of this name beside this one."""
-    loader = importlib.machinery.SourceFileLoader(name, os.path.join(ROOT, "tests", name + ".py"))
-    module = importlib.util.module_from_spec(importlib.util.spec_from_loader(name, loader))
-    loader.exec_module(module)
-    return module
-
-
-def reported(text):
-    """The lines of a text that `capture` has too."""
-    return "".join(line for line in text.splitlines(True) if not ONLY_BTCAP.match(line))
-
-
-def in_turn(text):
-    """The report of btcap on connection 0 as `capture` has it: after its rows, each after the connection's number."""
-    lines = text.splitlines(True)
-    rows = [line for line in lines if ROW.match(line)]
-    return "".join(["0" + line for line in rows] + [line for line in lines if line not in rows])
-
-
-def without_rows(text):
-    return "".join(line for line in text.splitlines(True) if not ROW.match(line))
-
-
-def fault_of(words):
-    """What `capture` says on standard error for what btcap says."""
-    if b"no torrent" in words:
-        return b"fault: torrent: "
-    return words if b"BitTorrent" in words or b"inside a packet" in words else words and b"fault: capture: "
 
 
 def unique(pairs):
@@ -147,27 +113,37 @@ def remark_lines(side, found):
     assert not found, found
 
 
-def row_of(found):
-    """The row that says what an object says."""
-    connection, time, _, side = (found.pop(key) for key in ("connection", "time", "packet", "side"))
-    remarks = "  (%s)" % ", ".join(found.pop("remarks")) if "remarks" in found else ""
+def deed_of(found):
+    """The offset and the words of what a row tells."""
     if "verdict" in found:
-        words = "%d %s" % (found["offset"], verdict_of(found))
-    elif "gap" in found:
-        words = "%d (gap of %d bytes; nothing after it is shown)" % (found.pop("offset"), found.pop("gap"))
-    elif "closed" in found:
-        words = "%d (%s)" % (found.pop("offset"), found.pop("closed"))
-    else:
-        words, found = item_of(found), {}
-    assert not found, found
-    return "%d  %11s %s %s%s\n" % (connection, time, side, words, remarks)
+        offset = found["offset"]
+        return "%d %s" % (offset, verdict_of(found))
+    offset = found.get("offset")
+    if "gap" in found:
+        return "%d (gap of %d bytes; nothing after it is shown)" % (offset, found["gap"])
+    return "%d (%s)" % (offset, found["closed"]) if "closed" in found else item_of(found)
+
+
+def row_line(found):
+    """The line of a row."""
+    head = "%d  %11s %s " % (found.pop("connection"), found.pop("time"), found.pop("side"))
+    assert found.pop("packet") > 0
+    remarks = found.pop("remarks", [])
+    return head + deed_of(found) + ("  (%s)" % ", ".join(remarks) if remarks else "") + "\n"
+
+
+def utp_line(source, target, packets, at_least=False):
+    count = "at least %d" % packets if at_least else packets
+    return "uTP  %s > %s  %s packets, not read: this is BitTorrent over UDP (BEP 29)\n" % (source, target, count)
 
 
 def lines_of(line):
-    """The text that says what an object says."""
+    """The text that says what an object says: a report, a row, or packets of uTP."""
     found = json.loads(line, parse_float=str, object_pairs_hook=unique)
-    if "packet" in found:
-        return row_of(found)
+    if "utp" in found:
+        return utp_line(**found["utp"])
+    if "side" in found:
+        return row_line(found)
     text = "connection %d  A %s > B %s" % (found.pop("connection"), found.pop("a"), found.pop("b"))
     if not found.pop("bittorrent"):
         assert not found, found
@@ -180,8 +156,8 @@ def lines_of(line):
     return text + "\n" + "".join(lines)
 
 
-def read(*names):
-    with open(os.path.join(ROOT, *names), encoding="utf8") as file:
+def read(name):
+    with open(os.path.join(ROOT, name), encoding="utf8") as file:
         return file.read()
 
 
@@ -195,48 +171,171 @@ def words_of(reason, text):
 
 def other_words():
     """The reasons whose sentences have other words in bt_told's definitions than in tools/reasons.json."""
-    text = read("crates", "bt_told", "specs", "Whys.antt")
-    for reason, row in json.loads(read("tools", "reasons.json")).items():
+    text = read("crates/bt_told/specs/Whys.antt")
+    for reason, row in json.loads(read("tools/reasons.json")).items():
         said = (words for key, words in row.items() if key.startswith("words"))
         if sorted(part for words in said for part in re.split(r"\{\w+\}", words) if part) != words_of(reason, text):
             yield reason
 
 
-def main():
-    program = sys.argv[1] if len(sys.argv) > 1 else os.path.join(ROOT, "bt_tool")
-    tried, failed = 1, 0
+def documented():
+    """Each reason of docs/RULES.md, with its rules, its places (what stands under At and under When) and its section."""
+    found, head = {}, None
+    for line in read("docs/RULES.md").splitlines():
+        cells = [cell.strip() for cell in line.strip().strip("|").split("|")] if line.startswith("|") else None
+        if cells is None or cells[0] == "Reason":
+            head = cells
+        elif head and re.match(r"[A-Z]\w+", cells[0]):
+            row = dict(zip(head, cells))
+            reason = found.setdefault(cells[0], {"places": []})
+            if "When" in row:
+                reason["rules"] = row["Rules"]
+                reason["places"].append({"at": row["At"], "where": row["When"]})
+            else:
+                reason["section"] = row["Section"]
+    return found
+
+
+def reasons_differ():
+    """What the documents and tools/reasons.json say differently of a reason."""
+    table, told = json.loads(read("tools/reasons.json")), documented()
+    wanted = {name: {key: reason[key] for key in ("places", "rules", "section")} for name, reason in table.items()}
+    return ["%s: %s and %s" % (name, wanted.get(name), told.get(name)) for name in sorted({*wanted, *told}) if wanted.get(name) != told.get(name)]
+
+
+def read_all(end, size):
+    while size > 0:
+        size -= len(end.recv(65536)) or size
+
+
+def serve(server):
+    end = server.accept()[0]
+    read_all(end, len(made.FETCHING))
+    end.sendall(made.SERVING)
+    end.recv(1)
+    end.close()
+
+
+def capture_of(file):
+    """Captures two ends over loopback, and returns their ports, or None where nothing can be captured."""
+    with socket.create_server(("127.0.0.1", 0)) as server:
+        port = server.getsockname()[1]
+        words = ["-i", "lo", "--immediate-mode", "-U", "-B", "65536", "-w", file, "tcp port %d" % port]
+        dump = subprocess.Popen(["tcpdump", *words], stderr=subprocess.PIPE)
+        # it says so once it captures, and ends where it may not
+        if not any(b"listening on" in line for line in iter(dump.stderr.readline, b"")):
+            dump.wait()
+            return None
+        server_thread = threading.Thread(target=serve, args=[server])
+        server_thread.start()
+        with socket.create_connection(("127.0.0.1", port)) as client:
+            ports = client.getsockname()[1], port
+            client.sendall(made.FETCHING)
+            read_all(client, len(made.SERVING))
+        server_thread.join()
+    time.sleep(0.5)
+    dump.terminate()
+    dump.communicate()
+    return ports
+
+
+def is_real_read(program, folder):
+    """Whether a capture by tcpdump gives both verdicts, or None where nothing can be captured."""
+    file = os.path.join(folder, "real.pcap")
+    ports = shutil.which("tcpdump") and capture_of(file)
+    if not ports:
+        return None
+    ended = subprocess.run([program, "capture", file], capture_output=True, text=True)
+    wanted = "connection 0  A 127.0.0.1:%d > B 127.0.0.1:%d\n" % ports + made.A_LINES + made.B_LINES + made.CLOSE
+    found = re.sub(r"at \d+\.\d{6} s", "at 0.057000 s", ended.stdout)
+    if (found, ended.stderr, ended.returncode) == (wanted, "", 0):
+        return True
+    print("capture: a real capture: expected:\n%sgot:\n%s%s" % (wanted, found, ended.stderr))
+    return False
+
+
+def rows_told(lines):
+    """The text of the objects on a line each: of rows, of reports, and of packets of uTP."""
+    return "".join(map(lines_of, lines.splitlines(True)))
+
+
+def streams_of(program, path, number=0):
+    """Both streams of a connection, as --stream writes them."""
+    return [subprocess.run([program, "capture", "--stream", "%d-%s" % (number, side), path], capture_output=True).stdout for side in "AB"]
+
+
+def is_written(program, folder):
+    """Whether --stream writes the two streams."""
+    path = keep(folder, "whole.pcap", made.pcap(made.frames(made.talk())))
+    return streams_of(program, path) == [made.FETCHING, made.SERVING]
+
+
+def is_said_again(program, folder, capture):
+    """Whether `check` gives the verdicts again on the streams that --stream writes, with the options that are printed."""
+    path = keep(folder, "again.pcap", capture)
+    lines = subprocess.run([program, "capture", path], capture_output=True, text=True).stdout
+    said = re.findall(r"^    free (.*)\n    bep  (.*)\n(?:    why  .*\n)?    options (.*)$", lines, re.M)
+    again = []
+    for stream, (_, _, options) in zip(streams_of(program, path), said):
+        words = [program, "check", *options.split(), keep(folder, "stream.bin", stream), "--rules"]
+        again.append((*(subprocess.run([*words, rules], capture_output=True, text=True).stdout.strip() for rules in ("free", "bep")), options))
+    return len(said) == 2 and again == said
+
+
+def keep(folder, name, data):
+    path = os.path.join(folder, name)
+    with open(path, "wb") as file:
+        file.write(data)
+    return path
+
+
+def is_as(out, found):
+    return out(found) if callable(out) else found == out
+
+
+def runs_of(name, words, capture, out):
+    """The words, the bytes of standard input, and whether objects are written: of a file, of a pipe, and of a file with --json."""
+    yield [*words, "CAPTURE"], None, False
+    yield [*words, "-"], capture, False
+    if not callable(out):
+        yield ["--json", *words, "CAPTURE"], None, True
+
+
+def differences(program, folder):
+    """What is wrong with each run; an empty text is right."""
+    paths = {"TORRENT": keep(folder, "a.torrent", made.TORRENT), "CAPTURE": os.path.join(folder, "capture")}
+    for name, words, capture, out, errors, status in made.rows():
+        keep(folder, "capture", capture)
+        for given, data, is_json in runs_of(name, words, capture, out):
+            done = subprocess.run([program, "capture", *(paths.get(word, word) for word in given)], input=data, capture_output=True, timeout=100)
+            found = done.stdout.decode()
+            found = rows_told(found) if is_json else found
+            right = is_as(out, found) and done.returncode == status and (errors in done.stderr if errors else not done.stderr)
+            yield "" if right else "%s, %s: got\n%s\nexpected\n%s\nstandard error: %s\nstatus: %d" % (name, given, found, out, done.stderr, done.returncode)
+    yield "" if is_written(program, folder) else "--stream writes other bytes"
+    for capture in (made.pcap(made.frames(made.talk())), made.donthave()[0], made.donthave(*made.ONE_ID)[0], made.donthave(*made.NO_ID)[0]):
+        yield "" if is_said_again(program, folder, capture) else "the options that are printed give other verdicts"
+    yield "" if made.example("refused.pcap") == made.fault()[0] else "examples/refused.pcap isn't the capture of a fault"
     for reason in other_words():
-        failed = 1
-        print("capture: %s has other words in bt_told than in tools/reasons.json" % reason)
-    with tempfile.TemporaryDirectory() as folder:
-        btcap = module_of("btcap")
-        path, torrent = os.path.join(folder, "capture"), os.path.join(folder, "a.torrent")
-        with open(torrent, "wb") as file:
-            file.write(btcap.TORRENT)
-        for name, words, capture, out, errors, status in btcap.rows():
-            if OTHERS & {*words} or callable(out):
-                continue
-            words = [{"CAPTURE": path, "TORRENT": torrent}.get(word, word) for word in words]
-            with open(path, "wb") as file:
-                file.write(capture)
-            wanted = in_turn(reported(out)), FAULT.get(status, status)
-            ways = [([path], None), (["-"], capture), (["--json", path], None)]
-            if "--show" not in words:
-                ways += [(["--show", path], None), (["--json", "--show", path], None)]
-            for given, data in ways:
-                done = subprocess.run([program, "capture", *words, *given], input=data, capture_output=True, timeout=100)
-                found = done.stdout.decode(), done.returncode
-                if "--json" in given:
-                    found = "".join(map(lines_of, found[0].splitlines(True))), found[1]
-                if "--show" in given:
-                    found = without_rows(found[0]), found[1]
-                said = fault_of(errors)
-                tried += 1
-                if found != wanted or (said not in done.stderr if said else done.stderr):
-                    failed += 1
-                    print("capture: %s, %s: got\n%s\nexpected\n%s\nstandard error: %s" % (name, " ".join(given)[-15:], found, wanted, done.stderr))
-    print("capture: %d of %d as expected" % (tried - failed, tried))
-    return int(failed > 0 or tried == 1)
+        yield "%s has other words in bt_told than in tools/reasons.json" % reason
+    yield from ("the words of a reason: " + text for text in reasons_differ())
+
+
+def main():
+    program = os.path.abspath(sys.argv[1] if len(sys.argv) > 1 else os.path.join(ROOT, "bt_tool"))
+    with tempfile.TemporaryDirectory(prefix="capture-tests-") as folder:
+        found = list(differences(program, folder))
+        # a busy machine may lose packets
+        real = is_real_read(program, folder) or is_real_read(program, folder)
+    if real is None:
+        print("capture: no real capture: tcpdump isn't installed or may not capture")
+    else:
+        found.append("" if real else "a real capture")
+    for text in filter(None, found):
+        print("capture: " + text)
+    wrong = sum(map(bool, found))
+    print("capture: %d of %d as expected" % (len(found) - wrong, len(found)))
+    return int(wrong > 0)
 
 
 if __name__ == "__main__":
