@@ -11,6 +11,7 @@ tcpdump is installed and may capture, two ends talk over loopback, and their cap
 import json
 import os
 import re
+import select
 import shutil
 import socket
 import subprocess
@@ -282,6 +283,41 @@ def is_said_again(program, folder, capture):
     return len(said) == 2 and again == said
 
 
+def lines_within(seconds, pipe, count):
+    """The next lines of a pipe, `count` of them or as many as come in time."""
+    text, end = b"", time.monotonic() + seconds
+    while text.count(b"\n") < count and select.select([pipe], [], [], max(0, end - time.monotonic()))[0]:
+        more = os.read(pipe.fileno(), 65536)
+        if not more:
+            break
+        text += more
+    return text.decode().splitlines(True)
+
+
+def is_live(program):
+    """Whether each row comes with the packet that completes it, while the pipe stays open: after the opening one by one."""
+    link, framed = made.frames(made.talk())
+    data = made.pcap((link, framed))
+    done = subprocess.run([program, "capture", "--show", "-"], input=data, capture_output=True)
+    rows = [line for line in done.stdout.decode().splitlines(True) if re.match(r"0 +\d", line)]
+    # the time of a packet in milliseconds is that of its rows
+    due = [sum(round(1000 * float(row.split()[1])) <= at for row in rows) for at, _ in framed]
+    with subprocess.Popen([program, "capture", "--show", "-"], stdin=subprocess.PIPE, stdout=subprocess.PIPE) as running:
+        running.stdin.write(data[:24])
+        found, steps = [], 0
+        for k, one in enumerate(framed):
+            running.stdin.write(made.pcap((link, [one]))[24:])
+            running.stdin.flush()
+            if steps or k == len(framed) // 2:
+                steps += 1
+                found += lines_within(10, running.stdout, due[k] - len(found))
+                if found != rows[:due[k]]:
+                    running.kill()
+                    return False
+        running.stdin.close()
+        return steps > 3 and len(rows) > 8
+
+
 def keep(folder, name, data):
     path = os.path.join(folder, name)
     with open(path, "wb") as file:
@@ -313,6 +349,7 @@ def differences(program, folder):
             right = is_as(out, found) and done.returncode == status and (errors in done.stderr if errors else not done.stderr)
             yield "" if right else "%s, %s: got\n%s\nexpected\n%s\nstandard error: %s\nstatus: %d" % (name, given, found, out, done.stderr, done.returncode)
     yield "" if is_written(program, folder) else "--stream writes other bytes"
+    yield "" if is_live(program) else "rows of a pipe don't come with their packets"
     for capture in (made.pcap(made.frames(made.talk())), made.donthave()[0], made.donthave(*made.ONE_ID)[0], made.donthave(*made.NO_ID)[0]):
         yield "" if is_said_again(program, folder, capture) else "the options that are printed give other verdicts"
     yield "" if made.example("refused.pcap") == made.fault()[0] else "examples/refused.pcap isn't the capture of a fault"
