@@ -255,7 +255,7 @@ def is_real_read(program, folder):
     return False
 
 
-def rows_told(lines):
+def text_told(lines):
     """The text of the objects on a line each: of rows, of reports, and of packets of uTP."""
     return "".join(map(lines_of, lines.splitlines(True)))
 
@@ -329,12 +329,19 @@ def is_as(out, found):
     return out(found) if callable(out) else found == out
 
 
-def runs_of(name, words, capture, out):
-    """The words, the bytes of standard input, and whether objects are written: of a file, of a pipe, and of a file with --json."""
-    yield [*words, "CAPTURE"], None, False
-    yield [*words, "-"], capture, False
+def without_rows(text):
+    return "".join(line for line in text.splitlines(True) if not re.match(r"\d+ +\d+\.\d{6} [AB] ", line))
+
+
+def runs_of(words, capture, out):
+    """The words, the bytes of standard input, whether objects are written, and whether rows are that aren't compared."""
+    yield [*words, "CAPTURE"], None, False, False
+    yield [*words, "-"], capture, False, False
     if not callable(out):
-        yield ["--json", *words, "CAPTURE"], None, True
+        yield ["--json", *words, "CAPTURE"], None, True, False
+        if "--show" not in words:
+            yield ["--show", *words, "CAPTURE"], None, False, True
+            yield ["--show", "--json", *words, "CAPTURE"], None, True, True
 
 
 def differences(program, folder):
@@ -342,10 +349,11 @@ def differences(program, folder):
     paths = {"TORRENT": keep(folder, "a.torrent", made.TORRENT), "CAPTURE": os.path.join(folder, "capture")}
     for name, words, capture, out, errors, status in made.rows():
         keep(folder, "capture", capture)
-        for given, data, is_json in runs_of(name, words, capture, out):
+        for given, data, is_json, has_rows in runs_of(words, capture, out):
             done = subprocess.run([program, "capture", *(paths.get(word, word) for word in given)], input=data, capture_output=True, timeout=100)
             found = done.stdout.decode()
-            found = rows_told(found) if is_json else found
+            found = text_told(found) if is_json else found
+            found = without_rows(found) if has_rows else found
             right = is_as(out, found) and done.returncode == status and (errors in done.stderr if errors else not done.stderr)
             yield "" if right else "%s, %s: got\n%s\nexpected\n%s\nstandard error: %s\nstatus: %d" % (name, given, found, out, done.stderr, done.returncode)
     yield "" if is_written(program, folder) else "--stream writes other bytes"
