@@ -1,6 +1,5 @@
 //! The .torrent of `capture`: what it says of its torrent, and why a file is none.
-ghost use Rattle.std.specs.Prelude.{◌≡◌, ◌++◌};
-ghost use Rattle.bt_torrent.specs.Torrents.{IsReadAs};
+ghost use Rattle.std.specs.Prelude.{◌≡◌};
 ghost use Rattle.bt_run.specs.Runs.{IsSaid};
 ghost use Rattle.bt_cli.specs.Torrents.{IsJobRead, no_torrent_status, no_torrent_words, torrent_words, with_torrent as with_torrent_by_rule};
 
