@@ -3,6 +3,7 @@ pub mod Endings
 pub mod Options
 pub mod Fetches
 pub mod Tallies
+pub mod Streams
 pub mod Wanted
 pub mod Services
 pub mod Lists

@@ -4,13 +4,15 @@ ghost use Rattle.clap.specs.Matches.{first_value, found_of};
 ghost use Rattle.bt_run.specs.Runs.{IsSaid};
 ghost use Rattle.bt_cli.specs.Captures.{IsCaptureSaid, IsEndSaid, capture_fault_status, capture_fault_words, capture_status, cut_words, file_words, nothing_words, outcome_in, outcome_status};
 ghost use Rattle.bt_cli.specs.declared.capture.Outcome.TheVariants.{Nothing};
-ghost use Rattle.bt_cli.specs.Wanted.{IsCaptureAsked, capture_pieces_in};
+ghost use Rattle.bt_cli.specs.Wanted.{IsCaptureAsked, capture_pieces_in, capture_stream_in};
 
 use crate::fetch::{DEFAULT_LIMIT, is_given, number_or};
+use crate::stream::direction_of;
 use bt_capture::{CaptureEnd, CaptureFault, CaptureJob};
 use bt_feed::Target;
 use bt_link::text::push_number;
 use bt_pcap::FileFault;
+use bt_remarks::Side;
 use bt_run::ending::{end_by_fault, say_both};
 use bt_run::values::number_within;
 use bt_talk::Terms;
@@ -53,6 +55,16 @@ fn pieces_in(text: Option<&str>) -> Option<Option<u32>>
     }
 }
 
+/// Returns the direction of `--stream`.
+fn stream_in(text: Option<&str>) -> Option<Option<(u64, Side)>>
+    ensures { result ≡ capture_stream_in (option_map (λ s. s.now) text.entry) }
+{
+    match text {
+        None => Some(None),
+        Some(direction) => Some(Some(direction_of(direction)?)),
+    }
+}
+
 /// Returns whether both options are given.
 fn are_given(options: &ArgMatches<'_>, one: &str, other: &str) -> bool
     ensures { result ≡ (is_some (first_value (found_of options.now) one.now) && is_some (first_value (found_of options.now) other.now)) }
@@ -76,14 +88,22 @@ pub fn capture_in(options: &ArgMatches<'_>) -> Result<CaptureJob, &'static str>
     let Some(limit) = number_or(options.get_str("limit"), 1, 1_048_576, DEFAULT_LIMIT) else {
         return Err("'--limit' takes a number from 1 to 1048576");
     };
+    let Some(stream) = stream_in(options.get_str("stream")) else {
+        return Err("'--stream' takes a connection's number, a hyphen, and 'A' or 'B'");
+    };
+    let (show, json) = (is_given(options, "show"), is_given(options, "json"));
+    if stream.is_some() && (show || json) {
+        return Err("'--stream' can't be given with '--show' or '--json'");
+    }
     Ok(CaptureJob {
         terms: Terms {
             limit,
             pieces,
             torrent: None,
         },
-        show: is_given(options, "show"),
-        json: is_given(options, "json"),
+        show,
+        json,
+        stream,
     })
 }
 

@@ -16,6 +16,7 @@ pub mod options;
 pub mod peers;
 pub mod report;
 pub mod serve;
+pub mod stream;
 mod texts;
 pub mod torrent;
 

@@ -202,6 +202,13 @@ const ROWS_OF_CAPTURE: OptionText = OptionText {
     help: "Prints a row for each item, refusal, gap and close too, as it comes",
 };
 
+const STREAM_OF_CAPTURE: OptionText = OptionText {
+    name: "stream",
+    alias: "",
+    value: "N-SIDE",
+    help: "Writes only the stream of one side, as 0-A: what side A of connection 0 sent [default: none]",
+};
+
 const JSON_OF_CAPTURE: OptionText = OptionText {
     name: "json",
     alias: "",
@@ -409,6 +416,7 @@ pub(crate) const CAPTURE: CommandText = CommandText {
         TORRENT_OF_CAPTURE,
         LIMIT,
         ROWS_OF_CAPTURE,
+        STREAM_OF_CAPTURE,
         JSON_OF_CAPTURE,
     ],
     operands: &[PACKETS],
