@@ -90,7 +90,7 @@ impl Run {
             begun: 0,
             teller: Teller::new(alloc, form),
             utp: UtpFlows::new(alloc),
-            room: Room::new(alloc)?,
+            room: Room::new(alloc),
             skipped: 0,
             lost: 0,
         })

@@ -175,12 +175,9 @@ const ROWS: &[Row] = &[
 ];
 
 /// Gives a judge a stream in pieces of `size` bytes, up to its end or a fault of the sink.
-///
-/// The buffer is shorter than some pieces.
 fn take(judge: &mut Judge, stream: &[u8], size: usize, sink: &mut Kept) -> Result<(), SinkFault> {
-    let mut buffer = [0; 16];
     for piece in stream.chunks(size.max(1)) {
-        judge.take(piece, sink, &mut buffer)?;
+        judge.take(piece, sink)?;
     }
     Ok(())
 }

@@ -112,6 +112,14 @@ IsSinkFault (Err error.ReadFault) = ⊥
 IsSinkFault (Err error.Turns) = ⊥
 IsSinkFault (Ok a) = ⊥
 
+-- a piece is read; or some first bytes of it, and what follows is refused, or the last item isn't taken
+abbrev pub IsPieceEnd : FeedState → List ℕ → List (ℕ × Item) → FeedState → Result (Unit {0}) PumpError → Type 0
+IsPieceEnd f piece xs g (Ok u) = IsFed f piece xs g × (is_closed g.stage g.held ≡ false)
+IsPieceEnd f piece xs g (Err (error.Refused r)) = (n : ℕ) × IsFed f (take n piece) xs g × IsAnswer g (Err r)
+IsPieceEnd f piece xs g (Err (error.Sink e)) = (n : ℕ) × IsFed f (take n piece) xs g
+IsPieceEnd f piece xs g (Err error.ReadFault) = ⊥
+IsPieceEnd f piece xs g (Err error.Turns) = ⊥
+
 -- ---- for private contracts
 
 -- these items were given: all of them are taken, or at a fault all but the last
@@ -132,14 +140,6 @@ pub record IsPassed (c : Context) (o : Order) (rest : List ℕ) (n : ℕ) (o' : 
 abbrev pub IsOffered : {S : Type 0} → (S → ℕ × Item → S → Type 0) → (S → ℕ × Item → SinkFault → S → Type 0) → S → ℕ × Item → S → Result (Unit {0}) SinkFault
     → Type 0
 IsOffered takes misses old x new r = MatchResult r (λ _. takes old x new) (λ e. misses old x e new)
-
--- a piece is read; or its front, and what follows is refused, or the last item isn't taken
-abbrev pub IsPieceEnd : FeedState → List ℕ → List (ℕ × Item) → FeedState → Result (Unit {0}) PumpError → Type 0
-IsPieceEnd f piece xs g (Ok u) = IsFed f piece xs g × (is_closed g.stage g.held ≡ false)
-IsPieceEnd f piece xs g (Err (error.Refused r)) = (n : ℕ) × IsFed f (take n piece) xs g × IsAnswer g (Err r)
-IsPieceEnd f piece xs g (Err (error.Sink e)) = (n : ℕ) × IsFed f (take n piece) xs g
-IsPieceEnd f piece xs g (Err error.ReadFault) = ⊥
-IsPieceEnd f piece xs g (Err error.Turns) = ⊥
 
 -- bytes were read and went into the feed, all of them; or none, where the read failed
 abbrev pub IsRead : FeedState → FeedState → SourceSeen → SourceSeen → Result ℕ Failed → Type 0

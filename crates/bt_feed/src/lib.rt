@@ -27,7 +27,7 @@ pub use feed::{Feed, FeedError};
 pub use items::{ItemError, Items};
 pub use judged::Judged;
 pub use peer_error::PeerError;
-pub use pumping::{PumpError, pump, pump_with};
+pub use pumping::{PumpError, pump, pump_piece, pump_with};
 pub use sender::peer_context;
 pub use sink::{Sink, SinkFault};
 pub use stage::Stage;

@@ -35,8 +35,13 @@ pub enum PumpError {
     Sink(SinkFault),
 }
 
-/// Gives the sink the items that a chunk completes.
-fn pump_piece<S: Sink, A: Allocator>(
+/// Parses the next piece of a stream, and gives the sink each item that it completes, with its offset.
+///
+/// A whole message of the piece isn't copied, if nothing is buffered before it. It doesn't allocate, except what the sink does.
+///
+/// # Errors
+/// `Refused` if the stream is refused. `Sink` if the sink didn't take an item. After both the rest of the piece is lost.
+pub fn pump_piece<S: Sink, A: Allocator>(
     feed: &mut Feed<A>,
     sink: &mut S,
     piece: &[u8],

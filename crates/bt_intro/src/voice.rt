@@ -50,8 +50,7 @@ fn listen(reading: &mut Reading, listener: &mut Listener, bytes: &[u8])
     ensures { (b : List ℕ) (items : List (ℕ × Item)) → IsJudged reader_by_rule b items reading.old → IsHeard items listener.old
         → (more : List (ℕ × Item)) × IsJudged reader_by_rule (b ++ bytes.now) (items ++ more) reading.new × IsHeard (items ++ more) listener.new }
 {
-    let mut buffer = [0; 4096];
-    match reading.take(bytes, listener, &mut buffer) {
+    match reading.take(bytes, listener) {
         Ok(()) => {}
         Err(_) => unreachable!(),
     }

@@ -50,10 +50,6 @@ first own f le e =
 
 -- ---- a piece more
 
--- what follows the first bytes
-pub rest_is : (piece : List ℕ) (at : ℕ) → take (length piece - at) (drop at piece) ≡ drop at piece
-rest_is piece at = take_all (length piece - at) (drop at piece) (omega (arith, length-drop at piece))
-
 fed_verdict : (own : Own) (b : List ℕ) (xs : List (ℕ × Item)) (f g : FeedState) (bytes : List ℕ) (ys : List (ℕ × Item)) → IsHeld own b xs f
     → IsFed f bytes ys g → (later : List ℕ) (v : Outcome) → Comes g.stage (g.held ++ later) v
     → IsVerdict own ((b ++ bytes) ++ later) (with_items (xs ++ ys) v)
@@ -185,10 +181,6 @@ nothing_whole (stage.Message c o s n) = refl
 nothing_by : (t : Stage) (o : Option Fault) → limit_of t < 2 ^ 32 → early t [] ≡ o → (v : Outcome) × Comes t [] v × (v.items ≡ [])
 nothing_by t (Some f) lt e = (stopped t [] (Some (refusal_of t f)), fault_comes t [] f lt (early_has t [] f e), refl)
 nothing_by t None lt e = (stopped t [] None, open_comes t [] lt (open_by t [] e (nothing_whole t)), refl)
-
--- an item that is taken leaves nothing
-pub nothing_held : (p g : FeedState) (item : Item) {answer : Result (Option Item) Refusal} → answer ≡ Ok (Some item) → g ≡ after p answer → g.held ≡ []
-nothing_held p g item e after_is = ap (λ (f : FeedState). f.held) (after_is ∙ ap (after p) e)
 
 pub begins : (own : Own) (b : List ℕ) (xs : List (ℕ × Item)) (f g : FeedState) (piece : List ℕ) (ys : List (ℕ × Item)) (n : ℕ)
     → own.limit ≤ 1048576 → limit_of g.stage ≤ 1048576 → IsHeld own b xs f → IsFed f (take n piece) ys g → g.held ≡ []

@@ -64,17 +64,11 @@ impl Judge {
     /// Takes the next bytes of the stream, and gives the sink each item that they complete by the lenient rules.
     ///
     /// Each item comes with the offset at which it starts. A rule set that refuses the stream passes over further bytes, and the other
-    /// one goes on. `buffer` isn't empty; it's best as long as `bytes`. It takes no memory, except what the sink does.
+    /// one goes on. It takes no memory, except what the sink does.
     ///
     /// # Errors
     /// The fault of the sink, which didn't take the last item that it was given. Nothing more is known of the stream then.
-    pub fn take<S: Sink>(
-        &mut self,
-        bytes: &[u8],
-        sink: &mut S,
-        buffer: &mut [u8],
-    ) -> Result<(), SinkFault>
-        requires { 0 < length buffer.old }
+    pub fn take<S: Sink>(&mut self, bytes: &[u8], sink: &mut S) -> Result<(), SinkFault>
         ensures judged { (own : Own) (b : List ℕ) (xs ys : List (ℕ × Item)) → AreJudged own b xs ys self.old
             → (more : List (ℕ × Item))
             × MatchResult result (λ _. Took S.takes sink.old more sink.new
@@ -83,11 +77,11 @@ impl Judge {
         ensures calm { OnOk result (S.failed sink.new ≡ S.failed sink.old) }
         ensures sink { OnErr result (Grew (S.failed sink.old) (S.failed sink.new)) }
     {
-        match self.free.take(bytes, sink, buffer) {
+        match self.free.take(bytes, sink) {
             Ok(()) => {}
             Err(fault) => return Err(fault),
         }
-        match self.bep.take(bytes, &mut Discard::new(), buffer) {
+        match self.bep.take(bytes, &mut Discard::new()) {
             Ok(()) => Ok(()),
             Err(_) => unreachable!(),
         }

@@ -5,7 +5,6 @@
 #![tactic(auto)]
 
 mod judge;
-mod piece;
 mod reading;
 
 pub use judge::{Judge, Verdicts};

@@ -7,74 +7,30 @@ ghost use Rattle.bt_feed.specs.Stages.{limit_of};
 ghost use Rattle.bt_io.specs.Counts.{Grew};
 ghost use Rattle.bt_judge.specs.Readings.{IsJudged, BeginsWith, IsTold, IsStanding, IsUnread, IsPieceTaken};
 
-use crate::piece::Piece;
-use bt_feed::{Feed, Finish, PumpError, Sink, SinkFault, pump_with, refusal_in};
+use bt_feed::{Feed, Finish, PumpError, Sink, SinkFault, pump_piece};
 use bt_text::ended::Ended;
 use bt_wire::{Own, Refusal};
 use std::alloc::{AllocError, Global};
 use std::marker::Model;
 
 /// Gives the sink the items that a piece completes, and returns the refusal that it leads to.
-///
-/// It copies all of the piece into the buffer of the feed.
-fn push_piece<S: Sink>(
-    feed: &mut Feed,
-    piece: &[u8],
-    sink: &mut S,
-) -> Result<Option<Refusal>, SinkFault>
-    ensures items { (xs : List (ℕ × Item)) × IsPieceTaken feed.old piece.now xs feed.new result
-        × MatchResult result (λ _. Took S.takes sink.old xs sink.new) (λ e. IsMissed S.takes S.misses e sink.old xs sink.new) }
-    ensures calm { OnOk result (S.failed sink.new ≡ S.failed sink.old) }
-    ensures sink { OnErr result (Grew (S.failed sink.old) (S.failed sink.new)) }
-    ensures limit { limit_of feed.new.stage ≤ 1048576 }
-{
-    let mut at = 0;
-    'items: loop {
-        at += feed.push(&piece[at..]);
-        let start = feed.start();
-        match feed.take() {
-            Ok(Some(view)) => match sink.item(start, &view) {
-                Ok(()) => {}
-                Err(fault) => return Err(fault),
-            },
-            Ok(None) => return Ok(None),
-            Err(error) => return Ok(Some(refusal_in(error))),
-        }
-    }
-}
-
-/// Gives the sink the items that a piece completes, and returns the refusal that it leads to.
-///
-/// Its whole messages aren't copied into the buffer of the feed, if `buffer` has room for all of it.
 fn read_piece<S: Sink>(
     feed: &mut Feed,
     piece: &[u8],
     sink: &mut S,
-    buffer: &mut [u8],
 ) -> Result<Option<Refusal>, SinkFault>
-    requires { 0 < length buffer.old }
     ensures items { (xs : List (ℕ × Item)) × IsPieceTaken feed.old piece.now xs feed.new result
         × MatchResult result (λ _. Took S.takes sink.old xs sink.new) (λ e. IsMissed S.takes S.misses e sink.old xs sink.new) }
     ensures calm { OnOk result (S.failed sink.new ≡ S.failed sink.old) }
     ensures sink { OnErr result (Grew (S.failed sink.old) (S.failed sink.new)) }
     ensures limit { limit_of feed.new.stage ≤ 1048576 }
 {
-    if piece.is_empty() {
-        return push_piece(feed, piece, sink);
-    }
-    let mut source = Piece::new(piece);
-    match pump_with(&mut source, feed, sink, 1, buffer) {
-        Err(PumpError::Turns) => push_piece(feed, source.rest(), sink),
-        Err(PumpError::Refused(refusal)) => {
-            let _ = feed.start();
-            Ok(Some(refusal))
-        }
-        Err(PumpError::Sink(fault)) => {
-            let _ = feed.start();
-            Err(fault)
-        }
+    match pump_piece(feed, sink, piece) {
+        Ok(()) => Ok(None),
+        Err(PumpError::Refused(refusal)) => Ok(Some(refusal)),
+        Err(PumpError::Sink(fault)) => Err(fault),
         Err(PumpError::ReadFault) => unreachable!(),
-        Ok(_) => unreachable!(),
+        Err(PumpError::Turns) => unreachable!(),
     }
 }
 
@@ -133,18 +89,12 @@ impl Reading {
 
     /// Takes the next bytes of the stream, and gives the sink each item that they complete.
     ///
-    /// Each item comes with the offset at which it starts. After a refusal the bytes are passed over. `buffer` isn't empty; it's best as
-    /// long as `bytes`. It takes no memory, except what the sink does.
+    /// Each item comes with the offset at which it starts. After a refusal the bytes are passed over. It takes no memory, except what
+    /// the sink does.
     ///
     /// # Errors
     /// The fault of the sink, which didn't take the last item that it was given. Nothing more is known of the stream then.
-    pub fn take<S: Sink>(
-        &mut self,
-        bytes: &[u8],
-        sink: &mut S,
-        buffer: &mut [u8],
-    ) -> Result<(), SinkFault>
-        requires { 0 < length buffer.old }
+    pub fn take<S: Sink>(&mut self, bytes: &[u8], sink: &mut S) -> Result<(), SinkFault>
         ensures judged { (own : Own) (b : List ℕ) (xs : List (ℕ × Item)) → IsJudged own b xs self.old
             → (ys : List (ℕ × Item))
             × MatchResult result (λ _. Took S.takes sink.old ys sink.new × IsJudged own (b ++ bytes.now) (xs ++ ys) self.new)
@@ -155,7 +105,7 @@ impl Reading {
         if self.refused.is_some() {
             return Ok(());
         }
-        match read_piece(&mut self.feed, bytes, sink, buffer) {
+        match read_piece(&mut self.feed, bytes, sink) {
             Ok(refused) => {
                 self.refused = refused;
                 Ok(())

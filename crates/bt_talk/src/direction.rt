@@ -59,16 +59,14 @@ fn take_judged(
     given: &Given,
     watch: &mut Watch,
     out: &mut Vec<u8>,
-    buffer: &mut [u8],
 ) -> Result<(), AllocError>
-    requires { 0 < length buffer.old }
     ensures { OnOk result ((own : Own) (p : Past) (later : List ℕ) → IsFlowOf p flow.old → p.out ≡ p.front ++ later → IsJudgedBy own p judge.old
         → (q : Past) × IsFlowOf q flow.new × IsJudgedBy own q judge.new × Adds given.now false p flow.old q flow.new
         × ((xs : List (ℕ × Item)) → AreItems own p xs → (more : List (ℕ × Item)) × AreItems own q (xs ++ more) × Took Watches watch.old more watch.new)) }
 {
     out.clear();
     flow.take(given, out)?;
-    judge_bytes(judge, out, watch, buffer)?;
+    judge_bytes(judge, out, watch)?;
     Ok(())
 }
 
@@ -147,9 +145,7 @@ impl Direction {
         given: &Given,
         watch: &mut Watch,
         out: &mut Vec<u8>,
-        buffer: &mut [u8],
     ) -> Result<(), AllocError>
-        requires { 0 < length buffer.old }
         ensures taken { OnOk result ((terms : Terms) (p other : Past) → IsDirection terms p other self.old
             → (q : Past) × IsDirection terms q other self.new × Adds given.now (is_opening self.old.stage) p self.old.flow q self.new.flow
             × Speaks self.old.stage p watch.old self.new.stage q watch.new) }
@@ -162,8 +158,8 @@ impl Direction {
                 Ok(())
             }
             Stage::Open(judged) => {
-                take_judged(&mut self.flow, &mut judged.judge, given, watch, out, buffer)?;
-                self.used = self.used.max(judged.used_by(out.len(), buffer.len()));
+                take_judged(&mut self.flow, &mut judged.judge, given, watch, out)?;
+                self.used = self.used.max(judged.used());
                 Ok(())
             }
             Stage::Stranger => {

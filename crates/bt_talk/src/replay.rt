@@ -103,16 +103,14 @@ fn judge_more(
     judged: &mut Option<Judged>,
     bytes: &[u8],
     watch: &mut Watch,
-    buffer: &mut [u8],
 ) -> Result<(), AllocError>
-    requires { 0 < length buffer.old }
     ensures { OnOk result ((p : Past) (receiver : Option Receiver) (xs : List (ℕ × Item)) (left : List ℕ)
         → IsReplayBy p receiver xs (bytes.now ++ left) judged.old
         → (more : List (ℕ × Item)) × IsReplayBy p receiver (xs ++ more) left judged.new × Took Watches watch.old more watch.new) }
 {
     match judged {
         Some(judged) => {
-            judge_bytes(&mut judged.judge, bytes, watch, buffer)?;
+            judge_bytes(&mut judged.judge, bytes, watch)?;
             Ok(())
         }
         None => Ok(()),
@@ -210,19 +208,13 @@ impl<'a> Replay<'a> {
     }
 
     /// Judges the bytes up to this length of the side's stream, or all that are left.
-    fn judge_to(
-        &mut self,
-        upto: u64,
-        watch: &mut Watch,
-        buffer: &mut [u8],
-    ) -> Result<(), AllocError>
-        requires { 0 < length buffer.old }
+    fn judge_to(&mut self, upto: u64, watch: &mut Watch) -> Result<(), AllocError>
         ensures { OnOk result ((p : Past) (receiver : Option Receiver) (cut : Option ℕ) (xs : List (ℕ × Item)) → IsReplay p receiver cut xs self.old
             → (more : List (ℕ × Item)) × IsReplay p receiver cut (xs ++ more) self.new × Took Watches watch.old more watch.new) }
     {
         let count = (upto.saturating_sub(self.at) as usize).min(self.rest.len());
         let (bytes, rest) = self.rest.split_at(count);
-        judge_more(&mut self.judged, bytes, watch, buffer)?;
+        judge_more(&mut self.judged, bytes, watch)?;
         self.rest = rest;
         self.at = self.at.saturating_add(count as u64);
         Ok(())
@@ -237,15 +229,14 @@ impl<'a> Replay<'a> {
     }
 
     /// Judges the bytes up to the close, if it is awaited.
-    fn pass_close(&mut self, watch: &mut Watch, buffer: &mut [u8]) -> Result<(), AllocError>
-        requires { 0 < length buffer.old }
+    fn pass_close(&mut self, watch: &mut Watch) -> Result<(), AllocError>
         ensures passed { OnOk result (is_passed self.new.close ≡ true) }
         ensures goes_on { OnOk result ((side : Side) → watch.old.side ≡ side → Replays side self.old watch.old self.new watch.new) }
     {
         let Close::Ahead(count, after) = self.close else {
             return Ok(());
         };
-        judge_more(&mut self.judged, self.rest, watch, buffer)?;
+        judge_more(&mut self.judged, self.rest, watch)?;
         let last = last_of(&self.judged, watch.last());
         self.rest = after;
         self.close = Close::Passed(Some(Cut {
@@ -256,14 +247,13 @@ impl<'a> Replay<'a> {
     }
 
     /// Judges the bytes up to the close, if it comes before this length of the side's stream.
-    fn pass_to(&mut self, upto: u64, watch: &mut Watch, buffer: &mut [u8]) -> Result<(), AllocError>
-        requires { 0 < length buffer.old }
+    fn pass_to(&mut self, upto: u64, watch: &mut Watch) -> Result<(), AllocError>
         ensures { OnOk result ((side : Side) → watch.old.side ≡ side → Replays side self.old watch.old self.new watch.new) }
     {
         if !self.closes_by(upto) {
             return Ok(());
         }
-        self.pass_close(watch, buffer)?;
+        self.pass_close(watch)?;
         Ok(())
     }
 }
@@ -298,22 +288,16 @@ fn after_opening(judged: Option<Judged>, close: Close) -> Opened
 }
 
 /// Judges the bytes that are left, and returns what is done with those that follow.
-fn finish(
-    mut replay: Replay,
-    side: Side,
-    watch: &mut Watch,
-    buffer: &mut [u8],
-) -> Result<Opened, AllocError>
-    requires { 0 < length buffer.old }
+fn finish(mut replay: Replay, side: Side, watch: &mut Watch) -> Result<Opened, AllocError>
     ensures open { IfOk result (λ opened. is_opening opened.stage ≡ false) }
     ensures opened { IfOk result (λ opened. (since : Rows) (terms : Terms) (p q : Past) (receiver : Option Receiver) (cut : Option ℕ) (events : List Told)
         (items : Side → List (ℕ × Item)) → IsReceiver terms p q receiver → IsReplay p receiver cut (items side) replay.entry
         → IsSeen since events items watch.old → IsFinished since terms p q cut side items opened watch.new) }
 {
     watch.turn_to(side, false);
-    replay.pass_close(watch, buffer)?;
+    replay.pass_close(watch)?;
     let rest = replay.rest;
-    judge_more(&mut replay.judged, rest, watch, buffer)?;
+    judge_more(&mut replay.judged, rest, watch)?;
     Ok(after_opening(replay.judged, replay.close))
 }
 
@@ -323,38 +307,29 @@ fn go_to(
     theirs: &Replay,
     mark: &Mark,
     watch: &mut Watch,
-    buffer: &mut [u8],
 ) -> Result<(), AllocError>
-    requires { 0 < length buffer.old }
     ensures { OnOk result (Replays mark.now.side mine.old watch.old mine.new watch.new) }
 {
     let before = mine.refusal();
     watch.turn_to(mark.side, mark.is_whole && theirs.is_known());
     watch.come_to(mark.when);
-    mine.pass_to(mark.length, watch, buffer)?;
-    mine.judge_to(mark.length, watch, buffer)?;
+    mine.pass_to(mark.length, watch)?;
+    mine.judge_to(mark.length, watch)?;
     mine.show(theirs, before, mark, watch)?;
     Ok(())
 }
 
 /// Judges what a segment made ready.
-fn step(
-    mark: &Mark,
-    a: &mut Replay,
-    b: &mut Replay,
-    watch: &mut Watch,
-    buffer: &mut [u8],
-) -> Result<(), AllocError>
-    requires { 0 < length buffer.old }
+fn step(mark: &Mark, a: &mut Replay, b: &mut Replay, watch: &mut Watch) -> Result<(), AllocError>
     ensures { OnOk result (AreReplays a.old b.old watch.old a.new b.new watch.new) }
 {
     match mark.side {
         Side::A => {
-            go_to(a, b, mark, watch, buffer)?;
+            go_to(a, b, mark, watch)?;
             Ok(())
         }
         Side::B => {
-            go_to(b, a, mark, watch, buffer)?;
+            go_to(b, a, mark, watch)?;
             Ok(())
         }
     }
@@ -366,13 +341,11 @@ fn go_through(
     a: &mut Replay,
     b: &mut Replay,
     watch: &mut Watch,
-    buffer: &mut [u8],
 ) -> Result<(), AllocError>
-    requires { 0 < length buffer.old }
     ensures { OnOk result (AreReplays a.old b.old watch.old a.new b.new watch.new) }
 {
     for mark in marks {
-        step(mark, a, b, watch, buffer)?;
+        step(mark, a, b, watch)?;
     }
     Ok(())
 }
@@ -386,16 +359,14 @@ pub(crate) fn judge_both(
     mut b: Replay,
     marks: &[Mark],
     watch: &mut Watch,
-    buffer: &mut [u8],
 ) -> Result<(Opened, Opened), AllocError>
-    requires { 0 < length buffer.old }
     ensures open { IfOk result (λ both. (is_opening both.0.stage ≡ false) × (is_opening both.1.stage ≡ false)) }
     ensures judged { IfOk result (λ both. (since : Rows) (terms : Terms) (p q : Past) (x y : Aim) → IsReceiver terms p q x.receiver
         → IsReceiver terms q p y.receiver → AreReplayed since p q x y a.entry b.entry watch.old → IsOpened terms p q x.cut both.0 × IsOpened terms q p y.cut both.1
         × HasOpened p q both.0.stage both.1.stage watch.new since watch.new.rows) }
 {
-    go_through(marks, &mut a, &mut b, watch, buffer)?;
-    let of_a = finish(a, Side::A, watch, buffer)?;
-    let of_b = finish(b, Side::B, watch, buffer)?;
+    go_through(marks, &mut a, &mut b, watch)?;
+    let of_a = finish(a, Side::A, watch)?;
+    let of_b = finish(b, Side::B, watch)?;
     Ok((of_a, of_b))
 }

@@ -1,42 +1,28 @@
 //! Memory for the bytes of one segment.
-ghost use Rattle.std.specs.Prelude.{◌<◌, length};
-
 use crate::rows::{Heading, NO_HEADING, Rows, Showing};
-use std::alloc::{AllocError, Global};
-
-/// How many bytes are copied at once.
-const ROOM: usize = 65_536;
+use std::alloc::Global;
 
 /// Memory for the bytes of one segment, which all connections share.
 #[derive(Drop)]
 pub struct Room {
     /// What a segment makes ready.
     pub(crate) out: Vec<u8>,
-    /// What a parser copies.
-    pub(crate) buffer: Vec<u8>,
     /// What a segment shows.
     pub(crate) rows: Rows,
-    ghost room: { 0 < length buffer.items },
 }
 
 impl Room {
-    ghost use Rattle.std.specs.Prelude.{◌≡◌, [], IfOk};
+    ghost use Rattle.std.specs.Prelude.{◌≡◌, []};
     ghost use Rattle.bt_talk.specs.Rooms.{rows_in, heading_by};
 
     /// Makes room.
-    ///
-    /// # Errors
-    /// `AllocError` when out of memory.
-    pub fn new(alloc: Global) -> Result<Room, AllocError>
-        ensures empty { IfOk result (λ room. (rows_in room).text.items ≡ []) }
+    pub fn new(alloc: Global) -> Room
+        ensures empty { (rows_in result).text.items ≡ [] }
     {
-        let mut buffer = Vec::new(alloc);
-        buffer.resize(ROOM, 0)?;
-        Ok(Room {
+        Room {
             out: Vec::new(alloc),
-            buffer,
             rows: Rows::new(alloc, NO_HEADING),
-        })
+        }
     }
 
     /// Turns to a connection with this number, in a capture that starts at this time. The rows that are kept are dropped.

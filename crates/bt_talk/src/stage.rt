@@ -39,15 +39,11 @@ impl Judged {
         (self.receiver.own.limit as usize).saturating_add(4)
     }
 
-    /// Returns how many bytes of a parser's buffer are in use at most, after `count` more were judged by way of a buffer of `size`.
+    /// Returns about how many bytes of a parser's buffer are in use.
     ///
-    /// A message that begins and ends in the same part isn't copied.
-    pub(crate) fn used_by(&self, count: usize, size: usize) -> usize {
-        if count > size {
-            self.room()
-        } else {
-            self.judge.free.awaited().max(self.judge.bep.awaited())
-        }
+    /// A message that begins and ends in the same segment isn't copied.
+    pub(crate) fn used(&self) -> usize {
+        self.judge.free.awaited().max(self.judge.bep.awaited())
     }
 
     /// Returns about how many bytes of memory its two parsers take, of which at most `used` bytes each were in use.
@@ -117,13 +113,11 @@ pub(crate) fn judge_bytes(
     judge: &mut Judge,
     bytes: &[u8],
     watch: &mut Watch,
-    buffer: &mut [u8],
 ) -> Result<(), AllocError>
-    requires { 0 < length buffer.old }
     ensures { OnOk result ((own : Own) (b : List ℕ) (xs ys : List (ℕ × Item)) → AreJudged own b xs ys judge.old
         → (more strict : List (ℕ × Item)) × AreJudged own (b ++ bytes.now) (xs ++ more) (ys ++ strict) judge.new × Took Watches watch.old more watch.new) }
 {
-    match judge.take(bytes, watch, buffer) {
+    match judge.take(bytes, watch) {
         Ok(()) => Ok(()),
         Err(_) => Err(AllocError),
     }

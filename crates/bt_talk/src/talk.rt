@@ -87,13 +87,7 @@ fn turn(
     }
     hear(to, segment);
     watch.turn_to(side, to.is_known());
-    from.take(
-        alloc,
-        &given_of(segment),
-        watch,
-        &mut room.out,
-        &mut room.buffer,
-    )?;
+    from.take(alloc, &given_of(segment), watch, &mut room.out)?;
     Ok(())
 }
 
@@ -320,7 +314,7 @@ impl Talk {
         let of_b = receiver_between(&self.a.intro, &self.b.intro, &self.terms);
         let a = self.a.replay(self.alloc, of_a)?;
         let b = self.b.replay(self.alloc, of_b)?;
-        let both = judge_both(a, b, &self.marks, &mut self.watch, &mut room.buffer)?;
+        let both = judge_both(a, b, &self.marks, &mut self.watch)?;
         Ok(both)
     }
 
