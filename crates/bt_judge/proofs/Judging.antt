@@ -1,7 +1,7 @@
 -- How far a stream is judged, piece by piece.
-use Rattle.std.proofs.Common.{◌≡◌, ℕ, ◌≤◌, ◌<◌, ◌-◌, ◌^◌, false, List, [], ◌++◌, length, take, drop, Option, Some, None, Err, refl, sym, ap, subst, ◌∙◌, arith}
-use Rattle.std.proofs.lemmas.List.{append-nil, append_assoc, length-drop, take_all, take-append-drop}
-use Rattle.std.specs.Prelude.{IsSome, is_some, Result, Ok}
+use Rattle.std.proofs.Common.{◌≡◌, ℕ, ◌≤◌, ◌<◌, ◌^◌, false, List, [], ◌++◌, take, drop, Option, Some, None, Err, refl, sym, ap, subst, ◌∙◌, arith}
+use Rattle.std.proofs.lemmas.List.{append-nil, append_assoc, take-append-drop}
+use Rattle.std.specs.Prelude.{IsSome, is_some, Ok}
 use Rattle.bt_wire.specs.declared.context.Own.{Own}
 use Rattle.bt_wire.specs.declared.fault.Refused.{Refused as Fault}
 use Rattle.bt_wire.specs.declared.item.Item.{Item}
@@ -10,7 +10,7 @@ use Rattle.bt_wire.specs.Streams.{Outcome, IsVerdict}
 use Rattle.bt_wire.proofs.VerdictLaws.{verdict_only, verdict_stays, verdict_items}
 use Rattle.bt_feed.specs.declared.stage.Stage.{Stage}
 use Rattle.bt_feed.specs.declared.stage.Stage.TheVariants as stage
-use Rattle.bt_feed.specs.Answers.{IsAnswer, after}
+use Rattle.bt_feed.specs.Answers.{IsAnswer}
 use Rattle.bt_feed.specs.Feeds.{FeedState}
 use Rattle.bt_feed.specs.Pumps.{IsFed}
 use Rattle.bt_feed.specs.Stages.{limit_of, early, is_all, is_closed, refusal_of, Comes, stopped}
