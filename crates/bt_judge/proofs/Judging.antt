@@ -1,7 +1,7 @@
 -- How far a stream is judged, piece by piece.
 use Rattle.std.proofs.Common.{◌≡◌, ℕ, ◌≤◌, ◌<◌, ◌^◌, false, List, [], ◌++◌, take, drop, Option, Some, None, Err, refl, sym, ap, subst, ◌∙◌, arith}
 use Rattle.std.proofs.lemmas.List.{append-nil, append_assoc, take-append-drop}
-use Rattle.std.specs.Prelude.{IsSome, is_some, Ok}
+use Rattle.std.specs.Prelude.{IsSome, is_some}
 use Rattle.bt_wire.specs.declared.context.Own.{Own}
 use Rattle.bt_wire.specs.declared.fault.Refused.{Refused as Fault}
 use Rattle.bt_wire.specs.declared.item.Item.{Item}
@@ -135,7 +135,7 @@ is_refused : (o : Option Refusal) (r : Refusal) → o ≡ Some r → IsSome o
 is_refused o r e = subst (λ (x : Option Refusal). IsSome x) (sym e) refl
 
 pub takes : (own : Own) (b : List ℕ) (xs : List (ℕ × Item)) (f g : FeedState) (piece : List ℕ) (ys : List (ℕ × Item)) (o : Option Refusal)
-    → own.limit ≤ 1048576 → limit_of g.stage ≤ 1048576 → IsHeld own b xs f → IsPieceTaken f piece ys g (Ok o)
+    → own.limit ≤ 1048576 → limit_of g.stage ≤ 1048576 → IsHeld own b xs f → IsPieceTaken f piece ys g o
     → IsJudged own (b ++ piece) (xs ++ ys) (reading_state g o)
 takes own b xs f g piece ys None le limit h e = goes_on own b xs f g piece ys le limit h e.0 e.1
 takes own b xs f g piece ys (Some r) le limit h e = stops own b xs f g piece ys e.0 r le limit h e.1 e.2

@@ -1,12 +1,11 @@
 -- How far a stream is read by one rule set, and what may be told of it.
-use Rattle.std.specs.Prelude.{◌≡◌, ◌≤◌, ℕ, false, List, [], ◌++◌, length, take, Option, Some, None, Result, Ok, Err}
+use Rattle.std.specs.Prelude.{◌≡◌, ◌≤◌, ℕ, false, List, [], ◌++◌, length, take, Option, Some, None, Err}
 use Rattle.bt_wire.specs.declared.context.Own.{Own}
 use Rattle.bt_wire.specs.declared.item.Item.{Item}
 use Rattle.bt_wire.specs.declared.item.Refusal.{Refusal}
 use Rattle.bt_wire.specs.Streams.{Outcome, IsVerdict}
 use Rattle.bt_text.specs.declared.ended.Ended.{Ended}
 use Rattle.bt_text.specs.Lines.{ended_as}
-use Rattle.bt_feed.specs.declared.sink.SinkFault.{SinkFault}
 use Rattle.bt_feed.specs.Answers.{IsAnswer}
 use Rattle.bt_feed.specs.Feeds.{FeedState}
 use Rattle.bt_feed.specs.Pumps.{IsFed}
@@ -26,7 +25,7 @@ pub record IsHeld (own : Own) (b : List ℕ) (xs : List (ℕ × Item)) (f : Feed
   pub comes : (later : List ℕ) (v : Outcome) → Comes f.stage (f.held ++ later) v → IsVerdict own (b ++ later) (with_items xs v)
   pub waits : is_closed f.stage f.held ≡ false
 
--- A front of b has these items and this refusal, or none, and then these bytes, which start at this offset. Only a refusal leaves more of b.
+-- A prefix of b has these items and this refusal, or none, and then these bytes, which start at this offset. Only a refusal leaves more of b.
 pub record IsUnread (own : Own) (b : List ℕ) (xs : List (ℕ × Item)) (refused : Option Refusal) (from : ℕ) (bytes : List ℕ) : Type 0 where
   pub front : List ℕ
   pub later : List ℕ
@@ -64,11 +63,10 @@ IsStanding own b (Some r) = (later : List ℕ) (v : Outcome) → IsVerdict own (
 
 -- ---- for private contracts, and for the invariant
 
--- a piece is read, and no whole item is held; or its front is, and what follows is refused, or the last item isn't taken
-abbrev pub IsPieceTaken : FeedState → List ℕ → List (ℕ × Item) → FeedState → Result (Option Refusal) SinkFault → Type 0
-IsPieceTaken f piece xs g (Ok None) = IsFed f piece xs g × (is_closed g.stage g.held ≡ false)
-IsPieceTaken f piece xs g (Ok (Some r)) = (n : ℕ) × IsFed f (take n piece) xs g × IsAnswer g (Err r)
-IsPieceTaken f piece xs g (Err e) = (n : ℕ) × IsFed f (take n piece) xs g × (g.held ≡ [])
+-- a piece is read, and no whole item is held; or some first bytes of it are, and what follows is refused
+abbrev pub IsPieceTaken : FeedState → List ℕ → List (ℕ × Item) → FeedState → Option Refusal → Type 0
+IsPieceTaken f piece xs g None = IsFed f piece xs g × (is_closed g.stage g.held ≡ false)
+IsPieceTaken f piece xs g (Some r) = (n : ℕ) × IsFed f (take n piece) xs g × IsAnswer g (Err r)
 
 -- no whole item is held that wasn't taken
 abbrev pub HoldsNoItem : ReadingState → Type 0

@@ -13,27 +13,6 @@ use bt_wire::{Own, Refusal};
 use std::alloc::{AllocError, Global};
 use std::marker::Model;
 
-/// Gives the sink the items that a piece completes, and returns the refusal that it leads to.
-fn read_piece<S: Sink>(
-    feed: &mut Feed,
-    piece: &[u8],
-    sink: &mut S,
-) -> Result<Option<Refusal>, SinkFault>
-    ensures items { (xs : List (ℕ × Item)) × IsPieceTaken feed.old piece.now xs feed.new result
-        × MatchResult result (λ _. Took S.takes sink.old xs sink.new) (λ e. IsMissed S.takes S.misses e sink.old xs sink.new) }
-    ensures calm { OnOk result (S.failed sink.new ≡ S.failed sink.old) }
-    ensures sink { OnErr result (Grew (S.failed sink.old) (S.failed sink.new)) }
-    ensures limit { limit_of feed.new.stage ≤ 1048576 }
-{
-    match pump_piece(feed, sink, piece) {
-        Ok(()) => Ok(None),
-        Err(PumpError::Refused(refusal)) => Ok(Some(refusal)),
-        Err(PumpError::Sink(fault)) => Err(fault),
-        Err(PumpError::ReadFault) => unreachable!(),
-        Err(PumpError::Turns) => unreachable!(),
-    }
-}
-
 /// The item of a stream that isn't read.
 #[derive(Clone, Copy)]
 pub struct Unread<'a> {
@@ -105,12 +84,15 @@ impl Reading {
         if self.refused.is_some() {
             return Ok(());
         }
-        match read_piece(&mut self.feed, bytes, sink) {
-            Ok(refused) => {
-                self.refused = refused;
+        match pump_piece(&mut self.feed, sink, bytes) {
+            Ok(()) => Ok(()),
+            Err(PumpError::Refused(refusal)) => {
+                self.refused = Some(refusal);
                 Ok(())
             }
-            Err(fault) => Err(fault),
+            Err(PumpError::Sink(fault)) => Err(fault),
+            Err(PumpError::ReadFault) => unreachable!(),
+            Err(PumpError::Turns) => unreachable!(),
         }
     }
 
