@@ -1,6 +1,7 @@
 //! TCP as a capture shows it: where a sequence number stands, and one direction's bytes put in order.
 #![tactic(auto)]
 
+mod bits;
 mod covered;
 mod halves;
 pub mod history;

@@ -1,5 +1,6 @@
 //! A whole direction at once: what the clauses of a ring say together.
 ghost use Rattle.std.specs.Prelude.{◌≡◌, ℕ, ◌+◌, ◌<◌, ◌≤◌, ◌^◌, List, [], ◌∷◌, ◌++◌, length, IfOk, IfErr, OnOk};
+ghost use Rattle.bt_tcp.specs.Bits.{places};
 ghost use Rattle.bt_tcp.specs.Segments.{Segment, IsStream};
 ghost use Rattle.bt_tcp.specs.Rings.{ahead, IsSound};
 ghost use Rattle.bt_tcp.specs.Windows.{IsTaken};
@@ -39,7 +40,7 @@ impl From<AllocError> for Failed {
 /// Appends what is ready, until nothing is.
 fn drain(
     ring: &mut Ring,
-    known: &mut [bool],
+    known: &mut [u8],
     memory: &[u8],
     out: &mut Vec<u8>,
 ) -> Result<(), AllocError>
@@ -59,7 +60,7 @@ fn drain(
 /// Takes a segment, and appends what it makes ready.
 fn take(
     ring: &mut Ring,
-    known: &mut [bool],
+    known: &mut [u8],
     memory: &mut [u8],
     segment: &Captured,
     out: &mut Vec<u8>,
@@ -67,7 +68,7 @@ fn take(
     requires sound { IsSound ring.old known.old memory.old }
     requires end { segment.now.place + length segment.now.bytes.now < 2 ^ 64 }
     ensures sound { IsSound ring.new known.new memory.new }
-    ensures full { IfErr result (λ why. IsFull ring.old.next (length known.old) segment.now why) }
+    ensures full { IfErr result (λ why. IsFull ring.old.next (places known.old) segment.now why) }
     ensures taken { OnOk result (TakesAll segment.now.place segment.now.bytes.now ring.old known.old memory.old out.old.items ring.new known.new memory.new out.new.items) }
 {
     match ring.put(known, memory, segment.place, segment.bytes) {
@@ -87,14 +88,14 @@ fn take(
 pub fn reassemble(
     alloc: Global,
     base: u64,
-    known: &mut [bool],
+    known: &mut [u8],
     memory: &mut [u8],
     captured: &[Captured],
 ) -> Result<Vec<u8>, Failed>
     requires room { 0 < length known.old }
-    requires same { length memory.old ≡ length known.old }
+    requires same { length memory.old ≡ places known.old }
     ensures stream { IfOk result (λ out. IsStream (segments captured.now) base out.items) }
-    ensures fails { IfErr result (λ why. FailsFor base (length known.old) captured.now why) }
+    ensures fails { IfErr result (λ why. FailsFor base (places known.old) captured.now why) }
 {
     let mut ring = Ring::new(base, known, memory);
     let mut out = Vec::new(alloc);

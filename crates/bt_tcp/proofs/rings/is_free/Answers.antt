@@ -1,20 +1,14 @@
-use Rattle.std.proofs.Common.{◌+◌, ◌-◌, ◌<◌, take, drop, length, get_or-take, get_or-drop, length-take, length-drop, refl, sym, ◌∙◌, arith}
-use Rattle.std.proofs.Common.{false}
+use Rattle.std.proofs.Common.{◌≡◌, ◌+◌, ◌-◌, ap, ◌∙◌, arith}
+use Rattle.std.proofs.lemmas.Bool.Decides.{nat_tests}
+use Rattle.bt_tcp.specs.Cells.{slot_of}
 use Rattle.bt_tcp.proofs.RingProofs.{unknown-runs}
 use Rattle.bt_tcp.proofs.rings.is_free.Goals as goal
 
-pub returns-then-are_unknown : goal.returns-then-are_unknown
-returns-then-are_unknown c = λ t.
-    let known = c.args.known.now in
+pub returns-then-end-from : goal.returns-then-end-from
+returns-then-end-from c = λ t.
     let from = c.slot-from.result in
-    let fit = c.min-fitting.result in
-    let n = from + fit - from in
-    let rest = c.args.count - fit in
-    unknown-runs known c.args.head c.args.gap c.args.count from fit c.requires.head c.requires.room c.slot-from.ensures.slot c.min-fitting.ensures
-    (λ j h. (
-    let m : j < n = omega arith in
-    let w : j < length (take n (drop from known)) = omega (arith, length-take n (drop from known), length-drop from known, c.slot-from.ensures.within, c.min-fitting.ensures) in
-    sym (get_or-take n (drop from known) j false m ∙ get_or-drop from known j false) ∙ c.if-are_unknown.ensures.all refl j w))
-    (λ j h. (
-    let w : j < length (take rest known) = omega (arith, length-take rest known, c.requires.room) in
-    sym (get_or-take rest known j false h) ∙ c.are_unknown-then-are_unknown.ensures.all t j w))
+    let e : c.end-then-end-from.result ≡ c.args.count - c.min-fitting.result = grind (arith, nat_tests, t) in
+    unknown-runs c.args.known.now c.args.head c.args.gap c.args.count from c.min-fitting.result (omega arith) (omega arith)
+    (c.slot-from.ensures.slot ∙ ap (λ n. slot_of n c.args.head c.args.gap) c.requires.capacity) (omega (arith, c.min-fitting.ensures, c.requires.capacity))
+    (λ j h. c.end.ensures.same (from + j) (omega arith) (omega (arith, c.if-end-from.true)))
+    (λ j h. c.end-then-end-from.ensures.same j (omega arith) (omega (arith, e)))

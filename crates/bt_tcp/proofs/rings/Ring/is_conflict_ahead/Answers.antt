@@ -1,4 +1,6 @@
-use Rattle.std.proofs.Common.{◌-◌, ◌<◌, length, get_or, false, not, eqb, Option, ℕ, sym, ap, ◌∙◌, arith}
+use Rattle.std.proofs.Common.{◌≡◌, ◌-◌, ◌<◌, get_or, not, eqb, Option, ℕ, sym, ap, ◌∙◌, arith}
+use Rattle.bt_tcp.specs.Bits.{places, flag}
+use Rattle.bt_tcp.specs.Cells.{slot_of}
 use Rattle.bt_tcp.specs.Rings.{ahead}
 use Rattle.bt_tcp.specs.History.{differs}
 use Rattle.bt_tcp.proofs.HistoryProofs.{held_before, held_after}
@@ -16,20 +18,24 @@ returns-then-place-self c =
           (known-past c.args.known.now c.args.self.now.head (c.args.place - c.args.self.now.next) (omega arith))
     ]))
 
-pub returns-then-known-i : goal.returns-then-known-i
-returns-then-known-i c =
+pub returns-then-get : goal.returns-then-get
+returns-then-get c =
     let k : ℕ = c.args.place - c.args.self.now.next in
-    let l : k < length c.args.known.now = omega arith in
+    let l : k < places c.args.known.now = omega (arith, c.requires.fits.same) in
+    let s : slot_of (places c.args.known.now) c.args.self.now.head k ≡ c.slot-i.result =
+    sym (c.slot-i.ensures.slot ∙ ap (λ n. slot_of n c.args.self.now.head k) c.requires.fits.same) in
     sym (ap (λ o. differs o c.args.byte) (held_after c.args.self.now.next (ahead c.args.self.now c.args.known.now c.args.bytes.now) c.args.place (omega arith)
     ∙ ring-some c.args.known.now c.args.bytes.now c.args.self.now.head k
-    (known-at c.args.known.now c.args.self.now.head k l ∙ ap (λ i. get_or c.args.known.now i false) (sym c.slot-i.ensures.slot) ∙ c.if-known-i.true))
-    ∙ ap (λ i. not (eqb (get_or c.args.bytes.now i 0) c.args.byte)) (sym c.slot-i.ensures.slot))
+    (known-at c.args.known.now c.args.self.now.head k l ∙ ap (flag c.args.known.now) s ∙ sym c.get.ensures ∙ c.if-get.true))
+    ∙ ap (λ i. not (eqb (get_or c.args.bytes.now i 0) c.args.byte)) s)
 
-pub returns-else-known-i : goal.returns-else-known-i
-returns-else-known-i c =
+pub returns-else-get : goal.returns-else-get
+returns-else-get c =
     let k : ℕ = c.args.place - c.args.self.now.next in
-    let l : k < length c.args.known.now = omega arith in
-    c.if-known-i.false ∙ sym (ap (λ o. differs o c.args.byte) (held_after c.args.self.now.next
+    let l : k < places c.args.known.now = omega (arith, c.requires.fits.same) in
+    let s : slot_of (places c.args.known.now) c.args.self.now.head k ≡ c.slot-i.result =
+    sym (c.slot-i.ensures.slot ∙ ap (λ n. slot_of n c.args.self.now.head k) c.requires.fits.same) in
+    c.if-get.false ∙ sym (ap (λ o. differs o c.args.byte) (held_after c.args.self.now.next
     (ahead c.args.self.now c.args.known.now c.args.bytes.now) c.args.place (omega arith)
     ∙ ring-none c.args.known.now c.args.bytes.now c.args.self.now.head k
-    (known-at c.args.known.now c.args.self.now.head k l ∙ ap (λ i. get_or c.args.known.now i false) (sym c.slot-i.ensures.slot) ∙ c.if-known-i.false)))
+    (known-at c.args.known.now c.args.self.now.head k l ∙ ap (flag c.args.known.now) s ∙ sym c.get.ensures ∙ c.if-get.false)))

@@ -1,8 +1,0 @@
-use Rattle.std.proofs.Common.{◌≡◌, ℕ, ◌<◌, get_or, true, false}
-use Rattle.bt_tcp.proofs.rings.are_known.Given as goal
-
-abbrev pub invariant-loop-b : goal.invariant-loop-b
-invariant-loop-b l = record {
-  all : l.all ≡ true → (j : ℕ) → j < l.b-index → get_or l.known j false ≡ true;
-  some : l.all ≡ false → (j : ℕ) × (j < l.b-index) × (get_or l.known j false ≡ false);
-}
