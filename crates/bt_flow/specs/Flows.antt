@@ -57,10 +57,10 @@ abbrev pub conflicts_in : Option Stream → ℕ
 conflicts_in None = 0
 conflicts_in (Some s) = s.conflicts
 
--- how many places of memory there are past the one that each stream has
+-- how many places of memory there are past the eight that each stream has
 abbrev pub held_in : Option Stream → ℕ
 held_in None = 0
-held_in (Some s) = capacity_of s.window - 1
+held_in (Some s) = capacity_of s.window - 8
 
 -- A gap is final, and nothing is handed out.
 abbrev pub IsLost : Flow → Type 0

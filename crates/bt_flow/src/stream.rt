@@ -70,7 +70,7 @@ impl Stream {
 
     /// Returns how many bytes of memory it has past a gap.
     pub fn held(&self) -> usize
-        ensures { result + 1 ≡ capacity_of self.now.window }
+        ensures { result + 8 ≡ capacity_of self.now.window }
     {
         self.window.held()
     }

@@ -1,5 +1,6 @@
 //! A ring with its memory, which grows when a segment needs it.
 ghost use Rattle.std.specs.Prelude.{◌≡◌, ℕ, ◌+◌, ◌<◌, ◌≤◌, ◌^◌, [], length, true, false, None, IfOk, OnOk};
+ghost use Rattle.bt_tcp.specs.Bits.{places};
 ghost use Rattle.bt_tcp.specs.Cells.{is_known};
 ghost use Rattle.bt_tcp.specs.Rings.{ahead, IsSound};
 ghost use Rattle.bt_tcp.specs.History.{conflicts, held};
@@ -17,7 +18,7 @@ const KEPT: usize = 65_536;
 /// Appends what is ready, until nothing is.
 fn drain(
     ring: &mut Ring,
-    known: &mut [bool],
+    known: &mut [u8],
     memory: &[u8],
     out: &mut Vec<u8>,
 ) -> Result<(), AllocError>
@@ -41,10 +42,10 @@ fn drain(
 #[derive(Drop)]
 pub struct Window {
     ring: Ring,
-    known: Vec<bool>,
+    known: Vec<u8>,
     ahead: Vec<u8>,
-    ghost inside: { ring.head < length known.items },
-    ghost same: { length ahead.items ≡ length known.items },
+    ghost inside: { ring.head < places known.items },
+    ghost same: { length ahead.items ≡ places known.items },
     ghost over: { (k : ℕ) → ring.end ≤ ring.next + k → is_known known.items ring.head k ≡ false },
 }
 
@@ -52,7 +53,7 @@ impl Window {
     ghost use Rattle.bt_tcp.specs.Windows.{IsTaken, IsPutOf, TakesOneMore, GoesOn};
     ghost use Rattle.bt_flow.specs.Memory.{next_of, seen, capacity_of};
 
-    /// Returns a window that begins at a place, with room for one byte.
+    /// Returns a window that begins at a place, with room for eight bytes.
     ///
     /// # Errors
     /// `AllocError` when out of memory.
@@ -61,9 +62,9 @@ impl Window {
         ensures taken { IfOk result (λ w. IsTaken [] base [] (next_of w) (seen w)) }
     {
         let mut known = Vec::new(alloc);
-        known.resize(1, false)?;
+        known.resize(1, 0)?;
         let mut ahead = Vec::new(alloc);
-        ahead.resize(1, 0)?;
+        ahead.resize(8, 0)?;
         let ring = Ring::new(base, &mut known, &ahead);
         Ok(Window { ring, known, ahead })
     }
@@ -75,11 +76,11 @@ impl Window {
         self.ring.next()
     }
 
-    /// Returns how many bytes of memory it has past the first one.
+    /// Returns how many places it has past the first eight.
     pub fn held(&self) -> usize
-        ensures { result + 1 ≡ capacity_of self.now }
+        ensures { result + 8 ≡ capacity_of self.now }
     {
-        self.known.len() - 1
+        self.ahead.len() - 8
     }
 
     /// Returns how many bytes of memory it takes.
@@ -103,11 +104,11 @@ impl Window {
     pub fn close(&mut self)
         ensures next { next_of self.new ≡ next_of self.old }
         ensures none { (k : ℕ) → seen self.new k ≡ None }
-        ensures held { capacity_of self.new ≡ 1 }
+        ensures held { capacity_of self.new ≡ 8 }
     {
         let next = self.ring.next();
         self.known.truncate(1);
-        self.ahead.truncate(1);
+        self.ahead.truncate(8);
         self.known.shrink_to_fit();
         self.ahead.shrink_to_fit();
         self.ring = Ring::new(next, &mut self.known, &self.ahead);
@@ -133,7 +134,7 @@ impl Window {
         if need > MOST {
             return Ok(());
         }
-        let twice = (self.known.len() as u64).saturating_mul(2).min(MOST);
+        let twice = (self.ahead.len() as u64).saturating_mul(2).min(MOST);
         let count = need.max(twice) as usize;
         self.ring.lengthen(&mut self.known, &mut self.ahead, count)
     }
@@ -165,7 +166,7 @@ impl Window {
         ensures same { (k : ℕ) → seen self.new k ≡ seen self.old k }
         ensures held { self.new.ring.end ≤ next_of self.new → capacity_of self.new ≤ 65536 }
     {
-        if self.known.len() > KEPT && self.ring.is_empty() {
+        if self.ahead.len() > KEPT && self.ring.is_empty() {
             self.close();
         }
     }
