@@ -1,5 +1,5 @@
 -- One event, as the code keeps what it knows of a side.
-use Rattle.std.specs.Prelude.{◌≡◌, ℕ, ◌||◌, Bool}
+use Rattle.std.specs.Prelude.{◌≡◌, ℕ, ◌-◌, ◌^◌, ◌&&◌, ◌||◌, not, nat_lt, Bool}
 use Rattle.bt_remarks.specs.Said.{Message, asked_block, asked_metadata, answered_block, answered_metadata}
 use Rattle.bt_remarks.specs.declared.halves.Half.{Half}
 use Rattle.bt_remarks.specs.Known.{choking_after, choke_after, all_after, named_after, allowed_after, came_after}
@@ -7,6 +7,9 @@ use Rattle.bt_remarks.specs.Sets.{has_bit}
 use Rattle.bt_remarks.specs.Requests.{is_unasked, is_again}
 use Rattle.bt_remarks.specs.Tables.{request_at, IsAfter}
 use Rattle.bt_remarks.specs.declared.pieces.PieceSet.{PieceSet}
+use Rattle.bt_remarks.specs.declared.events.Remarks.{Remarks}
+use Rattle.bt_remarks.specs.declared.tallies.Found.{Found}
+use Rattle.bt_remarks.specs.declared.tallies.Tally.{Tally}
 
 abbrev pub has : PieceSet → ℕ → Bool
 has pieces = has_bit pieces.field.items
@@ -33,3 +36,12 @@ pub record IsHalfAfter (says hears : Message) (known : Bool) (number mark : ℕ)
   pub came : (k : ℕ) → has new.came k ≡ came_after hears k (has old.came k)
   pub blocks : IsAfter (asked_block says) (answered_block hears) number mark old.blocks new.blocks
   pub metadata : IsAfter (asked_metadata says) (answered_metadata hears) number mark old.metadata new.metadata
+
+-- whether an event can be counted, if it has the remark
+abbrev pub found_has_room : Bool → Found → Bool
+found_has_room remarked found = not remarked || nat_lt found.count (2 ^ 64 - 1)
+
+abbrev pub tally_has_room : Remarks → Tally → Bool
+tally_has_room remarks tally =
+    found_has_room remarks.unasked tally.unasked && found_has_room remarks.choked tally.choked && found_has_room remarks.again tally.again
+    && found_has_room remarks.elsewhere tally.elsewhere

@@ -70,6 +70,7 @@ impl Half {
     ///
     /// # Errors
     /// `AllocError` if memory runs out. What is known is as before.
+    #[inline(always)]
     pub fn say(
         &mut self,
         event: &Event,
@@ -106,6 +107,7 @@ impl Half {
     ///
     /// # Errors
     /// `AllocError` if memory runs out. What is known is as before.
+    #[inline(always)]
     pub fn hear(&mut self, event: &Event) -> Result<(), AllocError>
         ensures ok { OnOk result ((known : Bool) → (number mark : ℕ) → IsHalfAfter Other (message_of event.now) known number mark self.old self.new) }
         ensures err { OnErr result ((known : Bool) → (number mark : ℕ) → IsHalfAfter Other Other known number mark self.old self.new) }
@@ -130,6 +132,7 @@ impl Half {
     }
 
     /// Tells whether an answer of the other side has no pending request of this side.
+    #[inline(always)]
     pub fn is_unasked(&self, event: &Event, known: bool) -> bool
         ensures { result ≡ (known && unasks self.now (message_of event.now)) }
     {
@@ -145,6 +148,7 @@ impl Half {
     }
 
     /// Tells whether a request of this side is of a block with a pending one.
+    #[inline(always)]
     pub fn is_again(&self, event: &Event) -> bool
         ensures { result ≡ asks_again self.now (message_of event.now) }
     {
@@ -156,6 +160,7 @@ impl Half {
     }
 
     /// Tells whether a request of this side comes while the other one chokes.
+    #[inline(always)]
     pub fn is_choked(&self, theirs: &Half, event: &Event, known: bool) -> bool
         ensures { result ≡ (known && is_choked (message_of event.now) theirs.now.is_choking (has self.now.allowed)) }
     {
@@ -168,6 +173,7 @@ impl Half {
     }
 
     /// Tells whether this side has a piece from elsewhere.
+    #[inline(always)]
     pub fn is_elsewhere(&self, event: &Event, known: bool) -> bool
         ensures { result ≡ (known && is_elsewhere (message_of event.now) self.now.has_all (has self.now.named) (has self.now.came)) }
     {

@@ -1,9 +1,9 @@
 //! What the events of a connection show together.
-ghost use Rattle.std.specs.Prelude.{◌≡◌, ◌||◌, ℕ, Bool, List, [], ◌∷◌, OnOk, OnErr, IfOk, IfSome, unwrap_or};
+ghost use Rattle.std.specs.Prelude.{◌≡◌, ◌||◌, ℕ, Bool, List, [], ◌∷◌, OnOk, OnErr, IfOk, IfSome};
 ghost use Rattle.bt_remarks.specs.declared.events.Side.{Side};
 ghost use Rattle.bt_remarks.specs.Said.{Told, Other, told, message_of, other, Blocks, Metadata};
 ghost use Rattle.bt_remarks.specs.Known.{number_after, overflowed};
-ghost use Rattle.bt_remarks.specs.Remarked.{remarks_on, tally_after, tally_of};
+ghost use Rattle.bt_remarks.specs.Remarked.{remarks_on, tally_of};
 ghost use Rattle.bt_remarks.specs.Steps.{IsHalfAfter};
 ghost use Rattle.bt_remarks.specs.Ends.{unanswered, AreFoundOf, IsAsked};
 ghost use Rattle.bt_remarks.specs.Matched.{IsHalf, IsTurn};
@@ -14,6 +14,7 @@ use crate::tallies::{Tally, Unanswered};
 use std::alloc::{AllocError, Global};
 
 /// Takes an event of the first side.
+#[inline(always)]
 fn note(mine: &mut Half, theirs: &mut Half, heard: &Heard, number: u64) -> Result<(), AllocError>
     ensures mine { OnOk result (IsHalfAfter (message_of heard.now.event) Other heard.now.known number heard.now.mark mine.old mine.new) }
     ensures theirs { OnOk result ((known : Bool) → (n mark : ℕ) → IsHalfAfter Other (message_of heard.now.event) known n mark theirs.old theirs.new) }
@@ -30,6 +31,7 @@ fn note(mine: &mut Half, theirs: &mut Half, heard: &Heard, number: u64) -> Resul
 }
 
 /// Returns the remarks on an event of the first side.
+#[inline(always)]
 fn remarks_on(mine: &Half, theirs: &Half, heard: &Heard) -> Remarks
     ensures { (events : List Told) → IsHalf heard.now.side events mine.now → IsHalf (other heard.now.side) events theirs.now
         → result ≡ remarks_on (told heard.now) events }
@@ -42,25 +44,8 @@ fn remarks_on(mine: &Half, theirs: &Half, heard: &Heard) -> Remarks
     }
 }
 
-/// Returns the tally after an event, if the event has a remark: else it is the same.
-///
-/// # Errors
-/// `AllocError` if there are 2^64 of a remark.
-fn counted(tally: &Tally, remarks: Remarks, mark: u64) -> Result<Option<Tally>, AllocError>
-    ensures { IfOk result (λ after. unwrap_or after tally.now ≡ tally_after remarks mark tally.now) }
-{
-    match remarks {
-        Remarks {
-            unasked: false,
-            choked: false,
-            again: false,
-            elsewhere: false,
-        } => Ok(None),
-        _ => Ok(Some(tally.with(remarks, mark)?)),
-    }
-}
-
 /// Takes an event of the first side, and returns its remarks.
+#[inline(always)]
 fn turn(
     mine: &mut Half,
     theirs: &mut Half,
@@ -76,11 +61,11 @@ fn turn(
     ensures tally { OnErr result (tally.new ≡ tally.old) }
 {
     let remarks = remarks_on(mine, theirs, heard);
-    let counted = counted(tally, remarks, heard.mark)?;
-    note(mine, theirs, heard, number)?;
-    if let Some(counted) = counted {
-        *tally = counted;
+    if !tally.has_room(remarks) {
+        return Err(AllocError);
     }
+    note(mine, theirs, heard, number)?;
+    tally.add(remarks, heard.mark);
     Ok(remarks)
 }
 
@@ -116,6 +101,7 @@ impl Matcher {
     ///
     /// # Errors
     /// `AllocError` if memory runs out, or after 2^64 - 1 events. The matcher is as before.
+    #[inline(always)]
     pub fn take(&mut self, heard: &Heard) -> Result<Remarks, AllocError>
         ensures remarks { IfOk result (λ remarks. (events : List Told) → IsMatched events self.old → remarks ≡ remarks_on (told heard.now) events) }
         ensures ok { OnOk result ((events : List Told) → IsMatched events self.old → IsMatched (told heard.now ∷ events) self.new) }

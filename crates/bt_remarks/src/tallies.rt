@@ -1,7 +1,8 @@
 //! How many remarks there are, and the first of each.
-ghost use Rattle.std.specs.Prelude.{◌≡◌, [], IfOk};
+ghost use Rattle.std.specs.Prelude.{◌≡◌, [], true, IfOk};
 ghost use Rattle.bt_remarks.specs.declared.events.Side.{Side};
 ghost use Rattle.bt_remarks.specs.Remarked.{found_after, tally_after, tally_of};
+ghost use Rattle.bt_remarks.specs.Steps.{found_has_room, tally_has_room};
 
 use crate::events::{Block, Remarks};
 use std::alloc::AllocError;
@@ -61,6 +62,28 @@ impl Found {
             }),
         }
     }
+
+    /// Tells whether an event can be counted, if it has the remark.
+    #[inline(always)]
+    fn has_room(&self, is_remarked: bool) -> bool
+        ensures { result ≡ found_has_room is_remarked self.now }
+    {
+        !is_remarked || self.count < u64::MAX
+    }
+
+    /// Counts an event in place, if it has the remark.
+    #[inline(always)]
+    fn add(&mut self, is_remarked: bool, mark: u64)
+        requires { found_has_room is_remarked self.old ≡ true }
+        ensures { self.new ≡ found_after is_remarked mark self.old }
+    {
+        if is_remarked {
+            self.count += 1;
+            if self.first.is_none() {
+                self.first = Some(mark);
+            }
+        }
+    }
 }
 
 impl Unanswered {
@@ -97,5 +120,28 @@ impl Tally {
             again: self.again.with(remarks.again, mark)?,
             elsewhere: self.elsewhere.with(remarks.elsewhere, mark)?,
         })
+    }
+
+    /// Tells whether an event with these remarks can be counted.
+    #[inline(always)]
+    pub(crate) fn has_room(&self, remarks: Remarks) -> bool
+        ensures { result ≡ tally_has_room remarks self.now }
+    {
+        self.unasked.has_room(remarks.unasked)
+            && self.choked.has_room(remarks.choked)
+            && self.again.has_room(remarks.again)
+            && self.elsewhere.has_room(remarks.elsewhere)
+    }
+
+    /// Counts an event with its remarks in place.
+    #[inline(always)]
+    pub(crate) fn add(&mut self, remarks: Remarks, mark: u64)
+        requires { tally_has_room remarks self.old ≡ true }
+        ensures { self.new ≡ tally_after remarks mark self.old }
+    {
+        self.unasked.add(remarks.unasked, mark);
+        self.choked.add(remarks.choked, mark);
+        self.again.add(remarks.again, mark);
+        self.elsewhere.add(remarks.elsewhere, mark);
     }
 }

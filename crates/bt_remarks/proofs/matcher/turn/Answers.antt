@@ -1,5 +1,4 @@
-use Rattle.std.proofs.Common.{ℕ, List, Option, unwrap_or, false, rules, ◌∙◌, sym, ap, subst}
-use Rattle.bt_remarks.specs.declared.tallies.Tally.{Tally}
+use Rattle.std.proofs.Common.{ℕ, List, false, rules, ◌∙◌, ap, subst}
 use Rattle.bt_remarks.specs.Said.{Told, Other, told}
 use Rattle.bt_remarks.specs.Known.{number_after}
 use Rattle.bt_remarks.specs.Remarked.{tally_after}
@@ -9,28 +8,15 @@ use Rattle.bt_remarks.specs.declared.events.Side.{Side}
 use Rattle.bt_remarks.specs.Matched.{IsHalf}
 use Rattle.bt_remarks.proofs.matcher.turn.Goals as goal
 
-pub returns-in-Some-clause-ok : goal.returns-in-Some-clause-ok
-returns-in-Some-clause-ok c = λ events h g at.
+pub returns-clause-ok : goal.returns-clause-ok
+returns-clause-ok c = λ events h g at.
     let e = told c.args.heard.now in
     let M : ℕ → Type 0 = λ n. IsHalfAfter e.message Other e.known n e.mark c.args.mine.now c.note.new.mine in
     record {
       remarks = c.remarks_on-remarks.ensures events h g;
       mine = own_step e events c.args.mine.now c.note.new.mine h (subst M at c.in_ok-note.ensures.mine);
       theirs = other_step e events c.args.theirs.now c.note.new.theirs g (c.in_ok-note.ensures.theirs e.known (number_after events) e.mark);
-      tally = ap (λ (o : Option Tally). unwrap_or o c.args.tally.now) (sym c.in-Some.is) ∙ c.in_ok-counted.ensures
-          ∙ ap (λ r. tally_after r e.mark c.args.tally.now) (c.remarks_on-remarks.ensures events h g);
-    }
-
-pub returns-in_default-clause-ok : goal.returns-in_default-clause-ok
-returns-in_default-clause-ok c = λ events h g at.
-    let e = told c.args.heard.now in
-    let M : ℕ → Type 0 = λ n. IsHalfAfter e.message Other e.known n e.mark c.args.mine.now c.note.new.mine in
-    record {
-      remarks = c.remarks_on-remarks.ensures events h g;
-      mine = own_step e events c.args.mine.now c.note.new.mine h (subst M at c.in_ok-note.ensures.mine);
-      theirs = other_step e events c.args.theirs.now c.note.new.theirs g (c.in_ok-note.ensures.theirs e.known (number_after events) e.mark);
-      tally = ap (λ (o : Option Tally). unwrap_or o c.args.tally.now) (sym c.in_default.is) ∙ c.in_ok-counted.ensures
-          ∙ ap (λ r. tally_after r e.mark c.args.tally.now) (c.remarks_on-remarks.ensures events h g);
+      tally = c.add.ensures ∙ ap (λ r. tally_after r e.mark c.args.tally.now) (c.remarks_on-remarks.ensures events h g);
     }
 
 pub returns-in_err-note-clause-theirs : goal.returns-in_err-note-clause-theirs
