@@ -1,59 +1,32 @@
 #!/usr/bin/env python3
-"""Runs `bt_tool capture` on the captures of tests/btcap.py, from a file and from a pipe, and compares its output and exit status.
+"""Runs `bt_tool capture` on the captures of tests/made_captures.py, from a file and from a pipe, and compares its output and status.
 
 usage: tests/capture.py [PROGRAM]
 
-PROGRAM is the built bt_tool, or else the script at the top of the repository. The expected reports are those that tests/btcap.py
-states.
-The objects of `--json` say what these lines say, and nothing else. With `--show` the rows stand before the report, and reports are the
-same.
-The sentences on reasons that bt_told defines have the words of tools/reasons.json.
+PROGRAM is the built bt_tool, or else the script at the top of the repository. The objects of `--json` say what the lines of the text
+say, and nothing else. With `--show` the rows stand before the report, and reports are the same. `bt_tool check` gives the verdicts
+that are printed on the streams that were sent, with the options that are printed. The sentences on reasons that bt_told defines have
+the words of tools/reasons.json, and that has what docs/RULES.md says. Where tcpdump is installed and may capture, two ends talk over
+loopback, and their capture is read too.
 """
-import importlib.machinery
-import importlib.util
 import json
 import os
 import re
 import select
+import shutil
+import socket
 import subprocess
 import sys
 import tempfile
+import threading
 import time
 
 sys.dont_write_bytecode = True
+sys.path.insert(0, os.path.dirname(os.path.abspath(__file__)))
+import captures  # noqa: E402
+import made_captures as made  # noqa: E402
+
 ROOT = os.path.dirname(os.path.dirname(os.path.abspath(__file__)))
-# Options that only btcap has.
-OTHERS = {"--tool", "--piece"}
-# A row of --show, in front of which `capture` has the connection's number.
-ROW = re.compile(r"\d* +\d+\.\d{6} [AB] ")
-# The status of a file that is no capture: a fault, as in all commands of bt_tool.
-FAULT = {2: 3}
-
-
-def module_of(name):
-    """The script of this name beside this one."""
-    loader = importlib.machinery.SourceFileLoader(name, os.path.join(ROOT, "tests", name + ".py"))
-    module = importlib.util.module_from_spec(importlib.util.spec_from_loader(name, loader))
-    loader.exec_module(module)
-    return module
-
-
-def in_turn(text):
-    """The report of btcap on connection 0 as `capture` has it: after its rows, each after the connection's number."""
-    lines = text.splitlines(True)
-    rows = [line for line in lines if ROW.match(line)]
-    return "".join(["0" + line for line in rows] + [line for line in lines if line not in rows])
-
-
-def without_rows(text):
-    return "".join(line for line in text.splitlines(True) if not ROW.match(line))
-
-
-def fault_of(words):
-    """What `capture` says on standard error for what btcap says."""
-    if b"no torrent" in words:
-        return b"fault: torrent: "
-    return words if b"BitTorrent" in words or b"inside a packet" in words else words and b"fault: capture: "
 
 
 def unique(pairs):
@@ -145,7 +118,7 @@ def remark_lines(side, found):
 
 def row_of(found):
     """The row that says what an object says."""
-    connection, time, _, side = (found.pop(key) for key in ("connection", "time", "packet", "side"))
+    connection, time_, _, side = (found.pop(key) for key in ("connection", "time", "packet", "side"))
     remarks = "  (%s)" % ", ".join(found.pop("remarks")) if "remarks" in found else ""
     if "verdict" in found:
         words = "%d %s" % (found["offset"], verdict_of(found))
@@ -156,7 +129,7 @@ def row_of(found):
     else:
         words, found = item_of(found), {}
     assert not found, found
-    return "%d  %11s %s %s%s\n" % (connection, time, side, words, remarks)
+    return "%d  %11s %s %s%s\n" % (connection, time_, side, words, remarks)
 
 
 def utp_line(source, target, packets, at_least=False):
@@ -165,7 +138,7 @@ def utp_line(source, target, packets, at_least=False):
 
 
 def lines_of(line):
-    """The text that says what an object says."""
+    """The text that says what an object says: a report, a row, or packets of uTP."""
     found = json.loads(line, parse_float=str, object_pairs_hook=unique)
     if "utp" in found:
         return utp_line(**found["utp"])
@@ -183,6 +156,124 @@ def lines_of(line):
     return text + "\n" + "".join(lines)
 
 
+def read(name):
+    with open(os.path.join(ROOT, name), encoding="utf8") as file:
+        return file.read()
+
+
+def words_of(reason, text):
+    """The words between the numbers of each sentence that bt_told's definitions have for a reason."""
+    clause = re.search(r"^reason_sentence reasons\.%s .*?^(?=\S)" % reason, text, re.M | re.S)
+    name = re.search(r"\w+_sentence\b(?! reasons)", clause.group())
+    found = re.search(r"^abbrev pub %s .*?^$" % name.group(), text, re.M | re.S) if name else clause
+    return sorted(json.loads(words) for words in re.findall(r'codes ("(?:[^"\\]|\\.)*")', found.group()))
+
+
+def other_words():
+    """The reasons whose sentences have other words in bt_told's definitions than in tools/reasons.json."""
+    text = read("crates/bt_told/specs/Whys.antt")
+    for reason, row in json.loads(read("tools/reasons.json")).items():
+        said = (words for key, words in row.items() if key.startswith("words"))
+        if sorted(part for words in said for part in re.split(r"\{\w+\}", words) if part) != words_of(reason, text):
+            yield reason
+
+
+def documented():
+    """Each reason of docs/RULES.md, with its rules, its places (what stands under At and under When) and its section."""
+    found, head = {}, None
+    for line in read("docs/RULES.md").splitlines():
+        cells = [cell.strip() for cell in line.strip().strip("|").split("|")] if line.startswith("|") else None
+        if cells is None or cells[0] == "Reason":
+            head = cells
+        elif head and re.match(r"[A-Z]\w+", cells[0]):
+            row = dict(zip(head, cells))
+            reason = found.setdefault(cells[0], {"places": []})
+            if "When" in row:
+                reason["rules"] = row["Rules"]
+                reason["places"].append({"at": row["At"], "where": row["When"]})
+            else:
+                reason["section"] = row["Section"]
+    return found
+
+
+def reasons_differ():
+    """What the documents and tools/reasons.json say differently of a reason."""
+    table, told = json.loads(read("tools/reasons.json")), documented()
+    wanted = {name: {key: reason[key] for key in ("places", "rules", "section")} for name, reason in table.items()}
+    return ["%s: %s and %s" % (name, wanted.get(name), told.get(name)) for name in sorted({*wanted, *told}) if wanted.get(name) != told.get(name)]
+
+
+def read_all(end, size):
+    while size > 0:
+        size -= len(end.recv(65536)) or size
+
+
+def serve(server):
+    end = server.accept()[0]
+    read_all(end, len(made.FETCHING))
+    end.sendall(made.SERVING)
+    end.recv(1)
+    end.close()
+
+
+def capture_of(file):
+    """Captures two ends over loopback, and returns their ports, or None where nothing can be captured."""
+    with socket.create_server(("127.0.0.1", 0)) as server:
+        port = server.getsockname()[1]
+        words = ["-i", "lo", "--immediate-mode", "-U", "-B", "65536", "-w", file, "tcp port %d" % port]
+        dump = subprocess.Popen(["tcpdump", *words], stderr=subprocess.PIPE)
+        # it says so once it captures, and ends where it may not
+        if not any(b"listening on" in line for line in iter(dump.stderr.readline, b"")):
+            dump.wait()
+            return None
+        server_thread = threading.Thread(target=serve, args=[server])
+        server_thread.start()
+        with socket.create_connection(("127.0.0.1", port)) as client:
+            ports = client.getsockname()[1], port
+            client.sendall(made.FETCHING)
+            read_all(client, len(made.SERVING))
+        server_thread.join()
+    time.sleep(0.5)
+    dump.terminate()
+    dump.communicate()
+    return ports
+
+
+def is_real_read(program, folder):
+    """Whether a capture by tcpdump gives both verdicts, or None where nothing can be captured."""
+    file = os.path.join(folder, "real.pcap")
+    ports = shutil.which("tcpdump") and capture_of(file)
+    if not ports:
+        return None
+    ended = subprocess.run([program, "capture", file], capture_output=True, text=True)
+    wanted = "connection 0  A 127.0.0.1:%d > B 127.0.0.1:%d\n" % ports + made.A_LINES + made.B_LINES + made.CLOSE
+    found = re.sub(r"at \d+\.\d{6} s", "at 0.057000 s", ended.stdout)
+    if (found, ended.stderr, ended.returncode) == (wanted, "", 0):
+        return True
+    print("capture: a real capture: expected:\n%sgot:\n%s%s" % (wanted, found, ended.stderr))
+    return False
+
+
+def text_told(lines):
+    """The text of the objects on a line each: of rows, of reports, and of packets of uTP."""
+    return "".join(map(lines_of, lines.splitlines(True)))
+
+
+VERDICTS = re.compile(r"^    free (.*)\n(?:    why .*\n)?    bep  (.*)\n(?:    why .*\n)?    options (.*)$", re.M)
+
+
+def is_said_again(program, folder, capture, out):
+    """Whether `check` gives the verdicts of a report on the streams that were sent, with the options that the report has."""
+    said = [tuple(re.sub(r" \(.*\)$", "", words) for words in found) for found in VERDICTS.findall(out)]
+    streams = [stream for it in captures.connections(captures.segments_of(capture)) for stream in it.streams() if len(stream) >= 68]
+    judged = [stream for stream in streams if stream.startswith(captures.HELLO)]
+    again = []
+    for stream, (_, _, options) in zip(judged, said):
+        words = [program, "check", *options.split(), keep(folder, "stream.bin", stream), "--rules"]
+        again.append((*(subprocess.run([*words, rules], capture_output=True, text=True).stdout.strip() for rules in ("free", "bep")), options))
+    return len(said) == len(judged) and again == said
+
+
 def lines_within(seconds, pipe, count):
     """The next lines of a pipe, `count` of them or as many as come in time."""
     text, end = b"", time.monotonic() + seconds
@@ -194,15 +285,16 @@ def lines_within(seconds, pipe, count):
     return text.decode().splitlines(True)
 
 
-def is_live(program, made):
+def is_live(program):
     """Whether each row comes with the packet that completes it, while the pipe stays open: after the opening one by one."""
     link, framed = made.frames(made.talk())
-    done = subprocess.run([program, "capture", "--show", "-"], input=made.pcap((link, framed)), capture_output=True)
-    rows = [line for line in done.stdout.decode().splitlines(True) if ROW.match(line)]
+    data = made.pcap((link, framed))
+    done = subprocess.run([program, "capture", "--show", "-"], input=data, capture_output=True)
+    rows = [line for line in done.stdout.decode().splitlines(True) if re.match(r"0 +\d", line)]
     # the time of a packet in milliseconds is that of its rows
     due = [sum(round(1000 * float(row.split()[1])) <= at for row in rows) for at, _ in framed]
     with subprocess.Popen([program, "capture", "--show", "-"], stdin=subprocess.PIPE, stdout=subprocess.PIPE) as running:
-        running.stdin.write(made.pcap((link, [])))
+        running.stdin.write(data[:24])
         found, steps = [], 0
         for k, one in enumerate(framed):
             running.stdin.write(made.pcap((link, [one]))[24:])
@@ -217,67 +309,63 @@ def is_live(program, made):
         return steps > 3 and len(rows) > 8
 
 
-def read(*names):
-    with open(os.path.join(ROOT, *names), encoding="utf8") as file:
-        return file.read()
+def keep(folder, name, data):
+    path = os.path.join(folder, name)
+    with open(path, "wb") as file:
+        file.write(data)
+    return path
 
 
-def words_of(reason, text):
-    """The words between the numbers of each sentence that bt_told's definitions have for a reason."""
-    clause = re.search(r"^reason_sentence reasons\.%s .*?^(?=\S)" % reason, text, re.M | re.S)
-    name = re.search(r"\w+_sentence\b(?! reasons)", clause.group())
-    found = re.search(r"^abbrev pub %s .*?^$" % name.group(), text, re.M | re.S) if name else clause
-    return sorted(json.loads(words) for words in re.findall(r'codes ("(?:[^"\\]|\\.)*")', found.group()))
+def without_rows(text):
+    return "".join(line for line in text.splitlines(True) if not re.match(r"\d+ +\d+\.\d{6} [AB] ", line))
 
 
-def other_words():
-    """The reasons whose sentences have other words in bt_told's definitions than in tools/reasons.json."""
-    text = read("crates", "bt_told", "specs", "Whys.antt")
-    for reason, row in json.loads(read("tools", "reasons.json")).items():
-        said = (words for key, words in row.items() if key.startswith("words"))
-        if sorted(part for words in said for part in re.split(r"\{\w+\}", words) if part) != words_of(reason, text):
-            yield reason
+def runs_of(words, capture):
+    """The words, the bytes of standard input, whether objects are written, and whether rows are that aren't compared."""
+    yield [*words, "CAPTURE"], None, False, False
+    yield [*words, "-"], capture, False, False
+    yield [*words, "--json", "CAPTURE"], None, True, False
+    if "--show" not in words:
+        yield [*words, "--show", "CAPTURE"], None, False, True
+        yield [*words, "--json", "--show", "CAPTURE"], None, True, True
+
+
+def differences(program, folder):
+    """What is wrong with each run; an empty text is right."""
+    paths = {"TORRENT": keep(folder, "a.torrent", made.TORRENT), "CAPTURE": os.path.join(folder, "capture")}
+    for name, words, capture, out, errors, status in made.rows():
+        keep(folder, "capture", capture)
+        for given, data, is_json, has_rows in runs_of(words, capture):
+            done = subprocess.run([program, "capture", *(paths.get(word, word) for word in given)], input=data, capture_output=True, timeout=100)
+            found = done.stdout.decode()
+            found = text_told(found) if is_json else found
+            found = without_rows(found) if has_rows else found
+            right = found == out and done.returncode == status and (errors in done.stderr if errors else not done.stderr)
+            yield "" if right else "%s, %s: got\n%s\nexpected\n%s\nstandard error: %s\nstatus: %d" % (name, given, found, out, done.stderr, done.returncode)
+        if isinstance(capture, made.File) and status < 2:
+            yield "" if is_said_again(program, folder, capture, out) else name + ": check gives other verdicts with these options"
+    yield "" if is_live(program) else "rows of a pipe don't come with their packets"
+    yield "" if made.example("refused.pcap") == made.fault()[0] else "examples/refused.pcap isn't the capture of a fault"
+    for reason in other_words():
+        yield "%s has other words in bt_told than in tools/reasons.json" % reason
+    yield from ("the words of a reason: " + text for text in reasons_differ())
 
 
 def main():
-    program = sys.argv[1] if len(sys.argv) > 1 else os.path.join(ROOT, "bt_tool")
-    tried, failed = 1, 0
-    for reason in other_words():
-        failed = 1
-        print("capture: %s has other words in bt_told than in tools/reasons.json" % reason)
-    with tempfile.TemporaryDirectory() as folder:
-        btcap = module_of("btcap")
-        path, torrent = os.path.join(folder, "capture"), os.path.join(folder, "a.torrent")
-        with open(torrent, "wb") as file:
-            file.write(btcap.TORRENT)
-        for name, words, capture, out, errors, status in btcap.rows():
-            if OTHERS & {*words} or callable(out):
-                continue
-            words = [{"CAPTURE": path, "TORRENT": torrent}.get(word, word) for word in words]
-            with open(path, "wb") as file:
-                file.write(capture)
-            wanted = in_turn(out), FAULT.get(status, status)
-            ways = [([path], None), (["-"], capture), (["--json", path], None)]
-            if "--show" not in words:
-                ways += [(["--show", path], None), (["--json", "--show", path], None)]
-            for given, data in ways:
-                done = subprocess.run([program, "capture", *words, *given], input=data, capture_output=True, timeout=100)
-                found = done.stdout.decode(), done.returncode
-                if "--json" in given:
-                    found = "".join(map(lines_of, found[0].splitlines(True))), found[1]
-                if "--show" in given:
-                    found = without_rows(found[0]), found[1]
-                said = fault_of(errors)
-                tried += 1
-                if found != wanted or (said not in done.stderr if said else done.stderr):
-                    failed += 1
-                    print("capture: %s, %s: got\n%s\nexpected\n%s\nstandard error: %s" % (name, " ".join(given)[-15:], found, wanted, done.stderr))
-    tried += 1
-    if not is_live(program, btcap):
-        failed += 1
-        print("capture: rows of a pipe don't come with their packets")
-    print("capture: %d of %d as expected" % (tried - failed, tried))
-    return int(failed > 0 or tried == 1)
+    program = os.path.abspath(sys.argv[1] if len(sys.argv) > 1 else os.path.join(ROOT, "bt_tool"))
+    with tempfile.TemporaryDirectory(prefix="capture-tests-") as folder:
+        found = list(differences(program, folder))
+        # a busy machine may lose packets
+        real = is_real_read(program, folder) or is_real_read(program, folder)
+    if real is None:
+        print("capture: no real capture: tcpdump isn't installed or may not capture")
+    else:
+        found.append("" if real else "a real capture")
+    for text in filter(None, found):
+        print("capture: " + text)
+    wrong = sum(map(bool, found))
+    print("capture: %d of %d as expected" % (len(found) - wrong, len(found)))
+    return int(wrong > 0)
 
 
 if __name__ == "__main__":

@@ -5,12 +5,10 @@ usage: tests/captures.py [PROGRAM]
 
 PROGRAM is the built bt_tool, or else the script at the top of the repository. The model is written from the standards and from
 docs/CAPTURES.md and docs/RULES.md: it keeps all bytes, and looks at all of them again for each packet. Of the remarks it has requests
-that got no answer. The captures have lost, swapped,
-repeated, overlapping, changed and cut segments, sequence numbers that wrap, several connections between the same ports, both formats
-and byte orders; two files are cut after each byte. The seed is fixed. The limits of memory are those of tests/limits.py.
+that got no answer. The captures have lost, swapped, repeated, overlapping, changed and cut segments, sequence numbers that wrap, several
+connections between the same ports, both formats and byte orders; two files are cut after each byte. The seed is fixed. The limits of
+memory are those of tests/limits.py.
 """
-import importlib.machinery
-import importlib.util
 import os
 import random
 import re
@@ -19,6 +17,10 @@ import subprocess
 import sys
 
 sys.dont_write_bytecode = True
+sys.path.insert(0, os.path.dirname(os.path.abspath(__file__)))
+import made_captures as writer  # noqa: E402
+from reason_words import reason_words  # noqa: E402
+
 ROOT = os.path.dirname(os.path.dirname(os.path.abspath(__file__)))
 FILES = 500
 HELLO, HANDSHAKE, EXCHANGE = b"\x13BitTorrent protocol", 68, 2048
@@ -26,17 +28,6 @@ FIN, SYN, RST, ACK = 1, 2, 4, 16
 FAST, EXT = 0x4, 0x100000
 # How far back a repeated byte is compared, and how long a connection that is over is waited for.
 HISTORY, QUIET = 16384, 4_000_000_000
-
-
-def module_of(name, folder="tests"):
-    """The script of this name."""
-    loader = importlib.machinery.SourceFileLoader(os.path.basename(name), os.path.join(ROOT, folder, name))
-    module = importlib.util.module_from_spec(importlib.util.spec_from_loader(name, loader))
-    loader.exec_module(module)
-    return module
-
-
-WRITER, WORDS = module_of("btcap.py"), module_of("btcap", "tools")
 
 
 # ---- the model: messages
@@ -100,7 +91,7 @@ def sentence(stream, found, refused):
     number, at, reason = refused
     start = HANDSHAKE + sum(4 + len(it) for it in found) if number else 0
     end = start + 4 + int.from_bytes(stream[start:start + 4], "big") if number else HANDSHAKE
-    return WORDS.reason_words(reason, number, at, start, stream[start:end], None)
+    return reason_words(reason, number, at, start, stream[start:end], None)
 
 
 def number_in(dictionary, key):
@@ -241,6 +232,11 @@ class Connection:
                     self.said[end] = Said(side.stream())
             self.settled = over or is_settled(*self.said.values())
 
+    def streams(self):
+        """What each side sent, up to the first gap: from its handshake on, or from its first byte if it sent none."""
+        self.settle(True)
+        return [self.sides[end].stream()[self.said[end].start or 0:] for end in self.ends]
+
     def receiver(self, end):
         """Who the stream of a side with a handshake is judged for."""
         other = self.said[self.ends[1 - self.ends.index(end)]]
@@ -332,10 +328,9 @@ class Connection:
         return names + "\n" + a + b + close + unanswered, True, bad_a or bad_b
 
 
-def reports(packets):
-    """What `capture` writes, and its exit status."""
+def connections(packets):
+    """The connections with a byte: first those that are over before the end, in the order in which that is known, then by number."""
     current, done, begun = {}, [], 0
-    start = packets[0].nanos if packets else 0
     for it in packets:
         key = frozenset(it.ends)
         old = current.get(key)
@@ -346,14 +341,19 @@ def reports(packets):
             begun += 1
         current[key].take(it)
     done += sorted(current.values(), key=lambda it: it.number)
-    told = [it.report(start) for it in done if it.has_bytes]
+    return [it for it in done if it.has_bytes]
+
+
+def reports(packets):
+    """What `capture` writes, and its exit status."""
+    told = [it.report(packets[0].nanos) for it in connections(packets)]
     status = 3 if not any(it[1] for it in told) else int(any(it[2] for it in told))
     return "".join(it[0] for it in told), status
 
 
 # ---- random captures
 
-class Segment(WRITER.Packet):
+class Segment(writer.Packet):
     """A segment, with its ends, of which the first bytes of the payload were captured."""
 
     def __init__(self, ends, flags, sequence, acked, payload=b"", nanos=0, captured=None):
@@ -471,30 +471,33 @@ def capture_of(rng):
 
 def files_of(rng, packets, form=None):
     """The file of a capture, and how many of its bytes each front of the packets takes."""
-    link, frame = WRITER.FRAMES[rng.choice(("ethernet", "vlan", "two tags", "cooked", "cooked 2", "raw"))]
+    link, frame = writer.FRAMES[rng.choice(("ethernet", "vlan", "two tags", "cooked", "cooked 2", "raw"))]
     order, nano, ng = form or (rng.choice("<>"), rng.random() < 0.5, rng.random() < 0.5)
     unit = 1 if nano else 1000
-    file = WRITER.pcapng((link, []), order, nano) if ng else WRITER.pcap((link, []), order, nano)
+    file = writer.pcapng((link, []), order, nano) if ng else writer.pcap((link, []), order, nano)
     sizes = [len(file)]
     for it in packets:
-        whole = frame(WRITER.ipv4(it, it.ends), b"\x08\x00")
+        whole = frame(writer.ipv4(it, it.ends), b"\x08\x00")
         kept = whole[:len(whole) - len(it.payload) + len(it.captured)]
         if ng:
             ticks = it.nanos // unit
-            file += WRITER.block(order, 6, struct.pack(order + "5I", 1, ticks >> 32, ticks & 0xFFFFFFFF, len(kept), len(whole)) + kept)
+            file += writer.block(order, 6, struct.pack(order + "5I", 1, ticks >> 32, ticks & 0xFFFFFFFF, len(kept), len(whole)) + kept)
         else:
             file += struct.pack(order + "4I", it.nanos // 10 ** 9, it.nanos % 10 ** 9 // unit, len(kept), len(whole)) + kept
         sizes.append(len(file))
     return file, sizes
 
 
+def segments_of(file):
+    """The segments of a capture of tests/made_captures.py."""
+    return [Segment(ends, it.flags, it.sequence, it.acked, it.payload, 10 ** 12 + it.at * 10 ** 6, size) for it, ends, size in file.packets]
+
+
 def short_talk():
     """A few packets of a connection."""
-    left, right = WRITER.handshakes(reserved="0000000000000000")
-    found = WRITER.Talk().say("A", left).say("B", right + message(b"\2")).close("A").packets
-    ends = ("10.0.0.1", 6881), ("10.0.1.1", 51413)
-    return [Segment(ends if it.side == "A" else ends[::-1], it.flags, it.sequence, it.acked, it.payload, 10 ** 12 + it.at * 10 ** 6)
-            for it in found]
+    left, right = writer.handshakes(reserved="0000000000000000")
+    found = writer.Talk().say("A", left).say("B", right + message(b"\2")).close("A").packets
+    return segments_of(writer.pcap(writer.frames(found, ends=(("10.0.0.1", 6881), ("10.0.1.1", 51413)))))
 
 
 def rows():

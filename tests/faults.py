@@ -18,7 +18,7 @@ import subprocess
 import sys
 import tempfile
 
-import capture
+import made_captures
 from peers import INFO, Link, Peer, giving, handshake, info_of, summary, timeless
 from statuses import FETCH, FETCHED, HAND, HASH, HAVE_9, JSON_HAND, LINE, ROOT, TWO, NO_STEPS, message, naming
 
@@ -146,9 +146,8 @@ COMMANDS = [
 
 
 def capture_of(name):
-    """A capture of tests/btcap.py, which nothing is wrong with, and what is written of it at the end."""
-    rows = capture.module_of("btcap").rows()
-    return next(("capture", packets, [(None, text.encode())]) for what, _, packets, text, _, _ in rows if what == name)
+    """A capture of tests/made_captures.py, which nothing is wrong with, and what is written of it at the end."""
+    return next(("capture", packets, [(None, text.encode())]) for what, _, packets, text, _, _ in made_captures.rows() if what == name)
 
 
 CAPTURE = capture_of("two connections")

@@ -1,14 +1,14 @@
 #!/usr/bin/env python3
-"""Tests dist/viewer.html in a real Chromium, against tools/btcap and bt_tool.
+"""Tests dist/viewer.html in a real Chromium, against bt_tool.
 
 usage: tests/viewer.py [PROGRAM]
 
 PROGRAM is the built bt_tool, or else the script at the top of the repository.
 
 1. dist/viewer.html is what viewer/build makes of the sources and of dist/bt.wasm.
-2. Each capture of tests/btcap.py is opened, and what the page says is compared with the text that btcap has to print for it:
-   names, gaps, verdicts with their sentences, options, who closed first, remarks, uTP; and so are captures broken at random, and
-   one of several megabytes with btcap itself.
+2. Each capture of tests/made_captures.py is opened, and what the page says is compared with the text that `bt_tool capture` has to
+   print for it: names, gaps, verdicts with their sentences, options, who closed first, remarks, uTP; and so are captures broken at
+   random, and one of several megabytes with what the command does print.
 3. The lines of the examples are those of `bt_tool show` and `show --json`, under both rule sets.
 4. The page itself: the refusal's words and byte, keys, filter, search, dropped files, links, printing, screen readers; no exception,
    no complaint in the console, and no request.
@@ -17,7 +17,6 @@ PROGRAM is the built bt_tool, or else the script at the top of the repository.
 Nothing is tested if dist/viewer.html or Chromium isn't there.
 """
 import gzip
-import importlib.util
 import ipaddress
 import os
 import random
@@ -29,10 +28,11 @@ import sys
 import tempfile
 
 ROOT = os.path.dirname(os.path.dirname(os.path.abspath(__file__)))
-sys.path.insert(0, os.path.join(ROOT, "tests/page"))
+sys.path[:0] = [os.path.join(ROOT, name) for name in ("tests/page", "tests")]
 import browser as chromium  # noqa: E402
+import made_captures as made  # noqa: E402
 
-PAGE, LIBRARY, BTCAP = (os.path.join(ROOT, name) for name in ("dist/viewer.html", "dist/bt.wasm", "tools/btcap"))
+PAGE, LIBRARY = (os.path.join(ROOT, name) for name in ("dist/viewer.html", "dist/bt.wasm"))
 BROKEN, FUZZ_RUNS, MEGABYTES = 15, 300, 9
 wrong, right = [], 0
 
@@ -68,7 +68,7 @@ def opened(page, paths):
     return page.run("viewer.listed")
 
 
-# ---- what the page says, in btcap's words
+# ---- what the page says, in the command's words
 
 def verdict_text(verdict):
     if verdict["ok"]:
@@ -77,7 +77,7 @@ def verdict_text(verdict):
 
 
 def long_address(text):
-    """[2001:db8::1]:80 as btcap writes it, without leaving out zeros."""
+    """[2001:db8::1]:80 as the command writes it, without leaving out zeros."""
     found = re.fullmatch(r"\[(.*)\]:(\d+)", text)
     if not found:
         return text
@@ -153,19 +153,19 @@ def remark_lines(page):
     })()""")
 
 
-def shown_lines(page):
-    """The rows, as btcap --show prints them."""
+def shown_lines(page, number):
+    """The rows, as --show prints them."""
     for row in page.run("viewer.backend.call('rows', {from: 0, to: 1000})"):
         event, offset, words = row.get("event"), row["offset"], row["words"]
         if event and event["kind"] == "close":
             words = "(%s)" % event["word"]
         names = [name for bit, name in enumerate(("unasked", "choked", "again", "unanswered", "elsewhere"))
             if row["flags"] >> bit & 1]
-        yield "  %11.6f %s %d %s%s" % (row["time"], "AB"[row["side"]], offset, words, "  (%s)" % ", ".join(names) if names else "")
+        yield "%d  %11.6f %s %d %s%s" % (number, row["time"], "AB"[row["side"]], offset, words, "  (%s)" % ", ".join(names) if names else "")
 
 
-def as_btcap(page, listed, is_shown=False):
-    """The lines of btcap, except for what `softened` leaves out."""
+def as_told(page, listed, is_shown=False):
+    """The lines of the command, except for what `softened` leaves out."""
     lines, connections = [], {it["number"]: it for it in listed["connections"]}
     others = {it["number"]: it for it in listed["facts"]["others"]}
     for number in sorted({**connections, **others}):
@@ -178,10 +178,10 @@ def as_btcap(page, listed, is_shown=False):
         it, told = page.run("viewer.it"), sentences(page)
         closes = sorted((side["closed"]["time"], side["closed"]["packet"], k) for k, side in enumerate(it["sides"])
             if side["closed"])
-        lines.append(head)
+        lines += [*(shown_lines(page, number) if is_shown else ()), head]
         for k, side in enumerate(it["sides"]):
             lines += side_lines(k, side, closes, told)
-        lines += [*closing_lines(it), *remark_lines(page), *(shown_lines(page) if is_shown else ())]
+        lines += [*closing_lines(it), *remark_lines(page)]
     for it in listed["facts"]["utp"]:
         lines.append("uTP  %s > %s  %d packets, not read: this is BitTorrent over UDP (BEP 29)" % (*map(long_address, it["ends"]),
             it["packets"]))
@@ -189,7 +189,7 @@ def as_btcap(page, listed, is_shown=False):
 
 
 def softened(wanted, found):
-    """btcap's text without what the page says otherwise: names without a client, how many bytes before a close, the end of the line
+    """The command's text without what the page says otherwise: names without a client, how many bytes before a close, the end of the line
     of another protocol."""
     wanted = re.sub(r"had sent \d+ bytes, last", "had sent * bytes, last", wanted)
     wanted = re.sub(r"(no BitTorrent handshake).*", r"\1", wanted)
@@ -199,29 +199,21 @@ def softened(wanted, found):
     return "\n".join(lines) + ("\n" if lines else "")
 
 
-# ---- against btcap
-
-def btcap_tests():
-    spec = importlib.util.spec_from_file_location("btcap_tests", os.path.join(ROOT, "tests/btcap.py"))
-    module = importlib.util.module_from_spec(spec)
-    spec.loader.exec_module(module)
-    return module
-
+# ---- against the command `capture`
 
 def check_captures(page, folder):
-    """The captures of tests/btcap.py, against what that expects."""
-    tests = btcap_tests()
-    torrent = keep(os.path.join(folder, "a.torrent"), tests.TORRENT)
-    for name, words, capture, wanted, _, status in tests.rows():
-        if status == 2 or callable(wanted):
+    """The captures of tests/made_captures.py, against what that expects."""
+    torrent = keep(os.path.join(folder, "a.torrent"), made.TORRENT)
+    for name, words, capture, wanted, errors, status in made.rows():
+        if status == 2 or b"fault" in errors:
             continue
         path = keep(os.path.join(folder, "capture.pcap"), capture)
         listed = opened(page, [path, torrent] if "--torrent" in words else [path])
         if "--pieces" in words:
             page.run("viewer.setPieces('%s')" % words[words.index("--pieces") + 1])
             listed = page.run("viewer.listed")
-        found = as_btcap(page, listed, "--show" in words)
-        same("btcap: " + name, found, softened(wanted, found))
+        found = as_told(page, listed, "--show" in words)
+        same("capture: " + name, found, softened(wanted, found))
 
 
 def broken(packets, chance):
@@ -252,10 +244,10 @@ def split(capture):
     return capture[:24], packets
 
 
-def check_as_btcap(page, program, what, path):
-    """A capture as tools/btcap reads it with the program. A name that isn't UTF-8 is left out: btcap writes signs for it."""
-    wanted = subprocess.run([BTCAP, "--tool", program, path], capture_output=True).stdout.decode()
-    found = as_btcap(page, opened(page, [path]))
+def check_as_told(page, program, what, path):
+    """A capture as the program reads it. A name that isn't UTF-8 is left out."""
+    wanted = subprocess.run([program, "capture", path], capture_output=True).stdout.decode(errors="replace")
+    found = as_told(page, opened(page, [path]))
     if "\ufffd" not in wanted:
         same(what, found, softened(wanted, found))
 
@@ -272,9 +264,9 @@ def check_broken(page, program, folder):
     for k in range(BROKEN):
         head, packets = captures[k % len(captures)]
         keep(path, head + b"".join(broken(packets, chance)))
-        check_as_btcap(page, program, "a broken capture, %d" % k, path)
+        check_as_told(page, program, "a broken capture, %d" % k, path)
     # a file of more than two of the pages in which the viewer reads it
-    check_as_btcap(page, program, "a large capture", made_capture(path, "--mb", str(MEGABYTES), "--faults", "--six"))
+    check_as_told(page, program, "a large capture", made_capture(path, "--mb", str(MEGABYTES), "--faults", "--six"))
 
 
 # ---- against bt_tool
@@ -328,13 +320,12 @@ def check_refusal(page, folder):
          "type the count above, or drop the .torrent.byte 82 ↘")
     same("what was typed", page.run("[...document.querySelectorAll('#options input')].map(input => input.value).join('')"), "")
     same("the row of the file before", page.run("location.hash.includes('at=0-A-78') || location.hash.includes('pieces')"), False)
-    tests = btcap_tests()
-    opened(page, [keep(os.path.join(folder, "back.pcap"), tests.donthave(**tests.TAKEN_BACK)[0])])
+    opened(page, [keep(os.path.join(folder, "back.pcap"), made.donthave(**made.TAKEN_BACK)[0])])
     page.run("viewer.pick(3)")
     page.until("viewer.row?.name === 'donthave' && document.body.dataset.shown === '3'")
     same("a piece that is taken back", page.run("[...document.querySelectorAll('.fvalue')].map(it => it.textContent)"),
          ["6", "20", "7", "9"])
-    for name, words, capture, _, _, said in tests.drops():
+    for name, words, capture, _, _, said in made.drops():
         opened(page, [keep(os.path.join(folder, "drop.pcap"), capture)])
         page.run("viewer.setPieces('%s')" % (words[1] if words else ""))
         text = text_at(page, ".whytext")

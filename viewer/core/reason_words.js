@@ -1,4 +1,4 @@
-// A refusal in words, made from the table tools/reasons.json and the bytes. tools/btcap makes the same sentences.
+// A refusal in words, made from the table tools/reasons.json and the bytes. `bt_tool capture` makes the same sentences.
 
 /**
  * @typedef {{ rules: string, section: string, title: string, words: string, cure: string, [variant: string]: any }} Reason

@@ -1,5 +1,5 @@
 // What the two directions show together: which answer belongs to which request, who chokes whom, and remarks on single rows.
-// tools/remarks.json has the words of each remark, and tools/btcap makes the same ones.
+// tools/remarks.json has the words of each remark, and `bt_tool capture` makes the same ones.
 import { CODE } from './items.js';
 import { PieceSet } from './piece_set.js';
 import { Asked, EVENT, isAnswer, isRequest } from './row_order.js';

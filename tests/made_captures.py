@@ -1,30 +1,14 @@
-#!/usr/bin/env python3
-"""Runs tools/btcap on captures that this script writes, and compares its output and exit status; and tools/talk. It also compares
-the words of the reasons with the documents.
+"""Captures that are made here, and what `bt_tool capture` has to print of each: for tests/capture.py and others.
 
-usage: tests/btcap.py [PROGRAM]
-
-PROGRAM is the built bt_tool, or else the script at the top of the repository. The streams are those of examples/, whose
-verdicts examples/README.md states, and some made here by hand. Where PROGRAM has --other, each capture is read twice,
-the second time without it. Where tcpdump is installed and may capture, two ends talk over loopback, and their capture
-is read too.
+The streams are those of examples/, whose verdicts examples/README.md states, and some made here by hand.
 """
 import hashlib
-import json
 import os
 import re
-import shutil
 import socket
-import stat
 import struct
-import subprocess
-import sys
-import tempfile
-import threading
-import time
 
 ROOT = os.path.dirname(os.path.dirname(os.path.abspath(__file__)))
-BTCAP, TALK = os.path.join(ROOT, "tools/btcap"), os.path.join(ROOT, "tools/talk")
 FIN, SYN, RST, ACK = 1, 2, 4, 16
 A, B = ("10.0.0.1", 51413), ("10.0.0.2", 6881)
 
@@ -107,11 +91,27 @@ FRAMES = {
 }
 
 
+class Frame(bytes):
+    """The bytes of a frame, with its TCP packet and its ends, the sender first."""
+
+
+class File(bytes):
+    """The bytes of a capture file, with a row for each of its TCP packets: the packet, its ends, its bytes that were captured."""
+    packets = ()
+
+
+def holding(data, **members):
+    """These bytes, with more members."""
+    vars(data).update(members)
+    return data
+
+
 def frames(packets, name="ethernet", ip=ipv4, ends=(A, B)):
     """The link type, and each packet's time and frame."""
     link, frame = FRAMES[name]
     kind = b"\x08\x00" if ip in (ipv4, offloaded) else b"\x86\xdd"
-    return link, [(it.at, frame(ip(it, ends if it.side == "A" else ends[::-1]), kind)) for it in packets]
+    ways = [(it, ends if it.side == "A" else ends[::-1]) for it in packets]
+    return link, [(it.at, holding(Frame(frame(ip(it, way), kind)), packet=it, ends=way)) for it, way in ways]
 
 
 def offloaded(packet, ends):
@@ -125,7 +125,12 @@ def pcap(framed, order="<", nano=False, snap=None):
     for at, frame in found:
         file += struct.pack(order + "4I", 1000 + at // 1000, at % 1000 * (10 ** 6 if nano else 1000),
                             len(frame[:snap]), len(frame)) + frame[:snap]
-    return file
+    return holding(File(file), packets=packets_of(found, snap))
+
+
+def packets_of(found, snap=None):
+    framed = [it for _, it in found if isinstance(it, Frame)]
+    return [(it.packet, it.ends, max(0, len(it.packet.payload) - len(it) + len(it[:snap]))) for it in framed]
 
 
 def block(order, kind, body):
@@ -144,7 +149,7 @@ def pcapng(framed, order="<", nano=False):
         ticks = (1_000_000 + at) * (10 ** 6 if nano else 1000)
         file += block(order, 6, struct.pack(order + "5I", 1, ticks >> 32, ticks & 0xFFFFFFFF, len(frame), len(frame))
                       + frame)
-    return file
+    return holding(File(file), packets=packets_of(found))
 
 
 # ---- what is expected
@@ -305,13 +310,13 @@ def fault():
 
 
 def shown():
-    """The lines of `fault` in the order of time. Both ends send a FIN."""
-    return """     0.003000 A %s
-     0.005000 B %s
-     0.007000 A 68 have-none
-     0.007000 A 78 refused message=2 at=78 BadIndex
-     0.009000 B 68 (FIN)
-     0.010000 A 87 (FIN)
+    """The rows of `fault`, in the order of packets. Both ends send a FIN."""
+    return """0     0.003000 A %s
+0     0.005000 B %s
+0     0.007000 A 68 have-none
+0     0.007000 A 78 refused message=2 at=78 BadIndex
+0     0.009000 B 68 (FIN)
+0     0.010000 A 87 (FIN)
 """ % (LINE_A, LINE_B)
 
 
@@ -581,7 +586,7 @@ def dropped():
 
 
 def drops():
-    """The six streams for which libtorrent 2.0.8 hangs up, by its own log: the name, the words, the capture, btcap's lines, the
+    """The six streams for which libtorrent 2.0.8 hangs up, by its own log: the name, the words, the capture, the report, the
     status, and what is wrong in a sentence. Five are refused in one direction, and both together show the sixth."""
     plain = "0000000000100000"
     rows = [("a length above the limit", "0000000000100005", b"\x0f", struct.pack(">IB", 2000000, 7), 73, 2, "TooLong",
@@ -622,13 +627,21 @@ def utp():
         "uTP  10.0.0.1:51413 > 10.0.0.2:6881  3 packets, not read: this is BitTorrent over UDP (BEP 29)\n"
 
 
-def is_short(out):
-    """Whether each segment has its first 146 bytes: 25 of 1,000 and one of 889, and one of 278."""
+def handshake_line(stream):
+    return "0 handshake %s %s %s" % (stream[20:28].hex(), stream[28:48].hex(), stream[48:68].hex())
+
+
+def short():
+    """The report if each segment has its first 146 bytes: 25 of 1,000 and one of 889, and one of 278. The last one is at 25,000."""
     cut = "refused message=1 at=146 EndInside (cut by the gap)"
     a = report("-TR3000-hkurt404hubr", 146, cut, cut, notes="    gap at 146: 132 bytes aren't in the capture\n")
     more = "    gap at 146: 854 bytes aren't in the capture; 26 gaps, 22093 bytes in all\n"
     b = report("-LT2080-OSBc(V--pHy8", 146, cut, cut, "--reserved 0000000000100004 --metadata-id 0", "B", more)
-    return out.startswith(NAMES + a + b)
+    return NAMES + a + b + """\
+  A closed first, by FIN, at 0.057000 s
+    B had sent 25146 bytes, last: %s
+    A had sent 146 bytes, last: %s
+""" % (handshake_line(SERVING), handshake_line(FETCHING))
 
 
 def rows():
@@ -638,12 +651,12 @@ def rows():
     option = lambda it, ends: ipv6(it, ends, b"\x06\x01" + bytes(14))
     yield "IPv6 with options", [], pcap(frames(talk(), ip=option)), WHOLE6, b"", 0
     yield from ((name, [], file, lines, b"", 0) for name, file, lines in gaps())
-    yield "a short snap length", [], pcap(frames(talk()), snap=200), is_short, b"", 0
+    yield "a short snap length", [], pcap(frames(talk()), snap=200), short(), b"", 0
     yield "the first packet lost", [], pcap(frames(without(0))), WHOLE.replace("0.057000", "0.056000"), b"", 0
     whole = pcap(frames(talk()))
-    yield "cut inside the last packet", [], whole[:-1], WHOLE, b"ends inside a packet", 0
+    yield "cut inside the last packet", [], holding(File(whole[:-1]), packets=whole.packets[:-1]), WHOLE, b"ends inside a packet", 0
     yield "a fault", ["--pieces", "38"], *fault(), b"", 1
-    yield "a fault, shown", ["--pieces", "38", "--show"], fault()[0], fault()[1] + shown(), b"", 1
+    yield "a fault, shown", ["--pieces", "38", "--show"], fault()[0], shown() + fault()[1], b"", 1
     yield "the id of another extension", [], *other_extension(), b"", 0
     yield "an id of lt_donthave", [], *donthave(), b"", 1
     yield "a piece that is taken back", [], *donthave(**TAKEN_BACK), b"", 0
@@ -666,229 +679,8 @@ def rows():
     yield "uTP", [], *utp(), b"no BitTorrent connection in 5 packets", 3
     yield "no packet", [], whole[:24], "", b"no BitTorrent connection in 0 packets", 3
     yield "no handshake", [], pcap(frames(Talk().packets)), "", b"no BitTorrent connection in 3 packets", 3
-    yield "no capture", [], b"d8:announce", "", b"neither a pcap nor a pcapng file", 2
-    yield "nothing", [], b"", "", b"neither a pcap nor a pcapng file", 2
-    yield "an impossible block", [], pcapng(frames([]))[:28] + bytes(8), "", b"impossible length", 2
-    yield "no torrent", ["--torrent", "CAPTURE"], whole, "", b"no torrent", 2
-    yield "no program", ["--tool", "/no/such"], whole, "", b"/no/such", 2
-    yield "wrong words", ["--piece", "x"], whole, "", b"invalid int", 2
-
-
-# ---- the words of reasons
-
-def documented():
-    """Each reason of docs/RULES.md, with its rules, its places (what stands under At and under When) and its section."""
-    found, head = {}, None
-    for line in text_of("docs/RULES.md").splitlines():
-        cells = [cell.strip() for cell in line.strip().strip("|").split("|")] if line.startswith("|") else None
-        if cells is None or cells[0] == "Reason":
-            head = cells
-        elif head and re.match(r"[A-Z]\w+", cells[0]):
-            row = dict(zip(head, cells))
-            reason = found.setdefault(cells[0], {"places": []})
-            if "When" in row:
-                reason["rules"] = row["Rules"]
-                reason["places"].append({"at": row["At"], "where": row["When"]})
-            else:
-                reason["section"] = row["Section"]
-    return found
-
-
-def text_of(name):
-    with open(os.path.join(ROOT, name), encoding="utf8") as file:
-        return file.read()
-
-
-def reasons_differ():
-    """What the documents and tools/reasons.json say differently of a reason."""
-    table, told = json.loads(text_of("tools/reasons.json")), documented()
-    wanted = {name: {key: reason[key] for key in ("places", "rules", "section")} for name, reason in table.items()}
-    return ["%s: %s and %s" % (name, wanted.get(name), told.get(name)) for name in sorted({*wanted, *told}) if wanted.get(name) != told.get(name)]
-
-
-# ---- running
-
-def run(program, words, capture, folder):
-    paths = {"TORRENT": os.path.join(folder, "a.torrent"), "CAPTURE": os.path.join(folder, "capture")}
-    for name, data in (("TORRENT", TORRENT), ("CAPTURE", capture)):
-        with open(paths[name], "wb") as file:
-            file.write(data)
-    words = [paths.get(word, word) for word in words]
-    ended = subprocess.run([BTCAP, "--tool", program, *words, paths["CAPTURE"]], capture_output=True, timeout=100)
-    return ended.stdout.decode(), ended.stderr, ended.returncode
-
-
-def is_as(found, wanted):
-    out, errors, status = wanted
-    right = out(found[0]) if callable(out) else found[0] == out
-    return right and (errors in found[1] if errors else not found[1]) and found[2] == status
-
-
-def hiding(program, folder):
-    """A script that runs the program, and whose help doesn't name --other."""
-    path = os.path.join(folder, "hiding")
-    with open(path, "w") as file:
-        file.write('#!/bin/sh\n[ "$2" != --help ] || exec echo help\n'
-                   'for word; do [ "$word" != --other ] || exit 2; done\nexec "%s" "$@"\n' % program)
-    os.chmod(path, stat.S_IRWXU)
-    return path
-
-
-def is_written(program, folder):
-    """Whether --write keeps the two streams."""
-    run(program, ["--write", os.path.join(folder, "streams")], pcap(frames(talk())), folder)
-    found = []
-    for name in ("0-A.bin", "0-B.bin"):
-        with open(os.path.join(folder, "streams", name), "rb") as file:
-            found.append(file.read())
-    return found == [FETCHING, SERVING]
-
-
-def is_said_again(program, folder, capture):
-    """Whether bt_tool gives btcap's verdicts on the streams that it keeps, with the options that it prints."""
-    lines = run(program, ["--write", os.path.join(folder, "again")], capture, folder)[0]
-    said = re.findall(r"^    free (.*)\n    bep  (.*)\n(?:    why  .*\n)?    options (.*)$", lines, re.M)
-    again = []
-    for name, (_, _, options) in zip(("0-A.bin", "0-B.bin"), said):
-        verdicts = [subprocess.run([program, "check", "--rules", rules, *options.split(), os.path.join(folder, "again", name)],
-                                   capture_output=True, text=True).stdout.strip() for rules in ("free", "bep")]
-        again.append((*verdicts, options))
-    return len(said) == 2 and again == said
-
-
-def read_all(end, size):
-    while size > 0:
-        size -= len(end.recv(65536)) or size
-
-
-def serve(server):
-    end = server.accept()[0]
-    read_all(end, len(FETCHING))
-    end.sendall(SERVING)
-    end.recv(1)
-    end.close()
-
-
-def capture_of(file):
-    """Captures two ends over loopback, and returns their ports, or None where nothing can be captured."""
-    with socket.create_server(("127.0.0.1", 0)) as server:
-        port = server.getsockname()[1]
-        words = ["-i", "lo", "--immediate-mode", "-U", "-B", "65536", "-w", file, "tcp port %d" % port]
-        dump = subprocess.Popen(["tcpdump", *words], stderr=subprocess.PIPE)
-        # it says so once it captures, and ends where it may not
-        if not any(b"listening on" in line for line in iter(dump.stderr.readline, b"")):
-            dump.wait()
-            return None
-        server_thread = threading.Thread(target=serve, args=[server])
-        server_thread.start()
-        with socket.create_connection(("127.0.0.1", port)) as client:
-            ports = client.getsockname()[1], port
-            client.sendall(FETCHING)
-            read_all(client, len(SERVING))
-        server_thread.join()
-    time.sleep(0.5)
-    dump.terminate()
-    dump.communicate()
-    return ports
-
-
-def is_real_read(program, folder):
-    """Whether a capture by tcpdump gives both verdicts, or None where nothing can be captured."""
-    file = os.path.join(folder, "real.pcap")
-    ports = shutil.which("tcpdump") and capture_of(file)
-    if not ports:
-        return None
-    ended = subprocess.run([BTCAP, "--tool", program, file], capture_output=True, text=True)
-    wanted = "connection 0  A 127.0.0.1:%d > B 127.0.0.1:%d\n" % ports + A_LINES + B_LINES + CLOSE
-    found = re.sub(r"at \d+\.\d{6} s", "at 0.057000 s", ended.stdout)
-    if (found, ended.stderr, ended.returncode) == (wanted, "", 0):
-        return True
-    print("btcap: a real capture: expected:\n%sgot:\n%s%s" % (wanted, found, ended.stderr))
-    return False
-
-
-# What an end answers to the handshake and to the rest, and whether it closes then; what tools/talk says, its status.
-TALKS = [
-    (b"h" * 68, b"rest", True, b"talk: closed after 73 bytes of ours, 72 bytes came\n", 1),
-    (b"h" * 68, b"rest", False, b"talk: kept, 72 bytes came\n", 0),
-    (b"h" * 67, None, True, b"talk: closed before its whole handshake, 67 bytes came\n", 1),
-]
-
-
-def answer(server, first, rest, closes, heard):
-    """Takes a connection, answers the handshake and, but for None, the five bytes after it, and closes or waits."""
-    with server.accept()[0] as end:
-        heard.append(end.recv(1000))
-        end.sendall(first)
-        if rest is not None:
-            heard.append(end.recv(1000))
-            end.sendall(rest)
-        if not closes:
-            end.recv(1)
-
-
-def is_talked(first, rest, closes, said, status):
-    """Whether tools/talk sends the handshake, waits for another, sends the rest, and writes what comes."""
-    stream, heard = handshakes()[0] + message(b"\x0f"), []
-    with socket.create_server(("127.0.0.1", 0)) as server:
-        thread = threading.Thread(target=answer, args=[server, first, rest, closes, heard])
-        thread.start()
-        words = ["127.0.0.1", str(server.getsockname()[1]), "0.5"]
-        ended = subprocess.run([TALK, *words], input=stream, capture_output=True)
-        thread.join()
-    wanted = [stream[:68]] + [stream[68:]] * (rest is not None)
-    return (heard, ended.stdout, ended.stderr, ended.returncode) == (wanted, first + (rest or b""), said, status)
-
-
-def is_explained():
-    """Whether tools/talk prints its help if it is asked to, and its usage after wrong words."""
-    asked, wrong = (subprocess.run([TALK, *words], capture_output=True) for words in (["--help"], ["127.0.0.1"]))
-    usage = b"usage: tools/talk HOST PORT"
-    return (usage in asked.stdout and (asked.stderr, asked.returncode) == (b"", 0)
-            and wrong.stderr.startswith(usage) and (wrong.stdout, wrong.returncode) == (b"", 2))
-
-
-def main():
-    program = os.path.abspath(sys.argv[1] if len(sys.argv) > 1 else os.path.join(ROOT, "bt_tool"))
-    has_other = b"--other" in subprocess.run([program, "show", "--help"], capture_output=True).stdout
-    runs, wrong = 0, []
-    with tempfile.TemporaryDirectory(prefix="btcap-tests-") as folder:
-        programs = [program] + [hiding(program, folder)] * has_other
-        for name, words, capture, *wanted in rows():
-            for each in programs:
-                runs += 1
-                found = run(each, words, capture, folder)
-                if not is_as(found, wanted):
-                    wrong.append("%s\nexpected: %s\ngot: %s" % (name, wanted, found))
-        runs += 7
-        wrong += ["the words of a reason: " + text for text in reasons_differ()]
-        if not is_written(program, folder):
-            wrong.append("--write")
-        for capture in (pcap(frames(talk())), donthave()[0], donthave(*ONE_ID)[0], donthave(*NO_ID)[0]):
-            if not is_said_again(program, folder, capture):
-                wrong.append("the options that btcap prints give other verdicts")
-        if example("refused.pcap") != fault()[0]:
-            wrong.append("examples/refused.pcap isn't the capture of a fault")
-        for row in TALKS:
-            runs += 1
-            if not is_talked(*row):
-                wrong.append("tools/talk: %s" % (row,))
-        runs += 1
-        if not is_explained():
-            wrong.append("tools/talk --help, or its usage")
-        # a busy machine may lose packets
-        real = is_real_read(program, folder) or is_real_read(program, folder)
-    if real is None:
-        print("btcap: no real capture: tcpdump isn't installed or may not capture")
-    else:
-        runs += 1
-        wrong += [] if real else ["a real capture"]
-    for text in wrong:
-        print("btcap: wrong: " + text)
-    print("btcap: %s %d runs, %s --other" % ("failed: %d wrong of" % len(wrong) if wrong else "ok:", runs,
-                                           "with and without" if has_other else "without"))
-    sys.exit(1 if wrong else 0)
-
-
-if __name__ == "__main__":
-    main()
+    yield "no capture", [], b"d8:announce", "", b"fault: capture: neither a pcap nor a pcapng file", 3
+    yield "nothing", [], b"", "", b"fault: capture: neither a pcap nor a pcapng file", 3
+    yield "an impossible block", [], pcapng(frames([]))[:28] + bytes(8), "", b"fault: capture: a block of a pcapng file has an impossible length", 3
+    yield "no torrent", ["--torrent", "CAPTURE"], whole, "", b"fault: torrent: ", 3
+    yield "wrong words", ["--pieces", "x"], whole, "", b"'--pieces' takes a number", 2
