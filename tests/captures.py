@@ -7,11 +7,13 @@ PROGRAM is the built bt_tool, or else the script at the top of the repository. T
 docs/CAPTURES.md and docs/RULES.md: it keeps all bytes, and looks at all of them again for each packet. Of the remarks it has requests
 that got no answer. The captures have lost, swapped, repeated, overlapping, changed and cut segments, sequence numbers that wrap, several
 connections between the same ports, both formats and byte orders; two files are cut after each byte. The seed is fixed. The limits of
-memory are those of tests/limits.py.
+memory are those of tests/limits.py. Where tshark is installed, it reassembles the streams of some captures, too: those in which all
+copies of a byte are the same, and each is captured before its acknowledgement.
 """
 import os
 import random
 import re
+import shutil
 import struct
 import subprocess
 import sys
@@ -23,6 +25,8 @@ from reason_words import reason_words  # noqa: E402
 
 ROOT = os.path.dirname(os.path.dirname(os.path.abspath(__file__)))
 FILES = 500
+# The captures that tshark reads, too, and the connections of each.
+PLAIN, CONNECTIONS = 10, 12
 HELLO, HANDSHAKE, EXCHANGE = b"\x13BitTorrent protocol", 68, 2048
 FIN, SYN, RST, ACK = 1, 2, 4, 16
 FAST, EXT = 0x4, 0x100000
@@ -408,8 +412,9 @@ def changed(rng, payload, offset, free):
     return bytes(byte ^ 1 if offset + k in free and rng.random() < 0.5 else byte for k, byte in enumerate(payload))
 
 
-def talk(rng, ends, first):
-    """The segments of a connection with these first sequence numbers, in the order in which they were sent."""
+def talk(rng, ends, first, is_plain=False):
+    """The segments of a connection with these first sequence numbers, in the order in which they were sent. In a plain one all copies of
+    a byte are the same, each segment is captured whole, and none resets it."""
     sides = [ends, ends[::-1]]
     streams = [stream_of(rng) for _ in sides]
     done, size = [0, 0], rng.choice((30, 536, 1460))
@@ -423,17 +428,17 @@ def talk(rng, ends, first):
             at = rng.randrange(at)
             end = min(end, at + rng.randint(1, 2 * size))
         payload = stream[at:end]
-        if rng.random() < 0.1:
+        if rng.random() < 0.1 and not is_plain:
             payload = changed(rng, payload, at, free)
         done[k] = max(done[k], end)
         acked = first[1 - k] + 1 + done[1 - k]
-        captured = rng.randrange(len(payload) + 1) if rng.random() < 0.02 else None
+        captured = rng.randrange(len(payload) + 1) if rng.random() < 0.02 and not is_plain else None
         found.append(Segment(sides[k], ACK, first[k] + 1 + at, acked, payload, captured=captured))
     for k in rng.choice(((), (0, 1), (1, 0), (0,))):
         found.append(Segment(sides[k], FIN | ACK, first[k] + 1 + done[k], first[1 - k] + 1 + done[1 - k]))
         done[k] += 1
         found.append(Segment(sides[1 - k], ACK, first[1 - k] + 1 + done[1 - k], first[k] + 1 + done[k]))
-    if rng.random() < 0.1:
+    if rng.random() < 0.1 and not is_plain:
         found.append(Segment(ends, RST, first[0] + 1 + done[0], 0))
     return found
 
@@ -461,12 +466,36 @@ def capture_of(rng):
             part = talk(rng, ends, [number + 64_000 * turn for number in first])
             found += captured(rng, part, part[:1] if turn else [])
         lanes.append(found)
+    return together(rng, lanes)
+
+
+def together(rng, lanes):
+    """The packets of connections that go on at once."""
     packets, nanos = [], 1_000_000_000_000
     while any(lanes):
         it = rng.choice([lane for lane in lanes if lane]).pop(0)
         nanos += 1000 * rng.choice((0, 20, 50_000, 50_000, 4_100_000 if rng.random() < 0.05 else 1))
         packets.append(Segment(it.ends, it.flags, it.sequence, it.acked, it.payload, nanos, len(it.captured)))
     return packets
+
+
+def plain_talk(rng, ends):
+    """The segments of a connection of which no byte is lost or captured after its acknowledgement: some are swapped, some there again."""
+    first = [rng.choice((7, 2 ** 32 - 1, 2 ** 32 - 900, 2 ** 31 + 5, rng.randrange(2 ** 32))) for _ in ends]
+    found = talk(rng, ends, first, True)
+    opening, data, closing = found[:3], [it for it in found if it.payload], [it for it in found[3:] if not it.payload]
+    for k in range(len(data) - 1):
+        if rng.random() < 0.1 and data[k].ends == data[k + 1].ends:
+            data[k], data[k + 1] = data[k + 1], data[k]
+    for k in range(len(data)):
+        if rng.random() < 0.05:
+            data.insert(rng.randint(k, len(data)), data[k])
+    return opening + data + closing
+
+
+def plain_capture(rng):
+    """The packets of a few connections that are the same to each reader of TCP."""
+    return together(rng, [plain_talk(rng, (("10.0.0.%d" % rng.randint(1, 9), 6881 + k), ("10.0.1.1", 51413))) for k in range(CONNECTIONS)])
 
 
 def files_of(rng, packets, form=None):
@@ -500,8 +529,17 @@ def short_talk():
     return segments_of(writer.pcap(writer.frames(found, ends=(("10.0.0.1", 6881), ("10.0.1.1", 51413)))))
 
 
+def plain_files():
+    """Name, packets and file of the captures that tshark reads, too."""
+    for seed in range(PLAIN):
+        rng = random.Random(seed)
+        packets = plain_capture(rng)
+        yield "plain seed %d" % seed, packets, files_of(rng, packets)[0]
+
+
 def rows():
     """Name, file, output and status."""
+    yield from ((name, file, *reports(packets)) for name, packets, file in plain_files())
     for seed in range(FILES):
         rng = random.Random(seed)
         packets = capture_of(rng)
@@ -513,6 +551,32 @@ def rows():
         for cut in range(len(file) + 1):
             whole = sum(size <= cut for size in sizes[1:])
             yield ("%r cut after %d bytes" % (form, cut), file[:cut], *wanted[whole])
+
+
+# ---- a second opinion
+
+# What tshark prints of a connection: its ends, and the bytes of both, those of the second one after a tab.
+FOLLOWED = re.compile(r"^Node 0: (.*)\nNode 1: (.*)\n((?:\t?[0-9a-f]+\n)*)", re.M)
+
+
+def followed(file):
+    """The streams of each connection as tshark reassembles them, by the names of its ends."""
+    words = [word for k in range(CONNECTIONS) for word in ("-z", "follow,tcp,raw,%d" % k)]
+    done = subprocess.run(["tshark", "-r", "-", "-q", *words], input=file, stdout=subprocess.PIPE, stderr=subprocess.DEVNULL, timeout=100)
+    found = {}
+    for left, right, text in FOLLOWED.findall(done.stdout.decode()):
+        lines = text.splitlines()
+        found[left, right] = [bytes.fromhex("".join(it for it in lines if it.startswith("\t") == is_right)) for is_right in (False, True)]
+    return found
+
+
+def tshark_differs():
+    """Each connection of the captures that tshark reads, too: its name if that reassembles other streams than the model, or an empty text."""
+    for name, packets, file in plain_files():
+        found = followed(file)
+        for it in connections(packets):
+            streams = [side.stream() for side in it.sides.values()]
+            yield "" if found.get(tuple("%s:%d" % end for end in it.ends)) == streams else "%s, connection %d" % (name, it.number)
 
 
 # What the model doesn't have: other remarks, and what a side had sent at the close. tests/capture.py compares these.
@@ -528,6 +592,13 @@ def main():
         if (UNKNOWN.sub("", done.stdout.decode()), done.returncode) != (out, status):
             failed += 1
             print("captures: %s: got %d\n%s\nexpected %d\n%s" % (name, done.returncode, done.stdout.decode(), status, out))
+    for name in tshark_differs() if shutil.which("tshark") else ():
+        tried += 1
+        if name:
+            failed += 1
+            print("captures: %s: tshark reassembles other streams" % name)
+    if not shutil.which("tshark"):
+        print("captures: tshark isn't installed, so it reassembled no stream")
     print("captures: %d of %d as expected" % (tried - failed, tried))
     return int(failed > 0 or tried == 0)
 
