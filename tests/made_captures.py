@@ -249,6 +249,10 @@ UNKNOWN = "    options --reserved 0000000000100005 --metadata-id 0 (guessed: its
 def gaps():
     """Captures with gaps: name, file, output."""
     yield "a segment lost", pcap(frames(without(7))), NAMES + A_LINES + gap_lines(1000) + gap_close("296 choke")
+    link, framed = frames(talk())
+    at, whole = framed[7]
+    framed[7] = at, whole[:46] + b"\x20" + whole[47:]
+    yield "a TCP header of 8 bytes", pcap((link, framed)), NAMES + A_LINES + gap_lines(1000) + gap_close("296 choke")
     lines = gap_lines(1000, "; 2 gaps, 2000 bytes in all")
     yield "two segments lost", pcap(frames(without(7, 11))), NAMES + A_LINES + lines + gap_close("296 choke")
     lines = NAMES + A_LINES + gap_lines(25000, message=6, size=889)

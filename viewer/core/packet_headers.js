@@ -94,6 +94,7 @@ export class Headers {
   /** @param {DataView} view @param {number} tcp @param {number} last @param {number} size @param {number} at */
   readTcp(view, tcp, last, size, at) {
     const options = 4 * (view.getUint8(tcp + 12) >> 4), payload = Math.min(tcp + options, last);
+    if (options < 20) return false;
     this.sourcePort = view.getUint16(tcp);
     this.targetPort = view.getUint16(tcp + 2);
     this.sequence = view.getUint32(tcp + 4);
