@@ -5,9 +5,9 @@ usage: tests/capture.py [PROGRAM]
 
 PROGRAM is the built bt_tool, or else the script at the top of the repository. The objects of `--json` say what the lines of the text
 say, and nothing else. With `--show` the rows stand before the report, and reports are the same. `bt_tool check` gives the verdicts
-that are printed on the streams that were sent, with the options that are printed. The sentences on reasons that bt_told defines have
-the words of tools/reasons.json, and that has what docs/RULES.md says. Where tcpdump is installed and may capture, two ends talk over
-loopback, and their capture is read too.
+that are printed on the streams that were sent, with the options that are printed, and `--stream` writes these streams. The sentences
+on reasons that bt_told defines have the words of tools/reasons.json, and that has what docs/RULES.md says. Where tcpdump is installed
+and may capture, two ends talk over loopback, and their capture is read too.
 """
 import json
 import os
@@ -262,11 +262,10 @@ def text_told(lines):
 VERDICTS = re.compile(r"^    free (.*)\n(?:    why .*\n)?    bep  (.*)\n(?:    why .*\n)?    options (.*)$", re.M)
 
 
-def is_said_again(program, folder, capture, out):
+def is_said_again(program, folder, streams, out):
     """Whether `check` gives the verdicts of a report on the streams that were sent, with the options that the report has."""
     said = [tuple(re.sub(r" \(.*\)$", "", words) for words in found) for found in VERDICTS.findall(out)]
-    streams = [stream for it in captures.connections(captures.segments_of(capture)) for stream in it.streams() if len(stream) >= 68]
-    judged = [stream for stream in streams if stream.startswith(captures.HELLO)]
+    judged = [stream for stream in streams.values() if len(stream) >= 68 and stream.startswith(captures.HELLO)]
     again = []
     for stream, (_, _, options) in zip(judged, said):
         words = [program, "check", *options.split(), keep(folder, "stream.bin", stream), "--rules"]
@@ -330,20 +329,63 @@ def runs_of(words, capture):
         yield [*words, "--json", "--show", "CAPTURE"], None, True, True
 
 
+def run(program, paths, words, data=None):
+    return subprocess.run([program, "capture", *(paths.get(word, word) for word in words)], input=data, capture_output=True, timeout=100)
+
+
+def difference(name, given, done, found, wanted):
+    """What is wrong with a run; an empty text is right. Wanted are the output, a part of standard error or b"" for none, the status."""
+    out, errors, status = wanted
+    if found == out and done.returncode == status and (errors in done.stderr if errors else not done.stderr):
+        return ""
+    return "%s, %s: got\n%.9999s\nexpected\n%.9999s\nstandard error: %s\nstatus: %d" % (
+        name, given, found, out, done.stderr, done.returncode)
+
+
+def report_differences(program, paths, row):
+    """What is wrong with each run that writes reports."""
+    name, words, capture, *wanted = row
+    for given, data, is_json, has_rows in runs_of(words, capture):
+        done = run(program, paths, given, data)
+        found = done.stdout.decode()
+        found = text_told(found) if is_json else found
+        yield difference(name, given, done, without_rows(found) if has_rows else found, wanted)
+
+
+def streams_in(capture):
+    """The streams of a capture, by the words that --stream has for them."""
+    is_made = isinstance(capture, made.File)
+    return captures.streams_of(captures.connections(captures.segments_of(capture))) if is_made else {}
+
+
+def stream_differences(program, paths, row):
+    """What is wrong with each run that writes a stream. If there is none, it may be said in either way."""
+    name, words, capture, _, errors, status = row
+    if "--show" in words:
+        return
+    streams = streams_in(capture) if status < 2 else {}
+    errors = b"connection" if errors.startswith(b"no BitTorrent") else errors
+    for which, stream in (streams or {"0-A": b""}).items():
+        for given, data in ([*words, "--stream", which, "CAPTURE"], None), ([*words, "--stream", which, "-"], capture):
+            done = run(program, paths, given, data)
+            yield difference(name, given, done, done.stdout, (stream, errors, status))
+    if streams:
+        given = [*words, "--stream", "9-A", "CAPTURE"]
+        done = run(program, paths, given)
+        yield difference(name, given, done, done.stdout, (b"", b"no connection 9", 3))
+
+
 def differences(program, folder):
     """What is wrong with each run; an empty text is right."""
     paths = {"TORRENT": keep(folder, "a.torrent", made.TORRENT), "CAPTURE": os.path.join(folder, "capture")}
-    for name, words, capture, out, errors, status in made.rows():
+    for row in made.rows():
+        name, _, capture, out, _, status = row
         keep(folder, "capture", capture)
-        for given, data, is_json, has_rows in runs_of(words, capture):
-            done = subprocess.run([program, "capture", *(paths.get(word, word) for word in given)], input=data, capture_output=True, timeout=100)
-            found = done.stdout.decode()
-            found = text_told(found) if is_json else found
-            found = without_rows(found) if has_rows else found
-            right = found == out and done.returncode == status and (errors in done.stderr if errors else not done.stderr)
-            yield "" if right else "%s, %s: got\n%s\nexpected\n%s\nstandard error: %s\nstatus: %d" % (name, given, found, out, done.stderr, done.returncode)
-        if isinstance(capture, made.File) and status < 2:
-            yield "" if is_said_again(program, folder, capture, out) else name + ": check gives other verdicts with these options"
+        yield from report_differences(program, paths, row)
+        yield from stream_differences(program, paths, row)
+        if status < 2:
+            is_same = is_said_again(program, folder, streams_in(capture), out)
+            yield "" if is_same else name + ": check gives other verdicts with these options"
     yield "" if is_live(program) else "rows of a pipe don't come with their packets"
     yield "" if made.example("refused.pcap") == made.fault()[0] else "examples/refused.pcap isn't the capture of a fault"
     for reason in other_words():

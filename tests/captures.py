@@ -7,8 +7,8 @@ PROGRAM is the built bt_tool, or else the script at the top of the repository. T
 docs/CAPTURES.md and docs/RULES.md: it keeps all bytes, and looks at all of them again for each packet. Of the remarks it has requests
 that got no answer. The captures have lost, swapped, repeated, overlapping, changed and cut segments, sequence numbers that wrap, several
 connections between the same ports, both formats and byte orders; two files are cut after each byte. The seed is fixed. The limits of
-memory are those of tests/limits.py. Where tshark is installed, it reassembles the streams of some captures, too: those in which all
-copies of a byte are the same, and each is captured before its acknowledgement.
+memory are those of tests/limits.py. `--stream` writes the model's bytes. Where tshark is installed, they are compared with those that tshark has
+of some captures, too: captures in which all copies of a byte are the same, and each is captured before its acknowledgement.
 """
 import os
 import random
@@ -348,11 +348,17 @@ def connections(packets):
     return [it for it in done if it.has_bytes]
 
 
+def streams_of(found):
+    """The streams of connections, by the words that `--stream` has for them."""
+    return {"%d-%s" % (it.number, side): stream for it in found for side, stream in zip("AB", it.streams())}
+
+
 def reports(packets):
-    """What `capture` writes, and its exit status."""
-    told = [it.report(packets[0].nanos) for it in connections(packets)]
+    """What `capture` writes, its exit status, and the streams that it writes one by one."""
+    found = connections(packets)
+    told = [it.report(packets[0].nanos) for it in found]
     status = 3 if not any(it[1] for it in told) else int(any(it[2] for it in told))
-    return "".join(it[0] for it in told), status
+    return "".join(it[0] for it in told), status, streams_of(found)
 
 
 # ---- random captures
@@ -538,7 +544,7 @@ def plain_files():
 
 
 def rows():
-    """Name, file, output and status."""
+    """Name, file, output, status and streams."""
     yield from ((name, file, *reports(packets)) for name, packets, file in plain_files())
     for seed in range(FILES):
         rng = random.Random(seed)
@@ -570,37 +576,53 @@ def followed(file):
     return found
 
 
-def tshark_differs():
-    """Each connection of the captures that tshark reads, too: its name if that reassembles other streams than the model, or an empty text."""
+def tshark_differs(program):
+    """Each stream of the captures that tshark reads, too: its name if --stream writes other bytes than tshark has, or an empty text."""
     for name, packets, file in plain_files():
         found = followed(file)
         for it in connections(packets):
-            streams = [side.stream() for side in it.sides.values()]
-            yield "" if found.get(tuple("%s:%d" % end for end in it.ends)) == streams else "%s, connection %d" % (name, it.number)
+            for side, stream in zip("AB", found.get(tuple("%s:%d" % end for end in it.ends), (b"", b""))):
+                words = "%d-%s" % (it.number, side)
+                wanted = stream[max(0, stream[:EXCHANGE + len(HELLO)].find(HELLO)):]
+                is_same = wanted and run(program, file, "--stream", words)[0] == wanted
+                yield "" if is_same else "%s: --stream %s writes other bytes than tshark has" % (name, words)
 
 
 # What the model doesn't have: other remarks, and what a side had sent at the close. tests/capture.py compares these.
 UNKNOWN = re.compile(r"^(?:    [AB] had sent |  [AB] sent (?!\d+ bytes and no whole handshake|.* that got no answer)).*\n", re.M)
 
 
+def run(program, file, *words):
+    """What `capture` writes of a file, and its exit status."""
+    done = subprocess.run([program, "capture", *words], input=file, capture_output=True, timeout=100)
+    return done.stdout, done.returncode
+
+
+def model_differs(program):
+    """Each run: what is wrong with it, or an empty text. Of a random capture one stream is written, too."""
+    rng = random.Random(1)
+    for name, file, out, status, streams in rows():
+        told, ended = run(program, file, "-")
+        found = UNKNOWN.sub("", told.decode()), ended
+        yield "" if found == (out, status) else "%s: got %d\n%s\nexpected %d\n%s" % (name, ended, told.decode(), status, out)
+        if streams and "seed" in name:
+            words = rng.choice(sorted(streams))
+            is_same = run(program, file, "--stream", words) == (streams[words], status)
+            yield "" if is_same else "%s: --stream %s writes other bytes" % (name, words)
+
+
 def main():
     program = sys.argv[1] if len(sys.argv) > 1 else os.path.join(ROOT, "bt_tool")
-    tried = failed = 0
-    for name, file, out, status in rows():
-        done = subprocess.run([program, "capture", "-"], input=file, capture_output=True, timeout=100)
-        tried += 1
-        if (UNKNOWN.sub("", done.stdout.decode()), done.returncode) != (out, status):
-            failed += 1
-            print("captures: %s: got %d\n%s\nexpected %d\n%s" % (name, done.returncode, done.stdout.decode(), status, out))
-    for name in tshark_differs() if shutil.which("tshark") else ():
-        tried += 1
-        if name:
-            failed += 1
-            print("captures: %s: tshark reassembles other streams" % name)
-    if not shutil.which("tshark"):
+    found = list(model_differs(program))
+    if shutil.which("tshark"):
+        found += tshark_differs(program)
+    else:
         print("captures: tshark isn't installed, so it reassembled no stream")
-    print("captures: %d of %d as expected" % (tried - failed, tried))
-    return int(failed > 0 or tried == 0)
+    for text in filter(None, found):
+        print("captures: " + text)
+    wrong = sum(map(bool, found))
+    print("captures: %d of %d as expected" % (len(found) - wrong, len(found)))
+    return int(wrong > 0)
 
 
 if __name__ == "__main__":
