@@ -341,6 +341,19 @@ def capturing(runner):
             yield "capture: write %d of one byte: %r" % (number, answer)
 
 
+def streaming(runner):
+    """The calls of a `capture` of three connections that writes a stream fail in turn: a prefix of the stream is written."""
+    words, packets, stream = "capture --stream 0-B", CAPTURE[1], made_captures.handshakes()[1]
+    for kind, fault, further in (("MEMORY", b"memory", {}), ("READ", b"read", {"READ_MOST": 7}), ("READ", b"read", {"READ_MOST": 100}),
+                                 ("WRITE", b"write", {"WRITE_MOST": 1})):
+        for number, answer, was_made in runner.in_turn(words, packets, kind, **further):
+            out, errors, status = answer
+            is_fault = stream.startswith(out) and (errors, status) == (b"fault: %s\n" % fault, 3)
+            # A request may be refused whose answer nothing rests on.
+            if not (was_made and is_fault) and (answer != (stream, b"", 0) or was_made and kind != "MEMORY"):
+                yield "%s: %s %d %r: %r" % (words, kind, number, further, answer)
+
+
 def summed(lines):
     """These lines of a fetch and their summary, as `fetched_in_turn` gives them."""
     return (lines + summary(lines)).encode()
@@ -442,7 +455,7 @@ def main():
                 for line in device(runner, words, given, parts):
                     wrong += 1
                     print("faults: wrong: bt_tool %s: %s" % (words, line))
-        for part in (two_files, two_directions, capturing, looping, fetching, serving):
+        for part in (two_files, two_directions, capturing, streaming, looping, fetching, serving):
             for line in part(runner):
                 wrong += 1
                 print("faults: wrong: bt_tool " + line)

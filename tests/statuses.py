@@ -417,9 +417,11 @@ COMMANDS = {
     "unpack": ("bt_tool unpack [OPTIONS] [FILE]", RECEIVER, ["--torrent", "--hints no"]),
     "pack": ("bt_tool pack [OPTIONS] [FILE]", RECEIVER, ["--window 1", "--info-hash 00"]),
     "link": ("bt_tool link [FILE]", "", ["--limit 32768", "--hints always", "a b"]),
-    "capture": ("bt_tool capture [OPTIONS] [FILE]", "pieces torrent limit show json",
+    "capture": ("bt_tool capture [OPTIONS] [FILE]", "pieces torrent limit show stream json",
                 ["--rules bep", "--json a b", "--pieces", "--pieces x", "--pieces 4294967296", "--pieces 1 --torrent a b", "--torrent",
-                 "--torrent a --torrent a b", "--torrent -", "--torrent - -", "--limit 0", "--limit 1048577", "--limit x", "--show=1", "a b"]),
+                 "--torrent a --torrent a b", "--torrent -", "--torrent - -", "--limit 0", "--limit 1048577", "--limit x", "--show=1", "--stream",
+                 "--stream 0", "--stream 0-", "--stream -A", "--stream 0-C", "--stream 0-a", "--stream 0-A-A", "--stream x-A",
+                 "--stream 4294967296-A", "--stream 0-A --stream 0-B", "--stream 0-A --show", "--stream 0-A --json", "a b"]),
     "loop": ("bt_tool loop [OPTIONS]", "rules limit", ["--hints always", "--limit 32767", "--rules", "more"]),
     "fetch": ("bt_tool fetch [OPTIONS] MAGNET|INFOHASH [ADDRESS]..", "peers at-once rules limit timeout window max-size torrent json",
               ["", HASH, HASH + " 127.0.0.1:9 --max-connections 1", HASH + " 127.0.0.1:9 --window 9", HASH + " a", "0 127.0.0.1:9",
@@ -624,6 +626,17 @@ def of(file):
     return REFUSED.replace(bytes.fromhex(HASH), hash_of(file))
 
 
+def streamed(port):
+    """What was sent from this port of the capture REFUSED, each packet once."""
+    found, at = b"", 24
+    while at < len(REFUSED):
+        size = int.from_bytes(REFUSED[at + 8:at + 12], "little")
+        packet = REFUSED[at + 16:at + 16 + size]
+        found += packet[54:] if int.from_bytes(packet[34:36], "big") == port else b""
+        at += 16 + size
+    return found
+
+
 def no_torrent(why):
     return b"t: fault: torrent: %s\n" % why
 
@@ -705,6 +718,13 @@ FILES = [
     ("capture --torrent t a", {"t": torrent(b"6:piecesi20e"), "a": REFUSED}, b"", b"", NO_PIECES, 3),
     ("capture --torrent t a", {"t": torrent(b"6:pieces19:" + 19 * b"p"), "a": REFUSED}, b"", b"", NO_COUNT, 3),
     ("capture --torrent -", {}, REFUSED, b"", MISTAKE, 2),
+    # a side's stream, of a connection that is there and one that isn't
+    ("capture --pieces 38 --stream 0-A a", {"a": REFUSED}, b"", streamed(51413), b"", 1),
+    ("capture --stream=0-B", {}, REFUSED, streamed(6881), b"", 0),
+    ("capture --stream 0-B -", {}, REFUSED[:900], streamed(6881), CUT_IN_PACKET, 0),
+    ("capture --stream 1-A a", {"a": REFUSED}, b"", b"", b"no connection 1\n", 3),
+    ("capture --stream 4294967295-B", {}, REFUSED, b"", b"no connection 4294967295\n", 3),
+    ("capture --stream 0-A a", {"a": HAND}, b"", b"", b"a: fault: capture: neither a pcap nor a pcapng file\n", 3),
     # a limit that each message keeps, and a smaller one
     ("capture --limit 10 a", {"a": REFUSED}, b"", TEXT, b"", 0),
     ("capture --limit 4 a", {"a": REFUSED}, b"", TEXT, b"", 1),
@@ -1326,8 +1346,8 @@ def has_help(program, name):
     texts = [run(program, words, b"", None) for words in (name + " --help", name + " -h", "help " + name)]
     text = texts[0][0].decode()
     sections = re.findall(r"^(Usage|Options|Example|Exit status):", text, re.M)
-    lines = re.findall(r"^  (?:-\w, |    )--(\S+)(?: <\w+>)? {2,}\S.*$", text, re.M)
-    with_values = re.findall(r"^ +--(\S+) <\w+> .* \[default: .+\]$", text, re.M)
+    lines = re.findall(r"^  (?:-\w, |    )--(\S+)(?: <[\w-]+>)? {2,}\S.*$", text, re.M)
+    with_values = re.findall(r"^ +--(\S+) <[\w-]+> .* \[default: .+\]$", text, re.M)
     return (texts[1:] == [texts[0]] * 2 and texts[0][1:] == (b"", 0) and "\n\nUsage: %s\n" % usage in text
             and sections == ["Usage", "Options", "Example", "Exit status"] and sorted(lines) == sorted(options.split() + ["help"])
             and set(lines) - set(with_values) <= {"help", "json", "show", "torrent"}
