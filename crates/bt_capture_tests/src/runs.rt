@@ -1,4 +1,4 @@
-//! A capture file from its bytes to the report of its connection. The text is that which tools/btcap prints.
+//! A capture file from its bytes to the report of its connection.
 use bt_capture::{CaptureEnd, CaptureFault, CaptureJob, run_capture};
 use bt_io::{MemSource, MemTarget};
 use bt_talk::Terms;

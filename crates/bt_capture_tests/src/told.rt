@@ -1,4 +1,4 @@
-//! Reports and rows as text. The expected lines are those that tools/btcap prints of the captures in tests/btcap.py.
+//! Reports and rows as text. The expected lines were worked out by hand and by another program, of the captures of the tests.
 use bt_ext::{ExtId, Registered, Rules};
 use bt_feed::View;
 use bt_packet::{Address, Host};

@@ -1,8 +1,7 @@
 //! What is said of a captured connection, as text.
 //!
-//! The lines are those of `tools/btcap`, except for the name of a client: here its first 60 bytes are told, and a dot for each that
-//! isn't printable ASCII; there 60 characters of UTF-8. A row has its connection's number. Rows don't name requests without an
-//! answer: that is known later.
+//! Of a client's name the first 60 bytes are told, and a dot for each that isn't printable ASCII. A row has its connection's number.
+//! Rows don't name requests without an answer: that is known later.
 #![tactic(auto)]
 
 mod closing;
