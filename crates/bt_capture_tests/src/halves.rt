@@ -67,10 +67,12 @@ fn acknowledges_lost_bytes(rt: HostRuntime) {
 
 /// Of eight bytes two differ from those that were handed out, and one from those ahead, also in a larger ring.
 #[test]
-fn compares_and_moves(rt: HostRuntime) -> Result<(), AllocError> {
+fn compares_and_lengthens(rt: HostRuntime) -> Result<(), AllocError> {
     let mut memory = Vec::new(rt.alloc());
-    let mut known = [false; 4];
-    let mut bytes = [0u8; 4];
+    let mut known = Vec::new(rt.alloc());
+    known.push(0xffu8)?;
+    let mut bytes = Vec::new(rt.alloc());
+    bytes.extend_from_slice(b"????????")?;
     let mut ring = Ring::new(1000, &mut known, &bytes);
     assert_eq!(rt;
         ring.put(&mut known, &mut bytes, 1000, b"abc"),
@@ -89,19 +91,33 @@ fn compares_and_moves(rt: HostRuntime) -> Result<(), AllocError> {
         ring.count_conflicts_ahead(&known, &bytes, 1000, b"a??de?gh"),
         1
     );
-    assert_eq!(rt; ring.put(&mut known, &mut bytes, 1007, b"h"), Put::Full);
-    let mut more_known = [true; 8];
-    let mut more_bytes = [0u8; 8];
-    let mut more = ring.moved(&known, &bytes, &mut more_known, &mut more_bytes);
     assert_eq!(rt;
-        more.count_conflicts_ahead(&more_known, &more_bytes, 1000, b"a??de?gh"),
+        ring.put(&mut known, &mut bytes, 1009, b"jk"),
+        Put::Taken { from: 0, len: 0 }
+    );
+    assert_eq!(rt; ring.put(&mut known, &mut bytes, 1011, b"l"), Put::Full);
+    ring.lengthen(&mut known, &mut bytes, 9)?;
+    assert_eq!(rt; bytes.len(), 16);
+    assert_eq!(rt;
+        ring.count_conflicts_ahead(&known, &bytes, 1000, b"a??de?gh?jk"),
         1
     );
     assert_eq!(rt;
-        more.put(&mut more_known, &mut more_bytes, 1003, b"de?h"),
+        ring.put(&mut known, &mut bytes, 1011, b"l"),
+        Put::Taken { from: 0, len: 0 }
+    );
+    assert_eq!(rt;
+        ring.put(&mut known, &mut bytes, 1003, b"de?h"),
         Put::Taken { from: 0, len: 2 }
     );
-    assert_eq!(rt; more.ready(&mut more_known, &more_bytes), b"fg".as_slice());
+    assert_eq!(rt; ring.ready(&mut known, &bytes), b"fg".as_slice());
+    assert_eq!(rt; ring.ready(&mut known, &bytes).len(), 0);
+    assert_eq!(rt;
+        ring.put(&mut known, &mut bytes, 1007, b"hi"),
+        Put::Taken { from: 0, len: 2 }
+    );
+    assert_eq!(rt; ring.ready(&mut known, &bytes), b"jkl".as_slice());
+    assert_eq!(rt; ring.next(), 1012);
     Ok(())
 }
 

@@ -14,7 +14,7 @@ fn wraps_both_ways(rt: HostRuntime) {
 /// Segments that come swapped, twice and with another copy of bytes that came before.
 #[test]
 fn fills_a_gap(rt: HostRuntime) {
-    let mut known = [true; 8];
+    let mut known = [0xffu8; 1];
     let mut bytes = [0u8; 8];
     let mut ring = Ring::new(1000, &mut known, &bytes);
     assert_eq!(rt;
@@ -46,7 +46,7 @@ fn fills_a_gap(rt: HostRuntime) {
 /// A whole direction: swapped, repeated, changed on the second time, and with a gap in the end.
 #[test]
 fn makes_the_stream(rt: HostRuntime) {
-    let mut known = [true; 8];
+    let mut known = [0xffu8; 1];
     let mut bytes = [0u8; 8];
     let captured = [
         Captured {
