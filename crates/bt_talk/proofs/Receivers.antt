@@ -84,7 +84,7 @@ judged_same own p q judge e f j = record {
   judged = subst (λ (l : List ℕ). AreJudged own (drop j.start l) j.free j.bep judge) (sym f) j.judged;
 }
 
-start_within : (p : Past) (later : List ℕ) (start : ℕ) → p.out ≡ p.front ++ later → IsFirstHello p.front start → start ≤ length p.out
+pub start_within : (p : Past) (later : List ℕ) (start : ℕ) → p.out ≡ p.front ++ later → IsFirstHello p.front start → start ≤ length p.out
 start_within p later start e first =
     let fits : start + 20 ≤ length p.front = hello_fits p.front start first.here in omega (arith, ap length e, length-append p.front later)
 

@@ -3,6 +3,7 @@ pub mod Shows
 pub mod Courses
 pub mod Rooms
 pub mod Pasts
+pub mod Sent
 pub mod Terms
 pub mod Refusals
 pub mod Receivers

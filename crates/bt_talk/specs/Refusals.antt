@@ -12,7 +12,7 @@ use Rattle.bt_wire.specs.declared.item.Refusal.{Refusal}
 use Rattle.bt_wire.specs.Streams.{Outcome, IsVerdict, refusal_at_end}
 use Rattle.bt_talk.specs.declared.refused.Judgement.{Judgement}
 
--- A front of b is refused in this way, if it ends there, and this is there of the message after its items.
+-- A prefix of b is refused in this way, if it ends there, and this is there of the message after its items.
 pub record IsRefusedBy (own : Own) (b : List ℕ) (r : Refusal) (m : RefusedMessage) : Type 0 where
   pub front : List ℕ
   pub later : List ℕ

@@ -1,13 +1,15 @@
 //! One direction of a captured connection.
 ghost use Rattle.bt_talk.specs.declared.terms.Terms.{Terms};
-ghost use Rattle.std.specs.Prelude.{◌≡◌, ◌<◌, ◌≤◌, ◌++◌, ◌∷◌, ℕ, List, [], Bool, false, true, length, OnOk, IfOk, IfSome, Option, Some};
+ghost use Rattle.std.specs.Prelude.{◌≡◌, ◌<◌, ◌≤◌, ◌++◌, ◌∷◌, ℕ, List, [], Bool, false, true, length, drop, unwrap_or, OnOk, IfOk, IfSome, Option, Some};
 ghost use Rattle.bt_flow.specs.declared.flow.Flow.{Flow};
 ghost use Rattle.bt_intro.specs.Hearing.{IsHeardOf, HasNoMemory};
+ghost use Rattle.bt_intro.specs.Hellos.{IsStartOf};
 ghost use Rattle.bt_feed.specs.Pumps.{Took};
 ghost use Rattle.bt_tcp.specs.Heard.{Acked};
 ghost use Rattle.bt_wire.specs.declared.context.Own.{Own};
 ghost use Rattle.bt_wire.specs.declared.item.Item.{Item};
 ghost use Rattle.bt_talk.specs.Pasts.{Past, no_past, IsFlowOf, Adds};
+ghost use Rattle.bt_talk.specs.Sent.{IsReady};
 ghost use Rattle.bt_talk.specs.Receivers.{IsReceiver, IsJudgedBy, IsReceiverNow, AreItems, AreVerdicts};
 ghost use Rattle.bt_talk.specs.Replays.{IsReplay, IsOpenedBy};
 ghost use Rattle.bt_talk.specs.Stages.{IsDirection, IsStage, AreItemsIn, Speaks, is_opening, receiver_in, IsRefusedIn};
@@ -62,7 +64,8 @@ fn take_judged(
 ) -> Result<(), AllocError>
     ensures { OnOk result ((own : Own) (p : Past) (later : List ℕ) → IsFlowOf p flow.old → p.out ≡ p.front ++ later → IsJudgedBy own p judge.old
         → (q : Past) × IsFlowOf q flow.new × IsJudgedBy own q judge.new × Adds given.now false p flow.old q flow.new
-        × ((xs : List (ℕ × Item)) → AreItems own p xs → (more : List (ℕ × Item)) × AreItems own q (xs ++ more) × Took Watches watch.old more watch.new)) }
+        × ((xs : List (ℕ × Item)) → AreItems own p xs → (more : List (ℕ × Item)) × AreItems own q (xs ++ more) × Took Watches watch.old more watch.new)
+        × (q.out ≡ p.out ++ out.new.items)) }
 {
     out.clear();
     flow.take(given, out)?;
@@ -72,7 +75,8 @@ fn take_judged(
 
 /// Takes a segment of a stream that isn't judged.
 fn take_only(flow: &mut Flow, given: &Given, out: &mut Vec<u8>) -> Result<(), AllocError>
-    ensures { OnOk result ((p : Past) → IsFlowOf p flow.old → (q : Past) × IsFlowOf q flow.new × Adds given.now false p flow.old q flow.new) }
+    ensures { OnOk result ((p : Past) → IsFlowOf p flow.old → (q : Past) × IsFlowOf q flow.new × Adds given.now false p flow.old q flow.new
+        × (q.out ≡ p.out ++ out.new.items)) }
 {
     out.clear();
     flow.take(given, out)?;
@@ -148,7 +152,8 @@ impl Direction {
     ) -> Result<(), AllocError>
         ensures taken { OnOk result ((terms : Terms) (p other : Past) → IsDirection terms p other self.old
             → (q : Past) × IsDirection terms q other self.new × Adds given.now (is_opening self.old.stage) p self.old.flow q self.new.flow
-            × Speaks self.old.stage p watch.old self.new.stage q watch.new) }
+            × Speaks self.old.stage p watch.old self.new.stage q watch.new
+            × (out.old.items ≡ [] → IsReady (is_opening self.old.stage) p q out.new.items)) }
         ensures stage { OnOk result (is_opening self.new.stage ≡ is_opening self.old.stage) }
         ensures cut { OnOk result (self.new.cut ≡ self.old.cut) }
     {
@@ -189,6 +194,26 @@ impl Direction {
             }
             Stage::Open(_) => Ok(Replay::none(None, self.cut)),
             Stage::Stranger => Ok(Replay::none(None, self.cut)),
+        }
+    }
+
+    /// Appends the bytes of the opening from the handshake on, or all of them if none started in it.
+    ///
+    /// # Errors
+    /// `AllocError` when out of memory.
+    pub(crate) fn hand_out(&self, out: &mut Vec<u8>) -> Result<(), AllocError>
+        ensures { OnOk result ((terms : Terms) (p other : Past) → IsDirection terms p other self.now → is_opening self.now.stage ≡ true
+            → (start : Option ℕ) × IsStartOf p.front start × (out.new.items ≡ out.old.items ++ drop (unwrap_or start 0) p.out)) }
+    {
+        match &self.stage {
+            Stage::Opening(front) => {
+                let start = self.intro.start().unwrap_or(0).min(front.len());
+                let (_, kept) = front.split_at(start);
+                out.extend_from_slice(kept)?;
+                Ok(())
+            }
+            Stage::Open(_) => Ok(()),
+            Stage::Stranger => Ok(()),
         }
     }
 

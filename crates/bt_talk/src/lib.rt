@@ -13,6 +13,7 @@ mod replay;
 mod room;
 mod rows;
 mod stage;
+mod summary;
 mod talk;
 mod terms;
 mod unanswered;

@@ -2,6 +2,7 @@
 ghost use Rattle.bt_talk.specs.declared.terms.Terms.{Terms};
 ghost use Rattle.std.specs.Prelude.{◌≡◌, [], ◌<◌, ◌+◌, ◌^◌, ◌-◌, ℕ, List, Bool, true, false, length, not, min, IfOk, OnOk, OnErr, Option, alloc_error};
 ghost use Rattle.bt_talk.specs.Pasts.{Past, no_past, IsAcked, given_of as given_by};
+ghost use Rattle.bt_talk.specs.Sent.{IsReady};
 ghost use Rattle.bt_remarks.specs.declared.events.Side.{Side};
 ghost use Rattle.bt_remarks.specs.declared.events.Side.TheVariants.{A, B};
 ghost use Rattle.bt_talk.specs.Stages.{IsDirection, SpeaksAs, is_opening};
@@ -76,11 +77,13 @@ fn turn(
 ) -> Result<(), AllocError>
     ensures taken { OnOk result ((terms : Terms) (p q : Past) → IsDirection terms p q from.old → IsDirection terms q p to.old
         → is_opening from.old.stage ≡ is_opening to.old.stage → (t : Turns segment.now terms p q from.old to.old from.new to.new)
-        × SpeaksAs side from.old.stage p watch.old from.new.stage t.p' watch.new) }
+        × SpeaksAs side from.old.stage p watch.old from.new.stage t.p' watch.new
+        × (room.old.out.items ≡ [] → IsReady (is_opening from.old.stage) p t.p' room.new.out.items)) }
     ensures from { OnOk result (is_opening from.new.stage ≡ is_opening from.old.stage) }
     ensures to { OnOk result (to.new.stage ≡ to.old.stage) }
     ensures cut { OnOk result (from.new.cut ≡ from.old.cut) }
     ensures cut_to { OnOk result (to.new.cut ≡ to.old.cut) }
+    ensures room { room.new ≡ record room.old { out = room.new.out } }
 {
     if segment.flags.rst {
         return Ok(());
@@ -115,20 +118,20 @@ fn is_over(a: &Direction, b: &Direction, segments: u32) -> bool
 pub struct Talk {
     alloc: Global,
     terms: Terms,
-    ends: Ends,
-    a: Direction,
-    b: Direction,
+    pub(crate) ends: Ends,
+    pub(crate) a: Direction,
+    pub(crate) b: Direction,
     /// How many segments came in the opening.
     segments: u32,
-    marks: Vec<Mark>,
-    watch: Watch,
-    courses: Courses,
-    closing: Closing,
+    pub(crate) marks: Vec<Mark>,
+    pub(crate) watch: Watch,
+    pub(crate) courses: Courses,
+    pub(crate) closing: Closing,
     is_lost: bool,
 }
 
 impl Talk {
-    ghost use Rattle.std.specs.Prelude.{Err};
+    ghost use Rattle.std.specs.Prelude.{Err, Some};
     ghost use Rattle.bt_wire.specs.Streams.{Outcome};
     ghost use Rattle.bt_jobs.specs.Others.{first_of, own_of_other};
     ghost use Rattle.bt_flow.specs.Flows.{AreGapsOf, HasHole, IsClosed, conflicts_in, high_in};
@@ -147,7 +150,8 @@ impl Talk {
     ghost use Rattle.bt_talk.specs.Courses.{closes_by, course_of};
     ghost use Rattle.bt_talk.specs.Inside.{EndsInside, ShowsInside};
     ghost use Rattle.bt_talk.specs.Replays.{IsOpened, HasOpened};
-    ghost use Rattle.bt_talk.specs.Rooms.{rows_in};
+    ghost use Rattle.bt_talk.specs.Rooms.{rows_in, wanted_in, sent_in};
+    ghost use Rattle.bt_talk.specs.Sent.{IsSent, SendsOn};
     ghost use Rattle.bt_talk.specs.Rows.{Shown, is_item};
     ghost use Rattle.bt_talk.specs.Shown.{ShowsOthers};
     ghost use Rattle.bt_talk.specs.Shows.{Appends, HasNone};
@@ -182,7 +186,8 @@ impl Talk {
 
     /// Takes a segment that one of the sides sent.
     fn exchange(&mut self, segment: &Segment, room: &mut Room) -> Result<(), AllocError>
-        ensures taken { OnOk result ((a b : Past) → IsTalk a b self.old → Exchanges segment.now a b self.old self.new) }
+        ensures taken { OnOk result ((a b : Past) → IsTalk a b self.old → (x : Exchanges segment.now a b self.old self.new)
+            × (room.old.out.items ≡ [] → IsReady (is_in_opening self.old) (of_side x.side a b) (of_side x.side x.a' x.b') room.new.out.items)) }
         ensures opening { OnOk result (is_in_opening self.new ≡ is_in_opening self.old) }
         ensures cuts { OnOk result ((side : Side) → cut_of side self.new ≡ cut_of side self.old) }
         ensures order { OnOk result ((a b : Past) → IsTalk a b self.old → HasSaid segment.now self.old self.new) }
@@ -193,6 +198,7 @@ impl Talk {
         ensures closing { self.new.closing ≡ self.old.closing }
         ensures segments { self.new.segments ≡ self.old.segments }
         ensures is_lost { self.new.is_lost ≡ self.old.is_lost }
+        ensures room { room.new ≡ record room.old { out = room.new.out } }
     {
         match self.ends.sender(segment) {
             Side::A => {
@@ -269,7 +275,7 @@ impl Talk {
     }
 
     /// Tells whether a side has begun a handshake.
-    fn is_torrent(&self) -> bool {
+    pub(crate) fn is_torrent(&self) -> bool {
         self.a.intro.start().is_some() || self.b.intro.start().is_some()
     }
 
@@ -303,7 +309,7 @@ impl Talk {
     }
 
     /// Judges what came in the opening, each side by its receiver.
-    fn judge_opening(&mut self, room: &mut Room) -> Result<(Opened, Opened), AllocError>
+    fn judge_opening(&mut self) -> Result<(Opened, Opened), AllocError>
         ensures open { IfOk result (λ both. (is_opening both.0.stage ≡ false) × (is_opening both.1.stage ≡ false)) }
         ensures judged { IfOk result (λ both. (a b : Past) → IsTalk a b self.old → is_in_opening self.old ≡ true
             → IsOpened self.old.terms a b (cut_of A self.old) both.0 × IsOpened self.old.terms b a (cut_of B self.old) both.1
@@ -316,6 +322,21 @@ impl Talk {
         let b = self.b.replay(self.alloc, of_b)?;
         let both = judge_both(a, b, &self.marks, &mut self.watch)?;
         Ok(both)
+    }
+
+    /// Hands out what the wanted side sent in the opening, from its handshake on, or from its first byte if none started in it.
+    fn hand_out(&self, room: &mut Room) -> Result<(), AllocError>
+        ensures sent { OnOk result ((a b : Past) (side : Side) → IsTalk a b self.now → is_in_opening self.now ≡ true → room.old.wanted ≡ Some side
+            → room.old.out.items ≡ [] → IsSent false (of_side side a b) room.new.out.items) }
+        ensures room { room.new ≡ record room.old { out = room.new.out } }
+    {
+        match room.wanted {
+            Some(side) => {
+                self.direction(side).hand_out(&mut room.out)?;
+                Ok(())
+            }
+            None => Ok(()),
+        }
     }
 
     /// Gives each side its receiver, and judges what came in the opening.
@@ -331,11 +352,16 @@ impl Talk {
         ensures terms { self.new.terms ≡ self.old.terms }
         ensures closing { self.new.closing ≡ self.old.closing }
         ensures is_lost { self.new.is_lost ≡ self.old.is_lost }
+        ensures sent { OnOk result ((a b : Past) (side : Side) → IsTalk a b self.old → is_in_opening self.old ≡ true → room.old.wanted ≡ Some side
+            → room.old.out.items ≡ [] → IsSent (is_in_opening self.new) (of_side side a b) room.new.out.items) }
+        ensures room_already { OnOk result (is_in_opening self.old ≡ false → room.new ≡ room.old) }
+        ensures room { room.new ≡ record room.old { out = room.new.out } }
     {
         if !self.a.is_opening() {
             return Ok(());
         }
-        let (of_a, of_b) = self.judge_opening(room)?;
+        self.hand_out(room)?;
+        let (of_a, of_b) = self.judge_opening()?;
         self.a.open(of_a);
         self.b.open(of_b);
         self.marks = Vec::new(self.alloc);
@@ -354,6 +380,10 @@ impl Talk {
         ensures terms { self.new.terms ≡ self.old.terms }
         ensures closing { self.new.closing ≡ self.old.closing }
         ensures is_lost { self.new.is_lost ≡ self.old.is_lost }
+        ensures sent { OnOk result ((a b : Past) (side : Side) → IsTalk a b self.old → is_in_opening self.old ≡ true → room.old.wanted ≡ Some side
+            → room.old.out.items ≡ [] → IsSent (is_in_opening self.new) (of_side side a b) room.new.out.items) }
+        ensures room_already { OnOk result (is_in_opening self.old ≡ false → room.new ≡ room.old) }
+        ensures room { room.new ≡ record room.old { out = room.new.out } }
     {
         if !self.a.is_opening() {
             return Ok(());
@@ -416,17 +446,21 @@ impl Talk {
         room: &mut Room,
     ) -> Result<(), AllocError>
         ensures taken { OnOk result ((a b : Past) → IsTalk a b self.old → (took : Takes segment.now when a b self.old self.new)
-            × (is_in_opening self.old ≡ true → HasSettled segment.now when a b self.old self.new took self.old.watch.rows self.new.watch.rows)) }
+            × (is_in_opening self.old ≡ true → HasSettled segment.now when a b self.old self.new took self.old.watch.rows self.new.watch.rows)
+            × (room.old.out.items ≡ [] → (side : Side) → room.old.wanted ≡ Some side
+            → SendsOn (is_in_opening self.old) (of_side side a b) (is_in_opening self.new) (of_side side took.a' took.b') room.new.out.items)) }
         ensures order { OnOk result ((a b : Past) → IsTalk a b self.old → is_in_opening self.old ≡ false
             → Shows segment.now self.old.watch.when self.old self.new self.old.watch.rows self.new.watch.rows) }
         ensures ends { self.new.ends ≡ self.old.ends }
         ensures terms { self.new.terms ≡ self.old.terms }
         ensures is_lost { self.new.is_lost ≡ self.old.is_lost }
+        ensures room { room.new ≡ record room.old { out = room.new.out } }
     {
         let side = self.ends.sender(segment);
         let before = self.direction(side).refusal();
         let length = self.length(side);
         self.exchange(segment, room)?;
+        room.keep_of(side);
         let closed = self.go_on(side, length, segment);
         self.keep_mark(side, segment, closed)?;
         self.show(side, before, closed)?;
@@ -444,6 +478,9 @@ impl Talk {
     /// refusal, if the stream is refused with it, and one if the side closes with it; at the end of the opening the rows of all that
     /// came in it.
     ///
+    /// If the room wants a side, it has the bytes that this segment adds to that side's stream; in the opening there are none, and at
+    /// its end all that came in it, from the handshake on, or from the first byte if no handshake started in it.
+    ///
     /// # Errors
     /// `AllocError` when out of memory. The connection is lost then: it takes nothing more, and nothing is promised of what it tells.
     /// The room has no rows then.
@@ -453,6 +490,10 @@ impl Talk {
             → Shows segment.now when self.old self.new (rows_in room.old) (rows_in room.new)) }
         ensures opened { OnOk result ((a b : Past) → IsTalk a b self.old → is_in_opening self.old ≡ true → (took : Takes segment.now when a b self.old self.new)
             × HasSettled segment.now when a b self.old self.new took (rows_in room.old) (rows_in room.new)) }
+        ensures sent { OnOk result ((a b : Past) → IsTalk a b self.old → (took : Takes segment.now when a b self.old self.new)
+            × ((side : Side) → wanted_in room.old ≡ Some side
+            → SendsOn (is_in_opening self.old) (of_side side a b) (is_in_opening self.new) (of_side side took.a' took.b') (sent_in room.new))) }
+        ensures wanted { wanted_in room.new ≡ wanted_in room.old }
         ensures rows { OnOk result ((a b : Past) → IsTalk a b self.old → (rows : List Shown) × Appends rows (rows_in room.old) (rows_in room.new)) }
         ensures none { OnErr result (HasNone (rows_in room.old) (rows_in room.new)) }
         ensures there { OnOk result (is_lost self.new ≡ false) }
@@ -462,6 +503,7 @@ impl Talk {
         ensures terms { terms_of self.new ≡ terms_of self.old }
     {
         let heading = room.rows.heading;
+        room.out.clear();
         if self.is_lost {
             room.rows.begin(heading);
             return Err(AllocError);
@@ -478,12 +520,15 @@ impl Talk {
             }
             Err(error) => {
                 room.rows.begin(heading);
+                room.out.clear();
                 Err(error)
             }
         }
     }
 
     /// Ends the opening of a connection that is over, so that what came in it is judged. Its rows are appended to those of the room.
+    ///
+    /// If the room wants a side, it has what that side sent in the opening, as after [`Talk::take`]; without an opening, nothing.
     ///
     /// # Errors
     /// `AllocError` when out of memory. The connection is lost then, and the room has no rows.
@@ -503,8 +548,12 @@ impl Talk {
         ensures stays { is_lost self.old ≡ true → result ≡ Err alloc_error }
         ensures ends { ends_of self.new ≡ ends_of self.old }
         ensures terms { terms_of self.new ≡ terms_of self.old }
+        ensures sent { OnOk result ((a b : Past) (side : Side) → IsTalk a b self.old → wanted_in room.old ≡ Some side
+            → SendsOn (is_in_opening self.old) (of_side side a b) (is_in_opening self.new) (of_side side a b) (sent_in room.new)) }
+        ensures wanted { wanted_in room.new ≡ wanted_in room.old }
     {
         let heading = room.rows.heading;
+        room.out.clear();
         if self.is_lost {
             room.rows.begin(heading);
             return Err(AllocError);
@@ -520,86 +569,10 @@ impl Talk {
             }
             Err(error) => {
                 room.rows.begin(heading);
+                room.out.clear();
                 Err(error)
             }
         }
-    }
-
-    /// Appends to the rows of the room the row of a side's first gap, if it has one.
-    fn show_gap(&self, side: Side, room: &mut Room) -> Result<(), AllocError>
-        ensures gap { OnOk result (ShowsGap side self.now (rows_in room.old) (rows_in room.new)) }
-        ensures err { OnErr result (Appends [] (rows_in room.old) (rows_in room.new)) }
-    {
-        let start = self.start(side);
-        let Some(gap) = self.gaps(side).first else {
-            return Ok(());
-        };
-        let start = start.unwrap_or(0) as u64;
-        let begin = When {
-            nanos: room.rows.heading.start,
-            packet: 0,
-        };
-        let when = self.courses.of(side).grown.unwrap_or(begin);
-        let offset = gap.place.saturating_sub(start);
-        let deed = Deed::Gap(gap.length);
-        room.rows.put(when, side, offset, deed, NO_REMARKS)?;
-        Ok(())
-    }
-
-    /// Returns the refusal of a side's stream that ends inside an item, though nothing cut it.
-    fn end_inside(&self, side: Side) -> Option<Refusal>
-        ensures { (a b : Past) → IsTalk a b self.now → EndsInside side a b self.now result }
-    {
-        let closed = has_closed(side, &self.closing.closed);
-        let gaps = self.gaps(side);
-        ended_inside(closed, &gaps.first, &self.verdicts(side))
-    }
-
-    /// Appends to the rows of the room the row of a side's stream that ends inside an item, though nothing cut it.
-    fn show_inside(&self, side: Side, room: &mut Room) -> Result<(), AllocError>
-        ensures inside { OnOk result (ShowsInside side self.now (rows_in room.old) (rows_in room.new)) }
-        ensures err { OnErr result (Appends [] (rows_in room.old) (rows_in room.new)) }
-    {
-        let Some(refusal) = self.end_inside(side) else {
-            return Ok(());
-        };
-        let begin = When {
-            nanos: room.rows.heading.start,
-            packet: 0,
-        };
-        let when = self.courses.of(side).grown.unwrap_or(begin);
-        let deed = Deed::Refused(refusal);
-        room.rows.put(when, side, refusal.at, deed, NO_REMARKS)?;
-        Ok(())
-    }
-
-    /// Appends to the rows of the room the last ones of a side.
-    fn show_last(&self, side: Side, room: &mut Room) -> Result<(), AllocError>
-        ensures others { OnOk result ((others : List Shown) × (filter is_item others ≡ []) × Appends others (rows_in room.old) (rows_in room.new)) }
-        ensures err { OnErr result ((rows : List Shown) × Appends rows (rows_in room.old) (rows_in room.new)) }
-    {
-        self.show_inside(side, room)?;
-        self.show_gap(side, room)?;
-        Ok(())
-    }
-
-    /// Appends to the rows of the room the row of each side's first gap, at the packet with which the last byte before it came.
-    ///
-    /// If a side closed first and its stream, which has no gap, ends inside an item, that refusal has a row in its place. Without a
-    /// handshake there are none.
-    ///
-    /// # Errors
-    /// `AllocError` when out of memory.
-    pub fn show_gaps(&self, room: &mut Room) -> Result<(), AllocError>
-        ensures others { OnOk result ((others : List Shown) × (filter is_item others ≡ []) × Appends others (rows_in room.old) (rows_in room.new)) }
-        ensures err { OnErr result ((rows : List Shown) × Appends rows (rows_in room.old) (rows_in room.new)) }
-    {
-        if !self.is_torrent() {
-            return Ok(());
-        }
-        self.show_last(Side::A, room)?;
-        self.show_last(Side::B, room)?;
-        Ok(())
     }
 
     /// Tells whether memory ran out, so that nothing more is taken.
@@ -624,213 +597,12 @@ impl Talk {
     }
 
     /// Returns what is kept of a side's stream.
-    fn direction(&self, side: Side) -> &Direction
+    pub(crate) fn direction(&self, side: Side) -> &Direction
         ensures { result.now ≡ direction_of side self.now }
     {
         match side {
             Side::A => &self.a,
             Side::B => &self.b,
         }
-    }
-
-    /// Returns the verdicts of a side's stream, as if it ended here, and what is there of the messages that they refuse.
-    ///
-    /// The stream is that from the side's handshake on, and its receiver is the one that the other side announced in the opening.
-    /// There are none in the opening, and without a whole handshake of the side.
-    pub fn verdicts(&self, side: Side) -> Option<Judgement>
-        ensures { (a b : Past) → IsTalk a b self.now
-            → AreVerdicts (is_in_opening self.now) (terms_of self.now) (of_side side a b) (of_side (other side) a b) result }
-    {
-        self.direction(side).verdicts()
-    }
-
-    /// Returns the receiver by which a side's stream is judged.
-    ///
-    /// There is none in the opening, and without a whole handshake of the side.
-    pub fn receiver(&self, side: Side) -> Option<Receiver>
-        ensures { (a b : Past) → IsTalk a b self.now
-            → IsReceiverNow (is_in_opening self.now) (terms_of self.now) (of_side side a b) (of_side (other side) a b) result }
-    {
-        self.direction(side).receiver()
-    }
-
-    /// Tells whether both sides have the Fast Extension (BEP 6).
-    fn have_fast(&self) -> bool
-        ensures { (a b : Past) → IsTalk a b self.now → HaveFast a b result }
-    {
-        let a = self.handshake(Side::A);
-        let b = self.handshake(Side::B);
-        has_fast(&a) && has_fast(&b)
-    }
-
-    /// Returns how a side's direction ended, if nothing more comes.
-    fn ending(&self, side: Side) -> Ending
-        ensures { (a b : Past) → IsTalk a b self.now → IsEnding side a b self.now result }
-    {
-        let verdicts = self.verdicts(side);
-        let has_hole = self.has_hole(side);
-        Ending {
-            closed_first: has_closed(side, &self.closing.closed),
-            stopped: !is_accepted(&verdicts) || has_hole,
-        }
-    }
-
-    /// Returns the requests of a side that got no answer.
-    fn unanswered(&self, side: Side) -> Option<Noted>
-        ensures { (a b : Past) (i : IsTalk a b self.now) → AreUnanswered side a b self.now i.said.events (i.said.items side) result }
-    {
-        if !self.have_fast() {
-            return None;
-        }
-        unanswered_of(&self.watch.matcher, side, self.ending(other(side)))
-    }
-
-    /// Returns the remarks on what a side sent, as if the connection ended here.
-    ///
-    /// There are none in the opening. Requests that got no answer are told only if both sides have the Fast Extension (BEP 6), and only
-    /// those that the other side should have answered: it answered a later one, choked after them, or closed first. They aren't told
-    /// if the other side's stream ends inside a message, is refused by the lenient rules, or lacks bytes that were sent.
-    pub fn remarked(&self, side: Side) -> Remarked
-        ensures remarked { (a b : Past) (i : IsTalk a b self.now) → AreRemarked side i.said.events (i.said.items side) result }
-        ensures unanswered { (a b : Past) (i : IsTalk a b self.now)
-            → AreUnanswered side a b self.now i.said.events (i.said.items side) result.unanswered }
-    {
-        let unanswered = self.unanswered(side);
-        Remarked {
-            unanswered,
-            ..self.watch.remarked(side)
-        }
-    }
-
-    /// Returns the handshake of a side, once all of it came in the opening.
-    pub fn handshake(&self, side: Side) -> Option<Handshake>
-        ensures { (a b : Past) → IsTalk a b self.now
-            → (v : Outcome) × IsSaid (of_side side a b).front v × (result ≡ first_of handshake_of v.items) }
-    {
-        self.direction(side).intro.handshake()
-    }
-
-    /// Returns what a side announced in the opening.
-    pub fn announced(&self, side: Side) -> Option<Announced>
-        ensures { (a b : Past) → IsTalk a b self.now
-            → (v : Outcome) × IsSaid (of_side side a b).front v × (result ≡ own_of_other v.items) }
-    {
-        self.direction(side).intro.announced()
-    }
-
-    /// Returns the first 240 bytes of the client's name that a side announced in the opening (BEP 10, `v`).
-    pub fn client(&self, side: Side) -> &[u8]
-        ensures { (a b : Past) → IsTalk a b self.now
-            → (v : Outcome) × IsSaid (of_side side a b).front v × (result.now ≡ last_client v.items) }
-    {
-        self.direction(side).intro.client()
-    }
-
-    /// Returns how many bytes a side sent before its handshake, if one started in the opening.
-    pub fn start(&self, side: Side) -> Option<usize>
-        ensures { (a b : Past) → IsTalk a b self.now → IsStartOf (of_side side a b).front result }
-    {
-        self.direction(side).intro.start()
-    }
-
-    /// Returns how many bytes of a side's stream are put together.
-    pub fn length(&self, side: Side) -> u64
-        ensures { (a b : Past) → IsTalk a b self.now → result ≡ length (of_side side a b).out }
-    {
-        self.direction(side).flow.next()
-    }
-
-    /// Returns how far a side's captured bytes reach: the greatest offset, and one.
-    pub fn high(&self, side: Side) -> u64
-        ensures { (a b : Past) → IsTalk a b self.now → result ≡ high_in (of_side side a b).heard (flow_of side self.now).stream }
-    {
-        self.direction(side).flow.high()
-    }
-
-    /// Returns the runs of bytes that a side sent and that weren't captured.
-    pub fn gaps(&self, side: Side) -> Gaps
-        ensures { (a b : Past) → IsTalk a b self.now → let p = of_side side a b in AreGapsOf p.heard p.segs p.out (flow_of side self.now) result }
-    {
-        self.direction(side).flow.gaps()
-    }
-
-    /// Returns how many captured bytes of a side differed from those that came first.
-    pub fn conflicts(&self, side: Side) -> u64
-        ensures { result ≡ conflicts_in (flow_of side self.now).stream }
-    {
-        self.direction(side).flow.conflicts()
-    }
-
-    /// Tells whether bytes of a side are known to be sent that aren't put together.
-    pub fn has_hole(&self, side: Side) -> bool
-        ensures { (a b : Past) → IsTalk a b self.now → let p = of_side side a b in HasHole p.heard p.out (flow_of side self.now).stream result }
-    {
-        self.direction(side).flow.has_hole()
-    }
-
-    /// Tells whether a side's FIN was reached and acknowledged (RFC 9293 3.6).
-    pub fn is_closed(&self, side: Side) -> bool
-        ensures { (a b : Past) → IsTalk a b self.now → let p = of_side side a b in IsClosed p.heard p.out (flow_of side self.now).stream result }
-    {
-        self.direction(side).flow.is_closed()
-    }
-
-    /// Returns the first FIN or RST, if one came.
-    pub fn closed(&self) -> Option<Closed>
-        ensures { result ≡ (closing_of self.now).closed }
-    {
-        self.closing.closed
-    }
-
-    /// Returns how many bytes from its handshake on a side had sent at the first FIN or RST.
-    pub fn had_sent(&self, side: Side) -> Option<u64>
-        ensures { (a b : Past) → IsTalk a b self.now → (start : Option ℕ) × IsStartOf (of_side side a b).front start
-            × (result ≡ option_map (λ c. high_at side c - unwrap_or start 0) (closing_of self.now).closed) }
-    {
-        let start = self.start(side).unwrap_or(0);
-        match &self.closing.closed {
-            Some(closed) => Some(closed.high(side).saturating_sub(start as u64)),
-            None => None,
-        }
-    }
-
-    /// Returns the last that a side had sent at the first FIN or RST, from its handshake on.
-    ///
-    /// It is that of the bytes that were put together then. In the opening there is none.
-    pub fn last_before_close(&self, side: Side) -> Option<Last>
-        ensures { (a b : Past) → IsTalk a b self.now → IsLastBefore (is_in_opening self.now) (terms_of self.now) (of_side side a b) (of_side (other side) a b)
-            (cut_of side self.now) result }
-    {
-        self.direction(side).last_before()
-    }
-
-    /// Tells whether the connection is over at this time, so that no segment of it is awaited.
-    ///
-    /// That is four seconds after the first RST, and four seconds after both FINs were reached and acknowledged.
-    pub fn is_over(&self, nanos: u64) -> bool
-        ensures { result ≡ is_quiet (closing_of self.now).over nanos }
-    {
-        self.closing.is_quiet(nanos)
-    }
-
-    /// Tells whether a segment begins another connection between the same ends.
-    ///
-    /// It does if it is a SYN without ACK of a side that has sent something, and not that side's SYN again.
-    pub fn opens_again(&self, segment: &Segment) -> bool
-        ensures { (a b : Past) → IsTalk a b self.now → (side : Side) × IsSender segment.now self.now side × (let p = of_side side a b in
-            result ≡ opens_by segment.now.flags (high_in p.heard (flow_of side self.now).stream) (opening_of p.heard) segment.now.sequence) }
-    {
-        let flow = &self.direction(self.ends.sender(segment)).flow;
-        opens(segment.flags, flow.high(), flow.opening(), segment.sequence)
-    }
-
-    /// Returns about how many bytes of memory the connection takes besides its own fields.
-    pub fn size(&self) -> usize {
-        let marks = self.marks.capacity().saturating_mul(size_of::<Mark>());
-        self.a
-            .size()
-            .saturating_add(self.b.size())
-            .saturating_add(marks)
-            .saturating_add(self.watch.matcher.size())
     }
 }

@@ -1,4 +1,4 @@
-use Rattle.std.proofs.Common.{◌≡◌, ◌∙◌, ◌++◌, ℕ, List, false, drop, ap}
+use Rattle.std.proofs.Common.{◌≡◌, ◌∙◌, ◌++◌, ℕ, List, false, drop, sym, ap}
 use Rattle.bt_talk.proofs.Items.{judged_more_items}
 use Rattle.bt_talk.proofs.Pasts.{more_by}
 use Rattle.bt_talk.proofs.Receivers.{judged_more}
@@ -16,4 +16,5 @@ returns c = λ own p later f parts j.
       k.0,
       m.adds,
       judged_more_items own p m.past t.0 c.args.judge.now c.judge_bytes.new.judge c.args.watch.now c.judge_bytes.new.watch j k.0 k.1 t.3,
+      m.adds.out ∙ ap (λ (l : List ℕ). p.out ++ l) (sym (m.out ∙ ap (λ (l : List ℕ). l ++ m.adds.more) c.clear.ensures.items)),
     )

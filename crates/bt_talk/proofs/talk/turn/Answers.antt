@@ -1,7 +1,8 @@
-use Rattle.std.proofs.Common.{◌∙◌, ℕ, List, [], append-nil, sym, ap, subst}
+use Rattle.std.proofs.Common.{◌∙◌, ℕ, List, [], append-nil, refl, sym, ap, subst}
 use Rattle.bt_flow.specs.declared.flow.Given.{Given}
 use Rattle.bt_talk.specs.Pasts.{Adds, given_of}
 use Rattle.bt_talk.proofs.Stages.{beside}
+use Rattle.bt_talk.proofs.Sent.{ready_none}
 use Rattle.bt_talk.proofs.Talks.{acked_reset, sent_reset, sent_by, front_kept}
 use Rattle.bt_talk.proofs.Shown.{shown_by, shown_nowhere}
 use Rattle.bt_talk.specs.Stages.{AreItemsIn, is_opening}
@@ -23,6 +24,7 @@ returns-then-segment-clause-taken c = λ terms p q d e same. (
     subst (λ (l : List (ℕ × Item)). AreItemsIn c.args.from.now.stage p l) (sym (append-nil xs)) i,
     shown_nowhere c.args.side c.args.watch.now,
   ),
+  λ e. ready_none (is_opening c.args.from.now.stage) p p c.args.room.now.out.items refl e,
 )
 
 pub returns-clause-taken : goal.returns-clause-taken
@@ -45,4 +47,5 @@ returns-clause-taken c = λ terms p q d e same.
       λ xs i.
           let m = t.3 xs i in
           (m.0, m.1, shown_by c.args.side _ m.0 c.args.watch.now c.turn_to.new.self c.take.new.watch c.turn_to.ensures m.2),
+      t.4,
     )

@@ -1,6 +1,7 @@
 use Rattle.std.proofs.Common.{Bool, [], ◌++◌, Some, refl, sym, ap, subst}
 use Rattle.bt_talk.specs.declared.stage.Stage.{Stage}
 use Rattle.bt_talk.specs.Pasts.{Adds}
+use Rattle.bt_talk.specs.Sent.{IsReady}
 use Rattle.bt_talk.specs.Stages.{IsStage, AreItemsIn, is_opening, receiver_in}
 use Rattle.bt_talk.specs.Cuts.{cut_length}
 use Rattle.bt_talk.proofs.Cuts.{within_more}
@@ -18,6 +19,7 @@ returns-in_ok-take_opening-in-Opening-clause-taken c = λ terms p other d.
           (r.3, r.4.front),
       subst (λ (o : Bool). Adds c.args.given.now o p c.args.self.now.flow r.0 c.take_opening.new.flow) (sym (ap is_opening c.in-Opening.is)) r.4,
       λ xs i. ([], nothing_more xs (subst (λ (s : Stage). AreItemsIn s p xs) c.in-Opening.is i), refl),
+      λ e. subst (λ (o : Bool). IsReady o p r.0 c.args.out.now.items) (sym (ap is_opening c.in-Opening.is)) e,
     )
 
 pub returns-in_ok-take_judged-in-Open-clause-taken : goal.returns-in_ok-take_judged-in-Open-clause-taken
@@ -29,6 +31,7 @@ returns-in_ok-take_judged-in-Open-clause-taken c = λ terms p other d.
           (receiver_same terms p other r.0 other (Some c.in-Open.judged.receiver) r.3.front refl s.0, r.2),
       subst (λ (o : Bool). Adds c.args.given.now o p c.args.self.now.flow r.0 c.take_judged.new.flow) (sym (ap is_opening c.in-Open.is)) r.3,
       λ xs i. r.4 xs (subst (λ (s : Stage). AreItemsIn s p xs) c.in-Open.is i),
+      λ e. subst (λ (o : Bool). IsReady o p r.0 c.take_judged.new.out.items) (sym (ap is_opening c.in-Open.is)) r.5,
     )
 
 pub returns-in_ok-take_only-in-Stranger-clause-taken : goal.returns-in_ok-take_only-in-Stranger-clause-taken
@@ -45,4 +48,5 @@ returns-in_ok-take_only-in-Stranger-clause-taken c = λ terms p other d.
             (nothing_more xs (subst (λ (s : Stage). AreItemsIn s p xs) c.in-Stranger.is i)),
         refl,
       ),
+      λ e. subst (λ (o : Bool). IsReady o p r.0 c.take_only.new.out.items) (sym (ap is_opening c.in-Stranger.is)) r.3,
     )

@@ -1,10 +1,12 @@
 use Rattle.std.proofs.Common.{◌∙◌, true, false, [], refl, sym, ap, inl, inr}
 use Rattle.std.proofs.lemmas.Bool.{cases_Bool}
+use Rattle.bt_talk.specs.declared.room.Room.{Room}
 use Rattle.bt_talk.specs.declared.talk.Talk.{Talk}
 use Rattle.bt_talk.specs.declared.watch.Watch.{Watch}
-use Rattle.bt_talk.specs.Talks.{is_in_opening}
+use Rattle.bt_talk.specs.Talks.{is_in_opening, of_side}
 use Rattle.bt_talk.proofs.Lent.{Alike, with_watch, talk_alike, opened_alike}
 use Rattle.bt_talk.proofs.Shown.{appends_none, appends_same}
+use Rattle.bt_talk.proofs.Sent.{sends_first, sends_nothing}
 use Rattle.bt_talk.proofs.Talks.{both_same, flow_same}
 use Rattle.bt_talk.proofs.talk.Talk.end_opening.Goals as goal
 
@@ -59,4 +61,19 @@ returns-in-Ok-clause-rows c = λ a b t.
         appends_same [] c.args.room.now.rows c.args.room.now.rows c.args.room.now.rows c.swap_rows-2.new.rows refl (returns-in-Ok-clause-open_already c o)
             (appends_none c.args.room.now.rows),
       )
+    ]
+
+pub returns-in-Ok-clause-sent : goal.returns-in-Ok-clause-sent
+returns-in-Ok-clause-sent c = λ a b side t w.
+    let self = c.args.self.now in
+    let mine = c.swap_rows.ensures.mine in
+    let u : Talk = record self { is_lost = true; watch = c.swap_rows.new.self } in
+    let v = c.open-opened.new.self in
+    let i : Alike self u = with_watch self true c.swap_rows.new.self (ap (λ (x : Watch). x.matcher) mine) (ap (λ (x : Watch). x.a) mine) (ap (λ (x : Watch). x.b) mine) in
+    let out = c.open-opened.new.room.out.items in
+    elim (cases_Bool (is_in_opening self)) [
+      | inl o ↦ sends_first (is_in_opening self) (is_in_opening v) (of_side side a b) (of_side side a b) out o
+          (c.in-Ok.ensures.sent a b side (talk_alike a b self u i t) o w c.clear.ensures.items)
+      | inr o ↦ sends_nothing (is_in_opening self) (is_in_opening v) (of_side side a b) out (ap is_in_opening (c.in-Ok.ensures.open_already o))
+          (ap (λ (r : Room). r.out.items) (c.in-Ok.ensures.room_already o) ∙ c.clear.ensures.items)
     ]

@@ -3,6 +3,7 @@ use Rattle.bt_remarks.specs.declared.events.Side.{Side}
 use Rattle.bt_remarks.specs.declared.events.Side.TheVariants.{A, B}
 use Rattle.bt_talk.specs.declared.stage.Stage.{Stage}
 use Rattle.bt_talk.specs.Pasts.{HasSent}
+use Rattle.bt_talk.specs.Sent.{IsReady}
 use Rattle.bt_talk.specs.Stages.{is_opening, AreItemsIn}
 use Rattle.bt_talk.specs.Talks.{IsSender}
 use Rattle.bt_talk.specs.Watching.{tell, with_items}
@@ -23,7 +24,7 @@ returns-in_ok-turn-in-A-clause-taken c = λ a b t.
     let g = s.2 t.said.events t.said.items t.said.watched in
     let same = acked_same c.args.segment.now b r.q' r.acked in
     let to = c.in_ok-turn-in-A.ensures.to in
-    record {
+    (record {
       side = A;
       is_side = subst (λ (s : Side). IsSender c.args.segment.now self s) c.in-A.is c.sender.ensures;
       a' = r.p';
@@ -43,7 +44,7 @@ returns-in_ok-turn-in-A-clause-taken c = λ a b t.
       };
       sent = r.sent;
       acked = r.acked;
-    }
+    }, x.2)
 
 pub returns-in_ok-turn-in-B-clause-taken : goal.returns-in_ok-turn-in-B-clause-taken
 returns-in_ok-turn-in-B-clause-taken c = λ a b t.
@@ -54,7 +55,7 @@ returns-in_ok-turn-in-B-clause-taken c = λ a b t.
     let g = s.2 t.said.events t.said.items t.said.watched in
     let same = acked_same c.args.segment.now a r.q' r.acked in
     let to = c.in_ok-turn-in-B.ensures.to in
-    record {
+    (record {
       side = B;
       is_side = subst (λ (s : Side). IsSender c.args.segment.now self s) c.in-B.is c.sender.ensures;
       a' = r.q';
@@ -74,7 +75,7 @@ returns-in_ok-turn-in-B-clause-taken c = λ a b t.
       };
       sent = subst (λ (o : Bool). HasSent c.args.segment.now o b self.b.flow r.p' c.turn-in-B.new.from.flow) (sym t.stages) r.sent;
       acked = r.acked;
-    }
+    }, λ e. subst (λ (o : Bool). IsReady o b r.p' c.turn-in-B.new.room.out.items) (sym t.stages) (x.2 e))
 
 pub returns-in_ok-turn-in-A-clause-cuts : goal.returns-in_ok-turn-in-A-clause-cuts
 returns-in_ok-turn-in-A-clause-cuts c = λ side.

@@ -1,8 +1,11 @@
-use Rattle.std.proofs.Common.{◌≡◌, ◌∙◌, true, false, sym, ap, subst}
+use Rattle.std.proofs.Common.{◌≡◌, ◌∙◌, Bool, true, false, sym, ap, subst}
 use Rattle.bt_talk.specs.declared.stage.Stage.{Stage}
 use Rattle.bt_talk.specs.declared.direction.Direction.{Direction}
 use Rattle.bt_talk.specs.declared.talk.Talk.{Talk}
 use Rattle.bt_talk.specs.Cuts.{cut_length}
+use Rattle.bt_talk.specs.Sent.{IsSent}
+use Rattle.bt_talk.specs.Stages.{is_opening}
+use Rattle.bt_talk.specs.Talks.{of_side}
 use Rattle.bt_talk.specs.Replays.{HasOpened, IsOpenedBy}
 use Rattle.bt_talk.proofs.Talks.{ended, cuts_same}
 use Rattle.bt_talk.proofs.talk.Talk.open.Goals as goal
@@ -42,3 +45,14 @@ returns-clause-opened c = λ a b t o.
 
 pub returns-clause-open_already : goal.returns-clause-open_already
 returns-clause-open_already c = λ o. absurd (let e : true ≡ false = sym (sym c.is_opening.ensures ∙ c.if-not-is_opening.false) ∙ o in cc)
+
+pub returns-then-not-is_opening-clause-sent : goal.returns-then-not-is_opening-clause-sent
+returns-then-not-is_opening-clause-sent c = λ a b side t o w e. absurd (let e : true ≡ false = sym o ∙ sym c.is_opening.ensures ∙ c.if-not-is_opening.true in cc)
+
+pub returns-clause-sent : goal.returns-clause-sent
+returns-clause-sent c = λ a b side t o w e.
+    subst (λ (x : Bool). IsSent x (of_side side a b) c.hand_out.new.room.out.items)
+    (sym (ap is_opening c.open.ensures.opens.stage ∙ c.in_ok-of_a.ensures.open.0)) (c.in_ok-hand_out.ensures.sent a b side t o w e)
+
+pub returns-clause-room_already : goal.returns-clause-room_already
+returns-clause-room_already c = λ o. absurd (let e : true ≡ false = sym (sym c.is_opening.ensures ∙ c.if-not-is_opening.false) ∙ o in cc)

@@ -54,3 +54,17 @@ pub returns-in-Ok-clause-rows : goal.returns-in-Ok-clause-rows
 returns-in-Ok-clause-rows c = λ a b t.
     some_rows c.args.segment.now c.args.when a b c.args.self.now _ c.args.room.now.rows c.swap_rows-2.new.rows t (returns-in-Ok-clause-order c a b t)
     (returns-in-Ok-clause-opened c a b t)
+
+pub returns-in-Ok-clause-sent : goal.returns-in-Ok-clause-sent
+returns-in-Ok-clause-sent c = λ a b t.
+    let self = c.args.self.now in
+    let u : Talk = record self { is_lost = true; watch = c.come_to.new.self } in
+    let v = c.take_next-taken.new.self in
+    let w : Talk = record v { is_lost = false; watch = c.swap_rows-2.new.self } in
+    let watch : c.come_to.new.self ≡ record self.watch { rows = c.args.room.now.rows; when = c.args.when } =
+    c.come_to.ensures ∙ ap (λ (k : Watch). record k { when = c.args.when }) c.swap_rows.ensures.mine in
+    let i : Alike self u = with_watch self true c.come_to.new.self (ap (λ (k : Watch). k.matcher) watch) (ap (λ (k : Watch). k.a) watch) (ap (λ (k : Watch). k.b) watch) in
+    let back = c.swap_rows-2.ensures.mine in
+    let k : Alike v w = with_watch v false c.swap_rows-2.new.self (ap (λ (x : Watch). x.matcher) back) (ap (λ (x : Watch). x.a) back) (ap (λ (x : Watch). x.b) back) in
+    let x = c.in-Ok.ensures.taken a b (talk_alike a b self u i t) in
+    (takes_alike c.args.segment.now c.args.when a b u v self w (alike_back self u i) k x.0, x.2 c.clear.ensures.items)

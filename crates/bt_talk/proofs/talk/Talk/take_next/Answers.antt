@@ -1,10 +1,12 @@
-use Rattle.std.proofs.Common.{◌≡◌, ◌∙◌, ℕ, ◌+◌, ◌-◌, ◌^◌, [], min, length, Option, sym, ap, subst, refl}
+use Rattle.std.proofs.Common.{◌≡◌, ◌∙◌, ℕ, ◌+◌, ◌-◌, ◌^◌, [], min, length, Option, Some, sym, ap, subst, refl}
 use Rattle.std.specs.Prelude.{◌↔◌}
 use Rattle.bt_remarks.specs.declared.events.Side.{Side}
 use Rattle.bt_remarks.specs.declared.events.Side.TheVariants.{A, B}
+use Rattle.bt_remarks.specs.Said.{other}
 use Rattle.bt_talk.specs.declared.closing.Closed.{Closed}
 use Rattle.bt_talk.specs.declared.closing.Closing.{Closing}
 use Rattle.bt_talk.specs.declared.ends.Ends.{Ends}
+use Rattle.bt_talk.specs.declared.room.Room.{Room}
 use Rattle.bt_talk.specs.declared.talk.Talk.{Talk}
 use Rattle.bt_talk.specs.declared.watch.Watch.{Watch}
 use Rattle.bt_talk.specs.Cuts.{cut_after}
@@ -12,7 +14,8 @@ use Rattle.bt_talk.specs.Talks.{IsTalk, is_in_opening, flow_of, cut_of, of_side}
 use Rattle.bt_talk.proofs.Closes.{closes_same}
 use Rattle.bt_talk.proofs.Lent.{Alike, talk_alike, opening_alike, opened_after, after_steps}
 use Rattle.bt_talk.proofs.Shown.{appends_more, appends_same}
-use Rattle.bt_talk.proofs.Talks.{end_same, flow_same, sent_same, both_same}
+use Rattle.bt_talk.proofs.Sent.{ready_kept, fronts_kept, sends_on, parts_of}
+use Rattle.bt_talk.proofs.Talks.{acked_same, sender_same, end_same, flow_same, sent_same, both_same}
 use Rattle.bt_talk.proofs.Watching.{watched_same}
 use Rattle.bt_talk.proofs.talk.Talk.take_next.Goals as goal
 
@@ -21,7 +24,8 @@ returns-clause-taken c = λ a b t.
     let self = c.args.self.now in
     let given = c.exchange.new.self in
     let shown = c.show.new.self in
-    let x = c.in_ok-exchange.ensures.taken a b t in
+    let y = c.in_ok-exchange.ensures.taken a b t in
+    let x = y.0 in
     let al : Alike given shown = after_steps given c.go_on-closed.new.self c.keep_mark.new.self shown c.go_on-closed.ensures.rest c.keep_mark.ensures c.show.ensures.rest in
     let marked = talk_alike x.a' x.b' given shown al x.is in
     let cut = c.cut.ensures.kept x.a' x.b' marked in
@@ -74,6 +78,22 @@ returns-clause-taken c = λ a b t.
             opened = λ n. opened_after x.a' x.b' c.settle.new.self.a.stage c.settle.new.self.b.stage c.settle.new.self.watch self.watch.rows given.watch.rows
                 c.note.new.self.watch.rows c.settle.new.self.watch.rows silent rows (op.opened n);
           },
+      λ none side w.
+          let s = c.args.segment.now in
+          let parts = parts_of side a b self t in
+          let same = sender_same s self x.side c.sender-side.result x.is_side c.sender-side.ensures in
+          let is = ap (λ (r : Room). r.wanted) c.exchange.ensures.room ∙ w in
+          let kept = c.keep_of.new.self in
+          let now = ap (λ (r : Room). r.wanted) c.keep_of.ensures.rest ∙ is in
+          let ready = ready_kept (is_in_opening self) x.side side a b x.a' x.b' c.exchange.new.room.out.items kept.out.items (y.1 none)
+              (acked_same s (of_side (other x.side) a b) (of_side (other x.side) x.a' x.b') x.acked).1 (λ k. c.keep_of.ensures.kept (is ∙ ap Some (k ∙ same)))
+              (λ k. c.keep_of.ensures.dropped (is ∙ ap Some (k ∙ ap other same))) in
+          sends_on (is_in_opening self) (is_in_opening c.settle.new.self) (of_side side a b) (of_side side x.a' x.b') parts.0 kept.out.items
+          c.settle.new.room.out.items parts.1 ready
+          (λ o. fronts_kept s (is_in_opening self) x.side side a b x.a' x.b' (flow_of x.side self) (flow_of x.side given) x.sent x.acked o)
+          (λ o. c.in_ok-settle.ensures.after (was ∙ o))
+          (λ o. ap (λ (r : Room). r.out.items) (c.in_ok-settle.ensures.room_already (was ∙ o)))
+          (λ o nil. c.in_ok-settle.ensures.sent x.a' x.b' side noted (was ∙ o) now nil),
     )
 
 pub returns-clause-order : goal.returns-clause-order

@@ -1,0 +1,94 @@
+-- The bytes that are handed out.
+use Rattle.std.proofs.Common.{◌≡◌, ◌∙◌, ℕ, ◌≤◌, Bool, true, false, List, [], ◌++◌, append-nil, drop, length, Option, Some, None, unwrap_or, refl, sym, ap, subst, arith}
+use Rattle.std.proofs.lemmas.List.{drop-append-le}
+use Rattle.bt_intro.specs.Hellos.{IsStartOf}
+use Rattle.bt_packet.specs.declared.tcp.Segment.{Segment}
+use Rattle.bt_flow.specs.declared.flow.Flow.{Flow}
+use Rattle.bt_remarks.specs.declared.events.Side.{Side}
+use Rattle.bt_remarks.specs.declared.events.Side.TheVariants.{A, B}
+use Rattle.bt_remarks.specs.Said.{other}
+use Rattle.bt_talk.specs.declared.talk.Talk.{Talk}
+use Rattle.bt_talk.specs.Pasts.{Past, HasSent, HasSentBy, IsAcked, given_of}
+use Rattle.bt_talk.specs.Sent.{IsReady, IsSent, SendsOn, sent_of}
+use Rattle.bt_talk.specs.Talks.{IsTalk, of_side, is_in_opening, flow_of}
+use Rattle.bt_talk.proofs.Receivers.{start_within}
+use Rattle.bt_talk.proofs.Talks.{acked_same, front_kept}
+
+-- ---- a segment's bytes
+
+ready_same : (opening : Bool) (p q : Past) (l m : List ℕ) → m ≡ l → IsReady opening p q l → IsReady opening p q m
+ready_same opening p q l m e r = subst (λ (x : List ℕ). IsReady opening p q x) (sym e) r
+
+pub ready_none : (opening : Bool) (p q : Past) (l : List ℕ) → q.out ≡ p.out → l ≡ [] → IsReady opening p q l
+ready_none true p q l e f = f
+ready_none false p q l e f = e ∙ sym (append-nil p.out) ∙ ap (λ (x : List ℕ). p.out ++ x) (sym f)
+
+-- Only the sender's bytes are kept, if it is the wanted side.
+pub ready_kept : (opening : Bool) (side wanted : Side) (a b a' b' : Past) (l m : List ℕ) → IsReady opening (of_side side a b) (of_side side a' b') l
+    → (of_side (other side) a' b').out ≡ (of_side (other side) a b).out → (wanted ≡ side → m ≡ l) → (wanted ≡ other side → m ≡ [])
+    → IsReady opening (of_side wanted a b) (of_side wanted a' b') m
+ready_kept opening A A a b a' b' l m r e f g = ready_same opening a a' l m (f refl) r
+ready_kept opening B B a b a' b' l m r e f g = ready_same opening b b' l m (f refl) r
+ready_kept opening A B a b a' b' l m r e f g = ready_none opening b b' m e (g refl)
+ready_kept opening B A a b a' b' l m r e f g = ready_none opening a a' m e (g refl)
+
+sent_front : (reset : Bool) (s : Segment) (opening : Bool) (p : Past) (flow : Flow) (q : Past) (flow' : Flow) → HasSentBy reset s opening p flow q flow'
+    → opening ≡ false → q.front ≡ p.front
+sent_front true s opening p flow q flow' h e = ap (λ (x : Past). x.front) h.0
+sent_front false s opening p flow q flow' h e = front_kept (given_of s) opening p flow q flow' h e
+
+-- After the opening its bytes stay.
+pub fronts_kept : (s : Segment) (opening : Bool) (side wanted : Side) (a b a' b' : Past) (flow flow' : Flow)
+    → HasSent s opening (of_side side a b) flow (of_side side a' b') flow' → IsAcked s (of_side (other side) a b) (of_side (other side) a' b')
+    → opening ≡ false → (of_side wanted a' b').front ≡ (of_side wanted a b).front
+fronts_kept s opening A A a b a' b' flow flow' h k e = sent_front s.flags.rst s opening a flow a' flow' h e
+fronts_kept s opening B B a b a' b' flow flow' h k e = sent_front s.flags.rst s opening b flow b' flow' h e
+fronts_kept s opening A B a b a' b' flow flow' h k e = (acked_same s b b' k).0
+fronts_kept s opening B A a b a' b' flow flow' h k e = (acked_same s a a' k).0
+
+-- ---- all that is handed out
+
+start_fits : (p : Past) (later : List ℕ) (start : Option ℕ) → p.out ≡ p.front ++ later → IsStartOf p.front start → unwrap_or start 0 ≤ length p.out
+start_fits p later None e i = omega arith
+start_fits p later (Some k) e i = start_within p later k e i
+
+-- After the opening the bytes that are ready follow.
+sends_after : (p q : Past) (later more : List ℕ) → p.out ≡ p.front ++ later → q.front ≡ p.front → q.out ≡ p.out ++ more → SendsOn false p false q more
+sends_after p q later more e f g before i = record {
+  start = i.start;
+  is_start = λ o. subst (λ (l : List ℕ). IsStartOf l i.start) (sym f) (i.is_start refl);
+  is = ap (λ (l : List ℕ). l ++ more) i.is
+      ∙ sym (drop-append-le (unwrap_or i.start 0) p.out more (start_fits p later i.start e (i.is_start refl)))
+      ∙ ap (λ (l : List ℕ). drop (unwrap_or i.start 0) l) (sym g);
+}
+
+-- What was ready is handed out, or what came in the opening, which ends.
+pub sends_on : (opening opening' : Bool) (p q : Past) (later ready more : List ℕ) → p.out ≡ p.front ++ later → IsReady opening p q ready
+    → (opening ≡ false → q.front ≡ p.front) → (opening ≡ false → opening' ≡ false) → (opening ≡ false → more ≡ ready)
+    → (opening ≡ true → ready ≡ [] → IsSent opening' q more) → SendsOn opening p opening' q more
+sends_on true opening' p q later ready more e r f o s h before i =
+    subst (λ (l : List ℕ). IsSent opening' q l) (ap (λ (l : List ℕ). l ++ more) (sym i.is)) (h refl r)
+sends_on false opening' p q later ready more e r f o s h before i =
+    subst (λ (x : Bool). IsSent x q (before ++ more)) (sym (o refl))
+    (sends_after p q later more e (f refl) (r ∙ ap (λ (l : List ℕ). p.out ++ l) (sym (s refl))) before i)
+
+-- Nothing was handed out in the opening.
+pub sends_first : (opening opening' : Bool) (p q : Past) (more : List ℕ) → opening ≡ true → IsSent opening' q more → SendsOn opening p opening' q more
+sends_first true opening' p q more e h before i = subst (λ (l : List ℕ). IsSent opening' q l) (ap (λ (l : List ℕ). l ++ more) (sym i.is)) h
+sends_first false opening' p q more e h before i = absurd (cc)
+
+-- Nothing is handed out.
+pub sends_nothing : (opening opening' : Bool) (p : Past) (more : List ℕ) → opening' ≡ opening → more ≡ [] → SendsOn opening p opening' p more
+sends_nothing opening opening' p more e f before i =
+    subst (λ (o : Bool). IsSent o p (before ++ more)) (sym e)
+    (subst (λ (l : List ℕ). IsSent opening p l) (sym (append-nil before) ∙ ap (λ (l : List ℕ). before ++ l) (sym f)) i)
+
+-- In the opening there is nothing.
+pub sent_none : (opening : Bool) (p : Past) (bytes : List ℕ) → opening ≡ true → bytes ≡ [] → IsSent opening p bytes
+sent_none true p bytes e f = record { start = None; is_start = λ n. absurd (cc); is = f }
+sent_none false p bytes e f = absurd (cc)
+
+-- What a side sent has the opening as its prefix.
+pub parts_of : (side : Side) (a b : Past) (t : Talk) → IsTalk a b t → (later : List ℕ) × ((of_side side a b).out ≡ (of_side side a b).front ++ later)
+parts_of A a b t i = (i.a_is.later, i.a_is.front)
+parts_of B a b t i = (i.b_is.later, i.b_is.front)
