@@ -12,6 +12,7 @@ use Rattle.bt_remarks.specs.declared.tallies.Tally.{Tally}
 use Rattle.bt_remarks.specs.Remarked.{tally_of, tally_after, remarks_on}
 use Rattle.bt_remarks.specs.Steps.{has}
 use Rattle.bt_remarks.specs.Tables.{request_at}
+use Rattle.bt_remarks.specs.Known.{number_after}
 use Rattle.bt_remarks.specs.Known.{is_choking, last_choke, has_all, is_named, is_allowed, has_come, pending, pending_count, overflowed, last_answered}
 
 pub record IsRequests (kind : Kind) (side : Side) (events : List Told) (requests : Requests) : Type 0 where
@@ -36,6 +37,16 @@ pub record IsTurn (e : Told) (events : List Told) (found : Remarks) (half half' 
   pub mine : IsHalf e.side (e ∷ events) half
   pub theirs : IsHalf (other e.side) (e ∷ events) half'
   pub tally : new ≡ tally_after (remarks_on e events) e.mark old
+
+-- the same, after any events that the halves show
+abbrev pub Turns : Told → ℕ → Remarks → Half → Half → Half → Half → Tally → Tally → Type 0
+Turns e number found mine mine' theirs theirs' old new =
+    (events : List Told) → IsHalf e.side events mine → IsHalf (other e.side) events theirs → number ≡ number_after events
+    → IsTurn e events found mine' theirs' old new
+
+-- What a half showed, it still shows.
+abbrev pub Stays : Half → Half → Type 0
+Stays half half' = (side : Side) → (events : List Told) → IsHalf side events half → IsHalf side events half'
 
 pub record IsMatched (events : List Told) (matcher : Matcher) : Type 0 where
   pub count : matcher.events ≡ length events

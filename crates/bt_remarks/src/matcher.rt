@@ -1,17 +1,25 @@
 //! What the events of a connection show together.
 ghost use Rattle.std.specs.Prelude.{◌≡◌, ◌||◌, ℕ, Bool, List, [], ◌∷◌, OnOk, OnErr, IfOk, IfSome};
 ghost use Rattle.bt_remarks.specs.declared.events.Side.{Side};
-ghost use Rattle.bt_remarks.specs.Said.{Told, Other, told, message_of, other, Blocks, Metadata};
-ghost use Rattle.bt_remarks.specs.Known.{number_after, overflowed};
+ghost use Rattle.bt_remarks.specs.Said.{Told, Other, Have, Request, Piece, told, message_of, other, Blocks, Metadata};
+ghost use Rattle.bt_remarks.specs.Known.{overflowed};
 ghost use Rattle.bt_remarks.specs.Remarked.{remarks_on, tally_of};
 ghost use Rattle.bt_remarks.specs.Steps.{IsHalfAfter};
 ghost use Rattle.bt_remarks.specs.Ends.{unanswered, AreFoundOf, IsAsked};
-ghost use Rattle.bt_remarks.specs.Matched.{IsHalf, IsTurn};
+ghost use Rattle.bt_remarks.specs.Matched.{IsHalf, Turns, Stays};
 
-use crate::events::{Ending, Event, Heard, Remarks, Side};
+use crate::events::{Block, Ending, Event, Heard, Remarks, Side};
 use crate::halves::Half;
 use crate::tallies::{Tally, Unanswered};
 use std::alloc::{AllocError, Global};
+
+/// No remark.
+const NO_REMARKS: Remarks = Remarks {
+    unasked: false,
+    choked: false,
+    again: false,
+    elsewhere: false,
+};
 
 /// Takes an event of the first side.
 #[inline(always)]
@@ -45,19 +53,19 @@ fn remarks_on(mine: &Half, theirs: &Half, heard: &Heard) -> Remarks
 }
 
 /// Takes an event of the first side, and returns its remarks.
+///
+/// It is inlined where the event's kind is known, so that the kind isn't looked at again.
 #[inline(always)]
-fn turn(
+fn turn_of(
     mine: &mut Half,
     theirs: &mut Half,
     tally: &mut Tally,
     heard: &Heard,
     number: u64,
 ) -> Result<Remarks, AllocError>
-    ensures ok { IfOk result (λ remarks. (events : List Told) →
-        IsHalf heard.now.side events mine.old → IsHalf (other heard.now.side) events theirs.old → number ≡ number_after events
-        → IsTurn (told heard.now) events remarks mine.new theirs.new tally.old tally.new) }
-    ensures mine { OnErr result ((side : Side) → (events : List Told) → IsHalf side events mine.old → IsHalf side events mine.new) }
-    ensures theirs { OnErr result ((side : Side) → (events : List Told) → IsHalf side events theirs.old → IsHalf side events theirs.new) }
+    ensures ok { IfOk result (λ remarks. Turns (told heard.now) number remarks mine.old mine.new theirs.old theirs.new tally.old tally.new) }
+    ensures mine { OnErr result (Stays mine.old mine.new) }
+    ensures theirs { OnErr result (Stays theirs.old theirs.new) }
     ensures tally { OnErr result (tally.new ≡ tally.old) }
 {
     let remarks = remarks_on(mine, theirs, heard);
@@ -67,6 +75,146 @@ fn turn(
     note(mine, theirs, heard, number)?;
     tally.add(remarks, heard.mark);
     Ok(remarks)
+}
+
+/// Takes a have of the first side, and returns its remarks.
+#[inline(never)]
+fn turn_have(
+    mine: &mut Half,
+    theirs: &mut Half,
+    tally: &mut Tally,
+    side: Side,
+    piece: u32,
+    known: bool,
+    mark: u64,
+    number: u64,
+) -> Result<Remarks, AllocError>
+    ensures ok { IfOk result (λ remarks. Turns (record { side = side; message = Have piece; known = known; mark = mark }) number remarks
+        mine.old mine.new theirs.old theirs.new tally.old tally.new) }
+    ensures mine { OnErr result (Stays mine.old mine.new) }
+    ensures theirs { OnErr result (Stays theirs.old theirs.new) }
+    ensures tally { OnErr result (tally.new ≡ tally.old) }
+{
+    let heard = Heard {
+        side,
+        event: Event::Have(piece),
+        known,
+        mark,
+    };
+    turn_of(mine, theirs, tally, &heard, number)
+}
+
+/// Takes a request of the first side, and returns its remarks.
+#[inline(never)]
+fn turn_request(
+    mine: &mut Half,
+    theirs: &mut Half,
+    tally: &mut Tally,
+    side: Side,
+    block: Block,
+    known: bool,
+    mark: u64,
+    number: u64,
+) -> Result<Remarks, AllocError>
+    ensures ok { IfOk result (λ remarks. Turns (record { side = side; message = Request block; known = known; mark = mark }) number remarks
+        mine.old mine.new theirs.old theirs.new tally.old tally.new) }
+    ensures mine { OnErr result (Stays mine.old mine.new) }
+    ensures theirs { OnErr result (Stays theirs.old theirs.new) }
+    ensures tally { OnErr result (tally.new ≡ tally.old) }
+{
+    let heard = Heard {
+        side,
+        event: Event::Request(block),
+        known,
+        mark,
+    };
+    turn_of(mine, theirs, tally, &heard, number)
+}
+
+/// Takes a block of the first side, and returns its remarks.
+#[inline(never)]
+fn turn_piece(
+    mine: &mut Half,
+    theirs: &mut Half,
+    tally: &mut Tally,
+    side: Side,
+    block: Block,
+    known: bool,
+    mark: u64,
+    number: u64,
+) -> Result<Remarks, AllocError>
+    ensures ok { IfOk result (λ remarks. Turns (record { side = side; message = Piece block; known = known; mark = mark }) number remarks
+        mine.old mine.new theirs.old theirs.new tally.old tally.new) }
+    ensures mine { OnErr result (Stays mine.old mine.new) }
+    ensures theirs { OnErr result (Stays theirs.old theirs.new) }
+    ensures tally { OnErr result (tally.new ≡ tally.old) }
+{
+    let heard = Heard {
+        side,
+        event: Event::Piece(block),
+        known,
+        mark,
+    };
+    turn_of(mine, theirs, tally, &heard, number)
+}
+
+/// Takes an event of the first side of another kind, and returns its remarks.
+#[inline(never)]
+fn turn_rest(
+    mine: &mut Half,
+    theirs: &mut Half,
+    tally: &mut Tally,
+    heard: &Heard,
+    number: u64,
+) -> Result<Remarks, AllocError>
+    ensures ok { IfOk result (λ remarks. Turns (told heard.now) number remarks mine.old mine.new theirs.old theirs.new tally.old tally.new) }
+    ensures mine { OnErr result (Stays mine.old mine.new) }
+    ensures theirs { OnErr result (Stays theirs.old theirs.new) }
+    ensures tally { OnErr result (tally.new ≡ tally.old) }
+{
+    turn_of(mine, theirs, tally, heard, number)
+}
+
+/// Takes an event of the first side, and returns its remarks.
+#[inline(always)]
+fn turn(
+    mine: &mut Half,
+    theirs: &mut Half,
+    tally: &mut Tally,
+    heard: &Heard,
+    number: u64,
+) -> Result<Remarks, AllocError>
+    ensures ok { IfOk result (λ remarks. Turns (told heard.now) number remarks mine.old mine.new theirs.old theirs.new tally.old tally.new) }
+    ensures mine { OnErr result (Stays mine.old mine.new) }
+    ensures theirs { OnErr result (Stays theirs.old theirs.new) }
+    ensures tally { OnErr result (tally.new ≡ tally.old) }
+{
+    let Heard {
+        side,
+        event,
+        known,
+        mark,
+    } = *heard;
+    match event {
+        Event::Other => Ok(NO_REMARKS),
+        Event::Have(piece) => turn_have(mine, theirs, tally, side, piece, known, mark, number),
+        Event::Request(block) => turn_request(
+            mine, theirs, tally, side, block, known, mark, number,
+        ),
+        Event::Piece(block) => turn_piece(mine, theirs, tally, side, block, known, mark, number),
+        event => turn_rest(
+            mine,
+            theirs,
+            tally,
+            &Heard {
+                side,
+                event,
+                known,
+                mark,
+            },
+            number,
+        ),
+    }
 }
 
 /// What the events of a connection show together.

@@ -6,7 +6,7 @@ use Rattle.bt_remarks.specs.Steps.{IsHalfAfter}
 use Rattle.bt_remarks.proofs.HistoryProofs.{own_step, other_step, half_stays}
 use Rattle.bt_remarks.specs.declared.events.Side.{Side}
 use Rattle.bt_remarks.specs.Matched.{IsHalf}
-use Rattle.bt_remarks.proofs.matcher.turn.Goals as goal
+use Rattle.bt_remarks.proofs.matcher.turn_of.Goals as goal
 
 pub returns-clause-ok : goal.returns-clause-ok
 returns-clause-ok c = λ events h g at.
