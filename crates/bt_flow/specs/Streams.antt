@@ -6,7 +6,7 @@ use Rattle.bt_tcp.specs.History.{IsHistory, conflicts, kept, held}
 use Rattle.bt_flow.specs.declared.stream.Stream.{Stream}
 use Rattle.bt_flow.specs.Memory.{next_of, seen}
 
--- Of these segments the bytes `out` were handed out. Until a gap is final they are the whole stream, and after that a front of it.
+-- Of these segments the bytes `out` were handed out. Until a gap is final they are the whole stream, and after that a prefix of it.
 pub record IsStreamOf (segs : List Segment) (out : List ℕ) (s : Stream) : Type 0 where
   pub next_is : next_of s.window ≡ s.base + length out
   pub front : IsFront segs s.base out

@@ -1,15 +1,14 @@
 -- Lemmas on flags that take a bit each.
-use Rattle.std.proofs.Common.{◌≡◌, ◌≢◌, ℕ, ◌+◌, ◌-◌, ◌*◌, ◌/◌, ◌%◌, ◌^◌, ◌<◌, ◌≤◌, ◌⊎◌, Bool, true, false, not, eqb, List, length, get_or, set, max, min, bit_or, bit_and, bit_xor}
-use Rattle.std.proofs.Common.{refl, sym, ap, ◌∙◌, arith, inl, inr, ⊎_elim}
+use Rattle.std.proofs.Common.{◌≡◌, ℕ, ◌+◌, ◌-◌, ◌*◌, ◌/◌, ◌%◌, ◌^◌, ◌<◌, ◌≤◌, ◌⊎◌, Bool, true, false, eqb, List, length, get_or, set, max, min, bit_or, bit_and, bit_xor}
+use Rattle.std.proofs.Common.{refl, sym, ap, ◌∙◌, arith, inl, inr}
 use Rattle.std.specs.Prelude.{if◌then◌else◌}
-use Rattle.std.proofs.lemmas.Grind.{common_steps}
 use Rattle.std.proofs.lemmas.Bool.{cases_lt, cases_eq}
 use Rattle.std.proofs.lemmas.Bool.Decides.{nat_tests}
 use Rattle.std.proofs.lemmas.List.{get_or-set_same, get_or-set_other}
 use Rattle.std.proofs.lemmas.Nat.Bits.{bit_at_or, bit_at_and, bit_at_xor, bit_at-lt, bit_at_mask_inside, bit_at_mask_below, bit_at_mask_above, bit_at_ones, bit_at-zero}
 use Rattle.std.proofs.Math.Pow.{pow_mono}
 use Rattle.std.specs.Int.{bit_at}
-use Rattle.bt_tcp.specs.Bits.{places, bit, flag, whole, IsFilled, IsCopiedTo}
+use Rattle.bt_tcp.specs.Bits.{bit, flag, whole, IsFilled, IsCopiedTo}
 
 -- two bytes that are alike at a place
 pub flag-same : (xs ys : List ℕ) (j k : ℕ) → get_or xs (j / 8) 0 ≡ get_or ys (k / 8) 0 → j % 8 ≡ k % 8 → flag xs j ≡ flag ys k
@@ -100,29 +99,6 @@ filled_bytes bits bits' from to value a b = record {
   outside = λ k o. (
       let o' : (k / 8 < from) ⊎ (to ≤ k / 8) = elim o [ inl x ↦ inl (omega arith) | inr x ↦ inr (omega arith) ] in
       flag-same bits' bits k k (b (k / 8) o') refl);
-}
-
--- First some flags were set, and then those after them.
-pub filled_more : (a b c : List ℕ) (from mid to : ℕ) (value : Bool) → from ≤ mid → mid ≤ to → IsFilled a from mid value b → IsFilled b mid to value c
-    → IsFilled a from to value c
-filled_more a b c from mid to value h l p q = record {
-  inside = λ k m n. elim (cases_lt k mid) [
-    | inl x ↦ q.outside k (inl x) ∙ p.inside k m x
-    | inr x ↦ q.inside k x n
-  ];
-  outside = λ k o. elim o [
-    | inl x ↦ q.outside k (inl (omega arith)) ∙ p.outside k (inl x)
-    | inr x ↦ q.outside k (inr x) ∙ p.outside k (inr (omega arith))
-  ];
-}
-
-pub filled_none : (a : List ℕ) (from to : ℕ) (value : Bool) → to ≤ from → IsFilled a from to value a
-filled_none a from to value h = record { inside = λ k m n. absurd (omega arith); outside = λ k o. refl }
-
-pub filled_alike : (a b : List ℕ) (from to from' to' : ℕ) (value : Bool) → from' ≡ from → to' ≡ to → IsFilled a from to value b → IsFilled a from' to' value b
-filled_alike a b from to from' to' value e f p = record {
-  inside = λ k m n. p.inside k (omega arith) (omega arith);
-  outside = λ k o. p.outside k (elim o [ inl x ↦ inl (omega arith) | inr x ↦ inr (omega arith) ]);
 }
 
 -- First some flags were copied, and then a run of equal ones after those.

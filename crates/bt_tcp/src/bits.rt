@@ -29,7 +29,11 @@ fn with_bits(byte: u8, from: usize, to: usize, value: bool) -> u8
     ensures outside { (i : ℕ) → i < 8 → (i < from) ⊎ (to ≤ i) → bit result i ≡ bit byte i }
 {
     let mask = ((1u16 << to) - (1u16 << from)) as u8;
-    if value { byte | mask } else { byte ^ (byte & mask) }
+    if value {
+        byte | mask
+    } else {
+        byte ^ (byte & mask)
+    }
 }
 
 /// Sets flags of one byte.
@@ -179,7 +183,22 @@ pub fn end(bits: &[u8], from: usize, to: usize, value: bool) -> usize
     end_by_byte(bits, at, to, value)
 }
 
-/// Copies flags from one on to another on, a run of equal ones at a time.
+/// Returns up to where flags are copied at once: all up to the end of this value, if they begin with a whole byte of it, or only one.
+fn end_of_step(bits: &[u8], from: usize, to: usize, value: bool) -> usize
+    requires order { from < to }
+    requires within { to ≤ places bits.now }
+    requires value { flag bits.now from ≡ value }
+    ensures from { from < result }
+    ensures to { result ≤ to }
+    ensures same { (k : ℕ) → from ≤ k → k < result → flag bits.now k ≡ value }
+{
+    if from % 8 == 0 && bits[from / 8] == whole(value) {
+        return end(bits, from, to, value);
+    }
+    from + 1
+}
+
+/// Copies flags from one on to another on.
 pub fn copy(bits: &[u8], from: usize, count: usize, to: &mut [u8], at: usize)
     requires from { from + count ≤ places bits.now }
     requires to { at + count ≤ places to.old }
@@ -190,7 +209,7 @@ pub fn copy(bits: &[u8], from: usize, count: usize, to: &mut [u8], at: usize)
     let mut k = 0usize;
     while k < count {
         let value = get(bits, from + k);
-        let more = end(bits, from + k, from + count, value) - from;
+        let more = end_of_step(bits, from + k, from + count, value) - from;
         fill(to, at + k, at + more, value);
         k = more;
     }

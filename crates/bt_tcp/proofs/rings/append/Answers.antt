@@ -1,4 +1,4 @@
-use Rattle.std.proofs.Common.{◌-◌, ap, ◌∙◌, arith}
+use Rattle.std.proofs.Common.{ap, ◌∙◌, arith}
 use Rattle.bt_tcp.specs.Cells.{slot_of}
 use Rattle.bt_tcp.proofs.RingProofs.{ring-appended}
 use Rattle.bt_tcp.proofs.rings.append.Goals as goal

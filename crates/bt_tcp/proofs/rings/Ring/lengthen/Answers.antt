@@ -50,18 +50,18 @@ alike c k =
     ring-copied known c.turn_flags.new.to bytes c.turn.new.bytes head k c.requires.fits.inside longer
     (λ j h. c.turn_flags.ensures.turned j (omega arith) ∙ ap (λ xs. flag xs (slot_of c.len-len.result head j)) (before_is c) ∙ ap (flag known) (at j))
     (λ j h. (
-        let i = slot_of c.len-len.result head j in
-        let b : i < c.len-len.result = slot-below c.len-len.result head j (omega (arith, c.requires.fits.inside)) (omega arith) in
-        c.turn.ensures.turned j (omega arith) ∙ ap (λ x. get_or x i 0) c.deref_mut-2.ensures.value
-        ∙ c.in_ok-resize-2.ensures.by_index.0 i 0 (omega (arith, b)) (omega (arith, b, c.in_ok-reserve_exact-2.ensures.len))
-        ∙ ap (λ x. get_or x i 0) c.in_ok-reserve_exact-2.ensures.items ∙ ap (λ x. get_or bytes x 0) (at j)))
+    let i = slot_of c.len-len.result head j in
+    let b : i < c.len-len.result = slot-below c.len-len.result head j (omega (arith, c.requires.fits.inside)) (omega arith) in
+    c.turn.ensures.turned j (omega arith) ∙ ap (λ x. get_or x i 0) c.deref_mut-2.ensures.value
+    ∙ c.in_ok-resize-2.ensures.by_index.0 i 0 (omega (arith, b)) (omega (arith, b, c.in_ok-reserve_exact-2.ensures.len))
+    ∙ ap (λ x. get_or x i 0) c.in_ok-reserve_exact-2.ensures.items ∙ ap (λ x. get_or bytes x 0) (at j)))
     (λ j h. (
-        let o : length known ≤ j / 8 = omega arith in
-        c.turn_flags.ensures.rest j (omega arith) ∙ ap (λ xs. flag xs j) c.deref_mut.ensures.value
-        ∙ flag-whole c.resize.new.self.items j false (elim (cases_lt (j / 8) c.resize.new.self.len) [
-          | inl q ↦ c.in_ok-resize.ensures.by_index.1 (j / 8) 0 refl (omega (arith, o, c.in_ok-reserve_exact.ensures.len)) (omega (arith, q, c.in_ok-resize.ensures.len))
-          | inr q ↦ get_or_past c.resize.new.self.items (j / 8) 0 (omega (arith, l, q))
-        ])))
+    let o : length known ≤ j / 8 = omega arith in
+    c.turn_flags.ensures.rest j (omega arith) ∙ ap (λ xs. flag xs j) c.deref_mut.ensures.value
+    ∙ flag-whole c.resize.new.self.items j false (elim (cases_lt (j / 8) c.resize.new.self.len) [
+      | inl q ↦ c.in_ok-resize.ensures.by_index.1 (j / 8) 0 refl (omega (arith, o, c.in_ok-reserve_exact.ensures.len)) (omega (arith, q, c.in_ok-resize.ensures.len))
+      | inr q ↦ get_or_past c.resize.new.self.items (j / 8) 0 (omega (arith, l, q))
+    ])))
 
 pub returns-clause-ahead : goal.returns-clause-ahead
 returns-clause-ahead c k =
