@@ -9,8 +9,8 @@ use Rattle.bt_remarks.specs.declared.events.Side.TheVariants.{A, B}
 use Rattle.bt_remarks.specs.Said.{other}
 use Rattle.bt_talk.specs.declared.talk.Talk.{Talk}
 use Rattle.bt_talk.specs.Pasts.{Past, HasSent, HasSentBy, IsAcked, given_of}
-use Rattle.bt_talk.specs.Sent.{IsReady, IsSent, SendsOn, sent_of}
-use Rattle.bt_talk.specs.Talks.{IsTalk, of_side, is_in_opening, flow_of}
+use Rattle.bt_talk.specs.Sent.{IsReady, IsSent, SendsOn}
+use Rattle.bt_talk.specs.Talks.{IsTalk, of_side}
 use Rattle.bt_talk.proofs.Receivers.{start_within}
 use Rattle.bt_talk.proofs.Talks.{acked_same, front_kept}
 

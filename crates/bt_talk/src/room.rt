@@ -34,13 +34,7 @@ impl Room {
     /// Turns to a connection with this number, in a capture that starts at this time. The rows that are kept are dropped.
     ///
     /// Rows are shown as `showing` says. If a side is wanted, the bytes of its stream are handed out.
-    pub fn turn_to(
-        &mut self,
-        showing: Showing,
-        connection: u64,
-        start: u64,
-        wanted: Option<Side>,
-    )
+    pub fn turn_to(&mut self, showing: Showing, connection: u64, start: u64, wanted: Option<Side>)
         ensures heading { (rows_in self.new).heading ≡ heading_by showing connection start }
         ensures empty { (rows_in self.new).text.items ≡ [] }
         ensures wanted { wanted_in self.new ≡ wanted }

@@ -1,40 +1,27 @@
 //! What a connection tells of its sides, and the rows at its end.
-ghost use Rattle.bt_talk.specs.declared.terms.Terms.{Terms};
-ghost use Rattle.std.specs.Prelude.{◌≡◌, [], ◌<◌, ◌+◌, ◌^◌, ◌-◌, ℕ, List, Bool, true, false, length, not, min, IfOk, OnOk, OnErr, Option, alloc_error};
-ghost use Rattle.bt_talk.specs.Pasts.{Past, no_past, IsAcked, given_of as given_by};
-ghost use Rattle.bt_talk.specs.Sent.{IsReady};
+ghost use Rattle.std.specs.Prelude.{◌≡◌, [], ◌-◌, ℕ, List, length, OnOk, OnErr, Option};
+ghost use Rattle.bt_talk.specs.Pasts.{Past};
 ghost use Rattle.bt_remarks.specs.declared.events.Side.{Side};
-ghost use Rattle.bt_remarks.specs.declared.events.Side.TheVariants.{A, B};
-ghost use Rattle.bt_talk.specs.Stages.{IsDirection, SpeaksAs, is_opening};
-ghost use Rattle.bt_talk.specs.Talks.{is_over as is_over_by, IsEnd, Turns};
 
-use crate::closing::{Closed, Closing, When, is_end, opens};
-use crate::course::Courses;
-use crate::direction::Direction;
-use crate::ends::Ends;
+use crate::closing::{Closed, When, opens};
 use crate::inside::ended_inside;
 use crate::refused::Judgement;
-use crate::replay::{Mark, Opened, judge_both};
+use crate::replay::Mark;
 use crate::room::Room;
 use crate::rows::NO_REMARKS;
-use crate::stage::receiver_between;
-use crate::terms::Terms;
+use crate::talk::Talk;
 use crate::unanswered::{has_closed, has_fast, is_accepted, other, unanswered_of};
-use crate::watch::Watch;
-use bt_flow::Given;
-use bt_intro::{Receiver, is_settled};
+use bt_intro::Receiver;
 use bt_jobs::Announced;
-use bt_packet::{Flags, Segment};
+use bt_packet::Segment;
 use bt_remarks::{Ending, Side};
 use bt_tcp::Gaps;
-use bt_told::{Deed, Last, Means, Noted, Remarked};
+use bt_told::{Deed, Last, Noted, Remarked};
 use bt_wire::{Handshake, Refusal};
-use std::alloc::{AllocError, Global};
+use std::alloc::AllocError;
 use std::mem::size_of;
-use crate::talk::Talk;
 
 impl Talk {
-    ghost use Rattle.std.specs.Prelude.{Err, Some};
     ghost use Rattle.bt_wire.specs.Streams.{Outcome};
     ghost use Rattle.bt_jobs.specs.Others.{first_of, own_of_other};
     ghost use Rattle.bt_flow.specs.Flows.{AreGapsOf, HasHole, IsClosed, conflicts_in, high_in};
@@ -44,20 +31,15 @@ impl Talk {
     ghost use Rattle.bt_remarks.specs.Said.{other};
     ghost use Rattle.std.specs.Prelude.{option_map, unwrap_or};
     ghost use Rattle.bt_tcp.specs.Heard.{opening_of};
-    ghost use Rattle.bt_talk.specs.Closing.{Closes, still_open, high_at, is_quiet, opens_by};
-    ghost use Rattle.bt_talk.specs.Ends.{ends_by};
-    ghost use Rattle.bt_talk.specs.Talks.{IsTalk, HasSaid, Shows, Opens, HasSettled, ShowsGap, Exchanges, Takes, Settles, ends_of, terms_of, closing_of, IsSender, is_in_opening, is_lost, flow_of, cut_of, direction_of, of_side};
+    ghost use Rattle.bt_talk.specs.Closing.{high_at, is_quiet, opens_by};
+    ghost use Rattle.bt_talk.specs.Talks.{IsTalk, ShowsGap, terms_of, closing_of, IsSender, is_in_opening, flow_of, cut_of, of_side};
     ghost use Rattle.bt_talk.specs.Receivers.{AreVerdicts, IsReceiverNow};
-    ghost use Rattle.bt_talk.specs.Cuts.{IsLastBefore, cut_after};
+    ghost use Rattle.bt_talk.specs.Cuts.{IsLastBefore};
     ghost use Rattle.std.specs.List.{filter};
-    ghost use Rattle.bt_talk.specs.Courses.{closes_by, course_of};
     ghost use Rattle.bt_talk.specs.Inside.{EndsInside, ShowsInside};
-    ghost use Rattle.bt_talk.specs.Replays.{IsOpened, HasOpened};
-    ghost use Rattle.bt_talk.specs.Rooms.{rows_in, wanted_in, sent_in};
-    ghost use Rattle.bt_talk.specs.Sent.{IsSent, SendsOn};
+    ghost use Rattle.bt_talk.specs.Rooms.{rows_in};
     ghost use Rattle.bt_talk.specs.Rows.{Shown, is_item};
-    ghost use Rattle.bt_talk.specs.Shown.{ShowsOthers};
-    ghost use Rattle.bt_talk.specs.Shows.{Appends, HasNone};
+    ghost use Rattle.bt_talk.specs.Shows.{Appends};
     ghost use Rattle.bt_talk.specs.Watching.{AreRemarked};
     ghost use Rattle.bt_talk.specs.Unanswered.{HaveFast, IsEnding, AreUnanswered};
 

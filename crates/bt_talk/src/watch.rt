@@ -271,7 +271,7 @@ impl Watch {
         mem::swap(&mut self.rows, rows);
     }
 
-    /// Comes to a packet.
+    /// Sets the packet with which what follows came.
     pub(crate) fn come_to(&mut self, when: When)
         ensures { self.new ≡ record self.old { when = when } }
     {

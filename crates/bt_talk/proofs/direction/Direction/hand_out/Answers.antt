@@ -1,4 +1,4 @@
-use Rattle.std.proofs.Common.{◌≡◌, ◌∙◌, ℕ, min, List, ◌++◌, length, drop, unwrap_or, sym, ap, subst, arith}
+use Rattle.std.proofs.Common.{◌≡◌, ◌∙◌, ℕ, min, List, ◌++◌, length, drop, unwrap_or, ap, subst, arith}
 use Rattle.std.proofs.lemmas.List.{drop_min}
 use Rattle.bt_talk.specs.declared.stage.Stage.{Stage}
 use Rattle.bt_talk.specs.Stages.{IsStage}

@@ -23,28 +23,30 @@ returns-in_ok-turn-in-A-clause-taken c = λ a b t.
     let s = x.1 (t.said.items A) t.said.a_items in
     let g = s.2 t.said.events t.said.items t.said.watched in
     let same = acked_same c.args.segment.now b r.q' r.acked in
-    let to = c.in_ok-turn-in-A.ensures.to in
-    (record {
-      side = A;
-      is_side = subst (λ (s : Side). IsSender c.args.segment.now self s) c.in-A.is c.sender.ensures;
-      a' = r.p';
-      b' = r.q';
-      is = record {
-        a_is = r.p_is;
-        b_is = r.q_is;
-        stages = c.in_ok-turn-in-A.ensures.from ∙ t.stages ∙ sym (ap is_opening to);
-        said = record {
-          events = tell A g.1.known s.0 t.said.events;
-          items = with_items A s.0 t.said.items;
-          a_items = s.1;
-          b_items = subst (λ (k : Stage). AreItemsIn k r.q' (t.said.items B)) (sym to)
-              (items_stay self.b.stage b r.q' (t.said.items B) same.0 same.1 t.said.b_items);
-          watched = g.1.watched;
+    let to = c.in_ok-turn-in-A.ensures.to in (
+      record {
+        side = A;
+        is_side = subst (λ (s : Side). IsSender c.args.segment.now self s) c.in-A.is c.sender.ensures;
+        a' = r.p';
+        b' = r.q';
+        is = record {
+          a_is = r.p_is;
+          b_is = r.q_is;
+          stages = c.in_ok-turn-in-A.ensures.from ∙ t.stages ∙ sym (ap is_opening to);
+          said = record {
+            events = tell A g.1.known s.0 t.said.events;
+            items = with_items A s.0 t.said.items;
+            a_items = s.1;
+            b_items = subst (λ (k : Stage). AreItemsIn k r.q' (t.said.items B)) (sym to)
+                (items_stay self.b.stage b r.q' (t.said.items B) same.0 same.1 t.said.b_items);
+            watched = g.1.watched;
+          };
         };
-      };
-      sent = r.sent;
-      acked = r.acked;
-    }, x.2)
+        sent = r.sent;
+        acked = r.acked;
+      },
+      x.2,
+    )
 
 pub returns-in_ok-turn-in-B-clause-taken : goal.returns-in_ok-turn-in-B-clause-taken
 returns-in_ok-turn-in-B-clause-taken c = λ a b t.
@@ -54,28 +56,30 @@ returns-in_ok-turn-in-B-clause-taken c = λ a b t.
     let s = x.1 (t.said.items B) t.said.b_items in
     let g = s.2 t.said.events t.said.items t.said.watched in
     let same = acked_same c.args.segment.now a r.q' r.acked in
-    let to = c.in_ok-turn-in-B.ensures.to in
-    (record {
-      side = B;
-      is_side = subst (λ (s : Side). IsSender c.args.segment.now self s) c.in-B.is c.sender.ensures;
-      a' = r.q';
-      b' = r.p';
-      is = record {
-        a_is = r.q_is;
-        b_is = r.p_is;
-        stages = ap is_opening to ∙ t.stages ∙ sym c.in_ok-turn-in-B.ensures.from;
-        said = record {
-          events = tell B g.1.known s.0 t.said.events;
-          items = with_items B s.0 t.said.items;
-          a_items = subst (λ (k : Stage). AreItemsIn k r.q' (t.said.items A)) (sym to)
-              (items_stay self.a.stage a r.q' (t.said.items A) same.0 same.1 t.said.a_items);
-          b_items = s.1;
-          watched = g.1.watched;
+    let to = c.in_ok-turn-in-B.ensures.to in (
+      record {
+        side = B;
+        is_side = subst (λ (s : Side). IsSender c.args.segment.now self s) c.in-B.is c.sender.ensures;
+        a' = r.q';
+        b' = r.p';
+        is = record {
+          a_is = r.q_is;
+          b_is = r.p_is;
+          stages = ap is_opening to ∙ t.stages ∙ sym c.in_ok-turn-in-B.ensures.from;
+          said = record {
+            events = tell B g.1.known s.0 t.said.events;
+            items = with_items B s.0 t.said.items;
+            a_items = subst (λ (k : Stage). AreItemsIn k r.q' (t.said.items A)) (sym to)
+                (items_stay self.a.stage a r.q' (t.said.items A) same.0 same.1 t.said.a_items);
+            b_items = s.1;
+            watched = g.1.watched;
+          };
         };
-      };
-      sent = subst (λ (o : Bool). HasSent c.args.segment.now o b self.b.flow r.p' c.turn-in-B.new.from.flow) (sym t.stages) r.sent;
-      acked = r.acked;
-    }, λ e. subst (λ (o : Bool). IsReady o b r.p' c.turn-in-B.new.room.out.items) (sym t.stages) (x.2 e))
+        sent = subst (λ (o : Bool). HasSent c.args.segment.now o b self.b.flow r.p' c.turn-in-B.new.from.flow) (sym t.stages) r.sent;
+        acked = r.acked;
+      },
+      λ e. subst (λ (o : Bool). IsReady o b r.p' c.turn-in-B.new.room.out.items) (sym t.stages) (x.2 e),
+    )
 
 pub returns-in_ok-turn-in-A-clause-cuts : goal.returns-in_ok-turn-in-A-clause-cuts
 returns-in_ok-turn-in-A-clause-cuts c = λ side.

@@ -86,8 +86,8 @@ returns-clause-taken c = λ a b t.
           let kept = c.keep_of.new.self in
           let now = ap (λ (r : Room). r.wanted) c.keep_of.ensures.rest ∙ is in
           let ready = ready_kept (is_in_opening self) x.side side a b x.a' x.b' c.exchange.new.room.out.items kept.out.items (y.1 none)
-              (acked_same s (of_side (other x.side) a b) (of_side (other x.side) x.a' x.b') x.acked).1 (λ k. c.keep_of.ensures.kept (is ∙ ap Some (k ∙ same)))
-              (λ k. c.keep_of.ensures.dropped (is ∙ ap Some (k ∙ ap other same))) in
+          (acked_same s (of_side (other x.side) a b) (of_side (other x.side) x.a' x.b') x.acked).1 (λ k. c.keep_of.ensures.kept (is ∙ ap Some (k ∙ same)))
+          (λ k. c.keep_of.ensures.dropped (is ∙ ap Some (k ∙ ap other same))) in
           sends_on (is_in_opening self) (is_in_opening c.settle.new.self) (of_side side a b) (of_side side x.a' x.b') parts.0 kept.out.items
           c.settle.new.room.out.items parts.1 ready
           (λ o. fronts_kept s (is_in_opening self) x.side side a b x.a' x.b' (flow_of x.side self) (flow_of x.side given) x.sent x.acked o)
