@@ -1,5 +1,5 @@
 //! What the items of both sides show together, as they come.
-ghost use Rattle.std.specs.Prelude.{◌≡◌, [], ◌++◌, ℕ, List, OnOk, if◌then◌else◌};
+ghost use Rattle.std.specs.Prelude.{◌≡◌, [], ◌++◌, ℕ, List, OnOk, IfSome, if◌then◌else◌};
 ghost use Rattle.bt_bencode.specs.Trees.{dictionary};
 ghost use Rattle.bt_ext.specs.Metadata.{kind_of};
 ghost use Rattle.bt_ext.specs.Payloads.{seen as seen_ext};
@@ -66,6 +66,7 @@ fn extended_event<'a>(payload: &ExtView) -> Event<'a>
 }
 
 /// Returns a message as an event.
+#[inline(always)]
 fn message_event<'a>(message: &MessageView<'a>) -> Event<'a>
     ensures { said_in result ≡ message_event (message_of message.now) }
 {
@@ -97,6 +98,7 @@ fn message_event<'a>(message: &MessageView<'a>) -> Event<'a>
 }
 
 /// Returns an item as an event.
+#[inline(always)]
 fn event_of<'a>(view: &View<'a>) -> Event<'a>
     ensures { said_in result ≡ event_by (item_of view.now) }
 {
@@ -143,16 +145,28 @@ const NO_NOTES: Notes = Notes {
 };
 
 impl Notes {
+    /// Keeps the last item as the first one with each of its remarks, if no item had that one.
+    #[inline(never)]
+    fn keep(&mut self, remarks: Remarks)
+        ensures { IfSome self.old.last (λ said. self.new ≡ noted_by remarks said self.old) }
+    {
+        if let Some(said) = self.last {
+            keep_first(&mut self.unasked, remarks.unasked, &said);
+            keep_first(&mut self.choked, remarks.choked, &said);
+            keep_first(&mut self.again, remarks.again, &said);
+            keep_first(&mut self.elsewhere, remarks.elsewhere, &said);
+        }
+    }
+
     /// Keeps an item with its remarks.
     #[inline(always)]
     fn note(&mut self, said: Said, remarks: Remarks)
         ensures { self.new ≡ noted_by remarks said self.old }
     {
-        keep_first(&mut self.unasked, remarks.unasked, &said);
-        keep_first(&mut self.choked, remarks.choked, &said);
-        keep_first(&mut self.again, remarks.again, &said);
-        keep_first(&mut self.elsewhere, remarks.elsewhere, &said);
         self.last = Some(said);
+        if remarks.unasked || remarks.choked || remarks.again || remarks.elsewhere {
+            self.keep(remarks);
+        }
     }
 }
 
@@ -354,19 +368,20 @@ impl Sink for Watch {
     #[inline(always)]
     fn item(&mut self, at: u64, view: &View<'_>) -> Result<(), SinkFault> {
         self.calls = self.calls.saturating_add(1);
-        let said = Said {
-            offset: at,
-            words: Words::of(view),
-        };
+        let side = self.side;
         let heard = Heard {
-            side: self.side,
+            side,
             event: event_of(view),
             known: self.known,
             mark: at,
         };
         match self.matcher.take(&heard) {
             Ok(remarks) => {
-                note(self.side, &mut self.a, &mut self.b, said, remarks);
+                let said = Said {
+                    offset: at,
+                    words: Words::of(view),
+                };
+                note(side, &mut self.a, &mut self.b, said, remarks);
                 match self.rows.put_item(self.when, self.side, &said, remarks) {
                     Ok(()) => Ok(()),
                     Err(_) => {
