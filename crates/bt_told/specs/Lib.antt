@@ -9,5 +9,6 @@ pub mod Remarked
 pub mod Reports
 pub mod Objects
 pub mod Rows
+pub mod Fronts
 pub mod Utp
 pub mod Findings

@@ -7,6 +7,7 @@
 mod closing;
 mod ends;
 mod finding;
+mod fronts;
 mod members;
 mod names;
 mod numbers;
@@ -14,6 +15,7 @@ mod objects;
 mod printing;
 mod remarked;
 mod report;
+mod row_buffer;
 mod rows;
 mod said;
 mod sides;
@@ -21,12 +23,14 @@ mod utp;
 mod why;
 
 pub use finding::Finding;
+pub use fronts::{RowForm, Stamp};
 pub use objects::put_report_object;
 pub use printing::put_report;
 pub use report::{
     Before, Body, Closed, Direction, Judged, Last, Means, Noted, Remarked, Report, Sender, Title,
     Told,
 };
+pub use row_buffer::RowBuffer;
 pub use rows::{Deed, Row, put_row, put_row_object};
 pub use said::{Name, Numbers, Said, Words};
 pub use utp::{UtpPackets, put_utp, put_utp_object};

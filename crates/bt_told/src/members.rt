@@ -7,7 +7,7 @@ ghost use Rattle.bt_told.specs.declared.said.Words.TheVariants as words;
 ghost use Rattle.bt_text.specs.declared.ended.Ended.TheVariants as ended_by;
 
 use crate::numbers::put_option;
-use crate::said::{Name, Numbers, Said, Words};
+use crate::said::{Name, Numbers, Said, Words, put_name};
 use crate::sides::put_between;
 use bt_text::ended::Ended;
 use bt_text::putting::{put, put_hex, put_number, put_word};
@@ -155,7 +155,7 @@ pub(crate) fn put_item(words: &Words, text: &mut [u8], at: usize) -> usize
         }
         Words::Message(name, numbers) => {
             let at = put_word(b",\"item\":\"", text, at);
-            let at = put(name.text(), text, at);
+            let at = put_name(*name, text, at);
             let at = put_word(b"\"", text, at);
             put_numbers(*name, *numbers, text, at)
         }

@@ -57,7 +57,7 @@ fn put_pad(seconds: u64, text: &mut [u8], at: usize) -> usize
 }
 
 /// Puts a time with spaces before it.
-fn put_clock(nanoseconds: u64, text: &mut [u8], at: usize) -> usize
+pub(crate) fn put_clock(nanoseconds: u64, text: &mut [u8], at: usize) -> usize
     requires { at + 30 ≤ length text.old }
     ensures room { (at ≤ result) × (result ≤ at + 30) }
     ensures size { length text.new ≡ length text.old }
@@ -162,6 +162,26 @@ fn put_remarks<const F: usize, const B: usize, const K: usize>(
     put_back(four, back, text, at)
 }
 
+/// Puts the remarks on a line, if there are some.
+pub(crate) fn put_line_remarks(remarks: &Remarks, text: &mut [u8], at: usize) -> usize
+    requires { at + 50 ≤ length text.old }
+    ensures room { (at ≤ result) × (result ≤ at + 50) }
+    ensures size { length text.new ≡ length text.old }
+    ensures text { take result text.new ≡ take at text.old ++ remarks_in (codes "  (") (codes ", ") (codes ")") remarks.now }
+{
+    put_remarks(b"  (", b", ", b")", remarks, text, at)
+}
+
+/// Puts the remarks as a member, if there are some.
+pub(crate) fn put_object_remarks(remarks: &Remarks, text: &mut [u8], at: usize) -> usize
+    requires { at + 97 ≤ length text.old }
+    ensures room { (at ≤ result) × (result ≤ at + 97) }
+    ensures size { length text.new ≡ length text.old }
+    ensures text { take result text.new ≡ take at text.old ++ remarks_in (codes ",\"remarks\":[\"") (codes "\",\"") (codes "\"]") remarks.now }
+{
+    put_remarks(b",\"remarks\":[\"", b"\",\"", b"\"]", remarks, text, at)
+}
+
 /// Puts a row.
 fn put_row_text(row: &Row, text: &mut [u8], at: usize) -> usize
     requires { at + 260 ≤ length text.old }
@@ -175,7 +195,7 @@ fn put_row_text(row: &Row, text: &mut [u8], at: usize) -> usize
     let at = put_word(letter(row.side), text, at);
     let at = put_between(b" ", row.offset, b" ", text, at);
     let at = put_deed(&row.deed, text, at);
-    let at = put_remarks(b"  (", b", ", b")", &row.remarks, text, at);
+    let at = put_line_remarks(&row.remarks, text, at);
     put_word(b"\n", text, at)
 }
 
@@ -235,14 +255,7 @@ fn put_object(packet: u64, row: &Row, text: &mut [u8], at: usize) -> usize
     let at = put_word(letter(row.side), text, at);
     let at = put_word(b"\"", text, at);
     let at = put_deed_members(row.offset, &row.deed, text, at);
-    let at = put_remarks(
-        b",\"remarks\":[\"",
-        b"\",\"",
-        b"\"]",
-        &row.remarks,
-        text,
-        at,
-    );
+    let at = put_object_remarks(&row.remarks, text, at);
     put_word(b"}\n", text, at)
 }
 

@@ -14,7 +14,7 @@ ghost use Rattle.bt_told.specs.Said.{name_text, numbers_text, said_text, words_t
 use bt_bencode::DictRef;
 use bt_ext::{ExtView, Kind};
 use bt_feed::View;
-use bt_text::putting::{put, put_hex, put_number, put_word};
+use bt_text::putting::{put_hex, put_number, put_word};
 use bt_text::words::Dictionary;
 use bt_wire::{Handshake, MessageView};
 
@@ -77,38 +77,39 @@ pub struct Said {
     pub words: Words,
 }
 
-impl Name {
-    /// Returns the name as text.
-    pub(crate) fn text(self) -> &'static [u8]
-        ensures name { result.now ≡ name_text self }
-        ensures short { length result.now ≤ 20 }
-    {
-        match self {
-            Name::KeepAlive => b"keep-alive",
-            Name::Choke => b"choke",
-            Name::Unchoke => b"unchoke",
-            Name::Interested => b"interested",
-            Name::NotInterested => b"not-interested",
-            Name::Have => b"have",
-            Name::Bitfield => b"bitfield",
-            Name::Request => b"request",
-            Name::Piece => b"piece",
-            Name::Cancel => b"cancel",
-            Name::Port => b"port",
-            Name::Suggest => b"suggest",
-            Name::HaveAll => b"have-all",
-            Name::HaveNone => b"have-none",
-            Name::Reject => b"reject",
-            Name::AllowedFast => b"allowed-fast",
-            Name::DontHave => b"donthave",
-            Name::Extended => b"extended",
-            Name::MetadataRequest => b"metadata-request",
-            Name::MetadataData => b"metadata-data",
-            Name::MetadataReject => b"metadata-reject",
-            Name::MetadataOther => b"metadata-other",
-            Name::MetadataMalformed => b"metadata-malformed",
-            Name::Unknown => b"unknown",
-        }
+/// Puts a message's name.
+#[inline(always)]
+pub(crate) fn put_name(name: Name, text: &mut [u8], at: usize) -> usize
+    requires { at + 20 ≤ length text.old }
+    ensures room { (at ≤ result) × (result ≤ at + 20) }
+    ensures size { length text.new ≡ length text.old }
+    ensures text { take result text.new ≡ take at text.old ++ name_text name }
+{
+    match name {
+        Name::KeepAlive => put_word(b"keep-alive", text, at),
+        Name::Choke => put_word(b"choke", text, at),
+        Name::Unchoke => put_word(b"unchoke", text, at),
+        Name::Interested => put_word(b"interested", text, at),
+        Name::NotInterested => put_word(b"not-interested", text, at),
+        Name::Have => put_word(b"have", text, at),
+        Name::Bitfield => put_word(b"bitfield", text, at),
+        Name::Request => put_word(b"request", text, at),
+        Name::Piece => put_word(b"piece", text, at),
+        Name::Cancel => put_word(b"cancel", text, at),
+        Name::Port => put_word(b"port", text, at),
+        Name::Suggest => put_word(b"suggest", text, at),
+        Name::HaveAll => put_word(b"have-all", text, at),
+        Name::HaveNone => put_word(b"have-none", text, at),
+        Name::Reject => put_word(b"reject", text, at),
+        Name::AllowedFast => put_word(b"allowed-fast", text, at),
+        Name::DontHave => put_word(b"donthave", text, at),
+        Name::Extended => put_word(b"extended", text, at),
+        Name::MetadataRequest => put_word(b"metadata-request", text, at),
+        Name::MetadataData => put_word(b"metadata-data", text, at),
+        Name::MetadataReject => put_word(b"metadata-reject", text, at),
+        Name::MetadataOther => put_word(b"metadata-other", text, at),
+        Name::MetadataMalformed => put_word(b"metadata-malformed", text, at),
+        Name::Unknown => put_word(b"unknown", text, at),
     }
 }
 
@@ -343,7 +344,7 @@ pub(crate) fn put_words(words: &Words, text: &mut [u8], at: usize) -> usize
             put_announced(*size, *id, text, at)
         }
         Words::Message(name, numbers) => {
-            let at = put(name.text(), text, at);
+            let at = put_name(*name, text, at);
             put_numbers(*numbers, text, at)
         }
     }

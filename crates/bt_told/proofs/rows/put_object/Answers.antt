@@ -5,7 +5,7 @@ pub returns-clause-text : goal.returns-clause-text
 returns-clause-text c =
     rw (
       c.put_word.ensures.text,
-      c.put_remarks-at.ensures.text,
+      c.put_object_remarks-at.ensures.text,
       c.put_deed_members-at.ensures.text,
       c.put_word-at-2.ensures.text,
       c.put_word-at.ensures.text,

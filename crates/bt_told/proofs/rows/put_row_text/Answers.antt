@@ -5,7 +5,7 @@ pub returns-clause-text : goal.returns-clause-text
 returns-clause-text c =
     rw (
       c.put_word.ensures.text,
-      c.put_remarks-at.ensures.text,
+      c.put_line_remarks-at.ensures.text,
       c.put_deed-at.ensures.text,
       c.put_between-at.ensures.text,
       c.put_word-at-3.ensures.text,
