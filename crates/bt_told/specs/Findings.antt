@@ -1,5 +1,5 @@
 -- What a report's verdicts come to.
-use Rattle.std.specs.Prelude.{Bool, true, false, ◌||◌, not, Option, Some, None, is_some, if◌then◌else◌}
+use Rattle.std.specs.Prelude.{Bool, true, false, ◌||◌, not, Option, Some, is_some, if◌then◌else◌}
 use Rattle.bt_remarks.specs.declared.events.Side.{Side}
 use Rattle.bt_remarks.specs.declared.events.Side.TheVariants.{A, B}
 use Rattle.bt_text.specs.declared.ended.Ended.{Ended}

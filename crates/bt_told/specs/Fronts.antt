@@ -1,5 +1,5 @@
 -- The front of the rows of items, up to the item's offset, and what follows it.
-use Rattle.std.specs.Prelude.{ℕ, List, [], ◌++◌, codes, decimal}
+use Rattle.std.specs.Prelude.{ℕ, ◌/◌, List, [], ◌++◌, codes, decimal, nat_eq, if◌then◌else◌}
 use Rattle.bt_remarks.specs.declared.events.Remarks.{Remarks}
 use Rattle.bt_told.specs.declared.fronts.RowForm.{RowForm}
 use Rattle.bt_told.specs.declared.fronts.RowForm.TheVariants.{Text, Object}
@@ -7,8 +7,9 @@ use Rattle.bt_told.specs.declared.fronts.Stamp.{Stamp}
 use Rattle.bt_told.specs.declared.rows.Deed.TheVariants.{Item}
 use Rattle.bt_told.specs.declared.rows.Row.{Row}
 use Rattle.bt_told.specs.declared.said.Said.{Said}
+use Rattle.bt_told.specs.declared.said.Words.{Words}
 use Rattle.bt_told.specs.Members.{words_members}
-use Rattle.bt_told.specs.Numbers.{time_text}
+use Rattle.bt_told.specs.Numbers.{four_digits, time_text}
 use Rattle.bt_told.specs.Rows.{clock_text, remarks_in, row_object, row_text}
 use Rattle.bt_told.specs.Said.{words_text}
 use Rattle.bt_told.specs.Sides.{side_text}
@@ -43,9 +44,16 @@ front_by Object s = object_front s
 abbrev pub front_text : Stamp → List ℕ
 front_text s = front_by s.form s
 
-abbrev pub line_end : Said → Remarks → List ℕ
-line_end said remarks = decimal said.offset ++ (codes " " ++ (words_text said.words ++ (remarks_in (codes "  (") (codes ", ") (codes ")") remarks ++ codes "\n")))
+-- an offset's digits but the last four, and the last four; `base` is the least offset with the same digits but the last four
+abbrev pub high_text : ℕ → List ℕ
+high_text base = if nat_eq base 0 then [] else decimal (base / 10000)
 
-abbrev pub object_end : Said → Remarks → List ℕ
-object_end said remarks =
-    decimal said.offset ++ (words_members said.words ++ (remarks_in (codes ",\"remarks\":[\"") (codes "\",\"") (codes "\"]") remarks ++ codes "}\n"))
+abbrev pub low_text : ℕ → ℕ → List ℕ
+low_text base low = if nat_eq base 0 then decimal low else four_digits low
+
+-- what follows the offset
+abbrev pub line_end : Words → Remarks → List ℕ
+line_end words remarks = codes " " ++ (words_text words ++ (remarks_in (codes "  (") (codes ", ") (codes ")") remarks ++ codes "\n"))
+
+abbrev pub object_end : Words → Remarks → List ℕ
+object_end words remarks = words_members words ++ (remarks_in (codes ",\"remarks\":[\"") (codes "\",\"") (codes "\"]") remarks ++ codes "}\n")

@@ -54,6 +54,9 @@ third_key name.Piece = codes "bytes"
 third_key name.MetadataData = codes "bytes"
 third_key name = codes "length"
 
+abbrev pub key_text : List ℕ → List ℕ
+key_text key = codes ",\"" ++ (key ++ codes "\":")
+
 abbrev pub member : List ℕ → ℕ → List ℕ
 member key n = codes ",\"" ++ (key ++ (codes "\":" ++ decimal n))
 

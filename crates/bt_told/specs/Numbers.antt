@@ -5,6 +5,13 @@ use Rattle.std.specs.Prelude.{ℕ, ◌+◌, ◌/◌, ◌%◌, List, [], ◌∷�
 abbrev pub digit : ℕ → ℕ
 digit n = 48 + n % 10
 
+-- the two digits of a number below 100, the four of one below 10,000
+abbrev pub two_digits : ℕ → List ℕ
+two_digits n = (48 + n / 10) ∷ (48 + n % 10) ∷ []
+
+abbrev pub four_digits : ℕ → List ℕ
+four_digits n = two_digits (n / 100) ++ two_digits (n % 100)
+
 -- the last six digits
 abbrev pub six_digits : ℕ → List ℕ
 six_digits n = digit (n / 100000) ∷ digit (n / 10000) ∷ digit (n / 1000) ∷ digit (n / 100) ∷ digit (n / 10) ∷ digit n ∷ []

@@ -1,10 +1,10 @@
 //! The front of the rows of items, up to the item's offset.
 //!
 //! It is kept as text, since rows of a side that come with one packet share it.
-ghost use Rattle.std.specs.Prelude.{◌≡◌, ◌+◌, ◌≤◌, ◌++◌, length, take};
-ghost use Rattle.bt_told.specs.Fronts.{front_text, line_front, object_front};
+ghost use Rattle.std.specs.Prelude.{◌≡◌, ◌+◌, ◌%◌, ◌<◌, ◌≤◌, ℕ, ◌++◌, decimal, length, take};
+ghost use Rattle.bt_told.specs.Fronts.{front_text, high_text, line_front, low_text, object_front};
 
-use crate::numbers::put_time;
+use crate::numbers::{put_four, put_time};
 use crate::rows::put_clock;
 use crate::sides::{letter, put_between};
 use bt_remarks::Side;
@@ -32,24 +32,24 @@ pub struct Stamp {
     pub side: Side,
 }
 
-/// How many bytes the longest front has, and more.
-const FRONT: usize = 128;
-
-/// The front of a row of text mostly has fewer bytes.
-const SHORT: usize = 64;
-
-/// A front.
+/// The front of an item's row, with the offset's digits but the last four.
+///
+/// The next row with the same stamp mostly has these digits, too.
 #[derive(Drop)]
 pub(crate) struct Front {
     stamp: Stamp,
-    /// It stands at the start.
-    bytes: [u8; 128],
+    /// The least offset that has the digits.
+    base: u64,
+    /// The text stands at the start.
+    bytes: [u8; 160],
     count: usize,
-    ghost short: { count ≤ 128 },
-    ghost written: { take count bytes ≡ front_text stamp },
+    ghost short: { count ≤ 148 },
+    ghost whole: { base % 10000 ≡ 0 },
+    ghost written: { take count bytes ≡ front_text stamp ++ high_text base },
 }
 
 /// Puts the front of a line of text.
+#[inline(always)]
 fn put_line_front(stamp: &Stamp, text: &mut [u8], at: usize) -> usize
     requires { at + 60 ≤ length text.old }
     ensures room { (at ≤ result) × (result ≤ at + 60) }
@@ -85,6 +85,7 @@ fn put_object_front(stamp: &Stamp, text: &mut [u8], at: usize) -> usize
 }
 
 /// Puts the front of a row.
+#[inline(always)]
 fn put_front(stamp: &Stamp, text: &mut [u8], at: usize) -> usize
     requires { at + 128 ≤ length text.old }
     ensures room { (at ≤ result) × (result ≤ at + 128) }
@@ -97,54 +98,116 @@ fn put_front(stamp: &Stamp, text: &mut [u8], at: usize) -> usize
     }
 }
 
+/// Puts the digits of an offset but the last four, if it has more.
+#[inline(always)]
+fn put_high(base: u64, text: &mut [u8], at: usize) -> usize
+    requires { at + 20 ≤ length text.old }
+    ensures room { (at ≤ result) × (result ≤ at + 20) }
+    ensures size { length text.new ≡ length text.old }
+    ensures text { take result text.new ≡ take at text.old ++ high_text base }
+{
+    if base == 0 {
+        return at;
+    }
+    put_number(base / 10_000, text, at)
+}
+
+/// Puts the last digits of an offset.
+#[inline(always)]
+fn put_low(base: u64, low: u64, text: &mut [u8], at: usize) -> usize
+    requires { (low < 10000) × (at + 20 ≤ length text.old) }
+    ensures room { (at ≤ result) × (result ≤ at + 20) }
+    ensures size { length text.new ≡ length text.old }
+    ensures text { take result text.new ≡ take at text.old ++ low_text base low }
+{
+    if base == 0 {
+        return put_number(low, text, at);
+    }
+    put_four(low, text, at)
+}
+
+/// Puts the first `many` bytes of a front.
+#[inline(always)]
+fn put_first(bytes: &[u8; 160], many: usize, text: &mut [u8], at: usize)
+    requires { (many ≤ 160) × (at + many ≤ length text.old) }
+    ensures size { length text.new ≡ length text.old }
+    ensures text { (count : ℕ) → count ≤ many → take (at + count) text.new ≡ take at text.old ++ take count bytes.now }
+{
+    // a copy of its own, as in put_word
+    let bytes = *bytes;
+    text[at..at + many].copy_from_slice(&bytes[..many]);
+}
+
 impl Front {
     /// Makes the front of the rows with this stamp.
     #[inline(never)]
-    pub(crate) fn new(stamp: &Stamp) -> Front
-        ensures { result.stamp ≡ stamp.now }
-    {
-        let mut bytes = [0; FRONT];
+    pub(crate) fn new(stamp: &Stamp) -> Front {
+        let mut bytes = [0; 160];
         let count = put_front(stamp, &mut bytes, 0);
         Front {
             stamp: *stamp,
+            base: 0,
             bytes,
             count,
         }
     }
 
-    /// Takes another stamp.
+    /// Takes another stamp, and the digits of another offset; returns what the last four are worth.
     #[inline(never)]
-    fn renew(&mut self, stamp: &Stamp)
-        ensures { self.new.stamp ≡ stamp.now }
+    fn renew(&mut self, stamp: &Stamp, offset: u64) -> u64
+        ensures stamp { self.new.stamp ≡ stamp.now }
+        ensures offset { self.new.base + result ≡ offset }
+        ensures low { result < 10000 }
     {
-        *self = Front::new(stamp);
+        let low = offset % 10_000;
+        let base = offset - low;
+        let at = put_front(stamp, &mut self.bytes, 0);
+        let count = put_high(base, &mut self.bytes, at);
+        self.stamp = *stamp;
+        self.base = base;
+        self.count = count;
+        low
     }
 
-    /// Puts the front of the stamp that it has.
+    /// Takes a stamp and the digits of an offset, if it has others; returns what the last four are worth.
+    #[inline(always)]
+    fn turn_to(&mut self, stamp: &Stamp, offset: u64) -> u64
+        ensures stamp { self.new.stamp ≡ stamp.now }
+        ensures offset { self.new.base + result ≡ offset }
+        ensures low { result < 10000 }
+    {
+        if offset >= self.base && offset - self.base < 10_000 && self.stamp == *stamp {
+            return offset - self.base;
+        }
+        self.renew(stamp, offset)
+    }
+
+    /// Puts what it has.
     #[inline(always)]
     fn put_same(&self, text: &mut [u8], place: usize) -> usize
-        requires { place + 128 ≤ length text.old }
-        ensures room { (place ≤ result) × (result ≤ place + 128) }
+        requires { place + 160 ≤ length text.old }
+        ensures room { (place ≤ result) × (result ≤ place + 148) }
         ensures size { length text.new ≡ length text.old }
-        ensures text { take result text.new ≡ take place text.old ++ front_text self.now.stamp }
+        ensures text { take result text.new ≡ take place text.old ++ (front_text self.now.stamp ++ high_text self.now.base) }
     {
-        // a copy of its own, as in put_word
-        let bytes = self.bytes;
-        text[place..place + FRONT].copy_from_slice(&bytes);
+        match self.count {
+            0..=32 => put_first(&self.bytes, 32, text, place),
+            33..=96 => put_first(&self.bytes, 96, text, place),
+            _ => put_first(&self.bytes, 160, text, place),
+        }
         place + self.count
     }
 
-    /// Puts the front of the rows with this stamp.
+    /// Puts the front of the row with this stamp, and the offset.
     #[inline(always)]
-    pub(crate) fn put(&mut self, stamp: &Stamp, text: &mut [u8], place: usize) -> usize
-        requires { place + 128 ≤ length text.old }
-        ensures room { (place ≤ result) × (result ≤ place + 128) }
+    pub(crate) fn put(&mut self, stamp: &Stamp, offset: u64, text: &mut [u8], place: usize) -> usize
+        requires { place + 168 ≤ length text.old }
+        ensures room { (place ≤ result) × (result ≤ place + 168) }
         ensures size { length text.new ≡ length text.old }
-        ensures text { take result text.new ≡ take place text.old ++ front_text stamp.now }
+        ensures text { take result text.new ≡ take place text.old ++ (front_text stamp.now ++ decimal offset) }
     {
-        if self.stamp != *stamp {
-            self.renew(stamp);
-        }
-        self.put_same(text, place)
+        let low = self.turn_to(stamp, offset);
+        let place = self.put_same(text, place);
+        put_low(self.base, low, text, place)
     }
 }

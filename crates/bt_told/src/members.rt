@@ -1,7 +1,7 @@
 //! Members of JSON objects (RFC 8259): an item and a verdict, as `show --json` has them.
 ghost use Rattle.std.specs.Prelude.{◌≡◌, ◌+◌, ◌*◌, ◌≤◌, [], ◌∷◌, ◌++◌, codes, decimal, length, take};
 ghost use Rattle.hex.specs.Hex.{encode_lower};
-ghost use Rattle.bt_told.specs.Members.{escaped, first_key, member, number_members, said_object, second_key, third_key, verdict_members, words_members};
+ghost use Rattle.bt_told.specs.Members.{escaped, first_key, key_text, number_members, said_object, second_key, third_key, verdict_members, words_members};
 ghost use Rattle.bt_told.specs.Numbers.{option_text};
 ghost use Rattle.bt_told.specs.declared.said.Words.TheVariants as words;
 ghost use Rattle.bt_text.specs.declared.ended.Ended.TheVariants as ended_by;
@@ -40,61 +40,58 @@ pub(crate) fn put_escaped(bytes: &[u8], text: &mut [u8], at: usize) -> usize
     put_escaped(rest, text, at)
 }
 
-impl Name {
-    /// Returns what the first number after the name is.
-    fn first_key(self) -> &'static [u8]
-        ensures key { result.now ≡ first_key self }
-        ensures short { length result.now ≤ 10 }
-    {
-        match self {
-            Name::Bitfield => b"bytes",
-            Name::Port => b"port",
-            Name::Extended | Name::Unknown => b"id",
-            Name::MetadataRequest | Name::MetadataData | Name::MetadataReject => b"piece",
-            Name::MetadataOther | Name::MetadataMalformed => b"dictionary",
-            _ => b"index",
+/// Puts the key of the first number after a name.
+#[inline(always)]
+fn put_first_key(name: Name, text: &mut [u8], at: usize) -> usize
+    requires { at + 14 ≤ length text.old }
+    ensures room { (at ≤ result) × (result ≤ at + 14) }
+    ensures size { length text.new ≡ length text.old }
+    ensures text { take result text.new ≡ take at text.old ++ key_text (first_key name) }
+{
+    match name {
+        Name::Bitfield => put_word(b",\"bytes\":", text, at),
+        Name::Port => put_word(b",\"port\":", text, at),
+        Name::Extended | Name::Unknown => put_word(b",\"id\":", text, at),
+        Name::MetadataRequest | Name::MetadataData | Name::MetadataReject => {
+            put_word(b",\"piece\":", text, at)
         }
-    }
-
-    /// Returns what the second number after the name is.
-    fn second_key(self) -> &'static [u8]
-        ensures key { result.now ≡ second_key self }
-        ensures short { length result.now ≤ 10 }
-    {
-        match self {
-            Name::Extended | Name::Unknown => b"bytes",
-            Name::MetadataData => b"total_size",
-            Name::MetadataOther | Name::MetadataMalformed => b"rest",
-            _ => b"begin",
-        }
-    }
-
-    /// Returns what the third number after the name is.
-    fn third_key(self) -> &'static [u8]
-        ensures key { result.now ≡ third_key self }
-        ensures short { length result.now ≤ 10 }
-    {
-        match self {
-            Name::Piece | Name::MetadataData => b"bytes",
-            _ => b"length",
-        }
+        Name::MetadataOther | Name::MetadataMalformed => put_word(b",\"dictionary\":", text, at),
+        _ => put_word(b",\"index\":", text, at),
     }
 }
 
-/// Puts a number under its key.
-fn put_member(key: &[u8], n: u64, text: &mut [u8], at: usize) -> usize
-    requires { (length key.now ≤ 10) × (at + 34 ≤ length text.old) }
-    ensures room { (at ≤ result) × (result ≤ at + 34) }
+/// Puts the key of the second number after a name.
+#[inline(always)]
+fn put_second_key(name: Name, text: &mut [u8], at: usize) -> usize
+    requires { at + 14 ≤ length text.old }
+    ensures room { (at ≤ result) × (result ≤ at + 14) }
     ensures size { length text.new ≡ length text.old }
-    ensures text { take result text.new ≡ take at text.old ++ member key.now n }
+    ensures text { take result text.new ≡ take at text.old ++ key_text (second_key name) }
 {
-    let at = put_word(b",\"", text, at);
-    let at = put(key, text, at);
-    let at = put_word(b"\":", text, at);
-    put_number(n, text, at)
+    match name {
+        Name::Extended | Name::Unknown => put_word(b",\"bytes\":", text, at),
+        Name::MetadataData => put_word(b",\"total_size\":", text, at),
+        Name::MetadataOther | Name::MetadataMalformed => put_word(b",\"rest\":", text, at),
+        _ => put_word(b",\"begin\":", text, at),
+    }
+}
+
+/// Puts the key of the third number after a name.
+#[inline(always)]
+fn put_third_key(name: Name, text: &mut [u8], at: usize) -> usize
+    requires { at + 14 ≤ length text.old }
+    ensures room { (at ≤ result) × (result ≤ at + 14) }
+    ensures size { length text.new ≡ length text.old }
+    ensures text { take result text.new ≡ take at text.old ++ key_text (third_key name) }
+{
+    match name {
+        Name::Piece | Name::MetadataData => put_word(b",\"bytes\":", text, at),
+        _ => put_word(b",\"length\":", text, at),
+    }
 }
 
 /// Puts the numbers after a name.
+#[inline(always)]
 fn put_numbers(name: Name, numbers: Numbers, text: &mut [u8], at: usize) -> usize
     requires { at + 102 ≤ length text.old }
     ensures room { (at ≤ result) × (result ≤ at + 102) }
@@ -103,20 +100,29 @@ fn put_numbers(name: Name, numbers: Numbers, text: &mut [u8], at: usize) -> usiz
 {
     match numbers {
         Numbers::Zero => at,
-        Numbers::One(n) => put_member(name.first_key(), n, text, at),
+        Numbers::One(n) => {
+            let at = put_first_key(name, text, at);
+            put_number(n, text, at)
+        }
         Numbers::Two(n, m) => {
-            let at = put_member(name.first_key(), n, text, at);
-            put_member(name.second_key(), m, text, at)
+            let at = put_first_key(name, text, at);
+            let at = put_number(n, text, at);
+            let at = put_second_key(name, text, at);
+            put_number(m, text, at)
         }
         Numbers::Three(n, m, k) => {
-            let at = put_member(name.first_key(), n, text, at);
-            let at = put_member(name.second_key(), m, text, at);
-            put_member(name.third_key(), k, text, at)
+            let at = put_first_key(name, text, at);
+            let at = put_number(n, text, at);
+            let at = put_second_key(name, text, at);
+            let at = put_number(m, text, at);
+            let at = put_third_key(name, text, at);
+            put_number(k, text, at)
         }
     }
 }
 
 /// Puts a handshake's three fields in hex.
+#[inline(never)]
 fn put_handshake(handshake: &Handshake, text: &mut [u8], at: usize) -> usize
     requires { at + 170 ≤ length text.old }
     ensures room { (at ≤ result) × (result ≤ at + 170) }
@@ -132,7 +138,30 @@ fn put_handshake(handshake: &Handshake, text: &mut [u8], at: usize) -> usize
     put_word(b"\"", text, at)
 }
 
+/// Puts what an extended handshake announces.
+#[inline(never)]
+fn put_announced(
+    dict: u64,
+    rest: u64,
+    size: Option<u64>,
+    id: Option<u64>,
+    text: &mut [u8],
+    at: usize,
+) -> usize
+    requires { at + 170 ≤ length text.old }
+    ensures room { (at ≤ result) × (result ≤ at + 170) }
+    ensures size { length text.new ≡ length text.old }
+    ensures text { take result text.new ≡ take at text.old ++ words_members (words.Announced dict rest size id) }
+{
+    let before = b",\"item\":\"ext-handshake\",\"dictionary\":";
+    let at = put_between(before, dict, b",\"rest\":", text, at);
+    let at = put_number(rest, text, at);
+    let at = put_option(b",\"metadata_size\":", size, text, at);
+    put_option(b",\"ut_metadata\":", id, text, at)
+}
+
 /// Puts an item's kind and fields.
+#[inline(always)]
 pub(crate) fn put_item(words: &Words, text: &mut [u8], at: usize) -> usize
     requires { at + 170 ≤ length text.old }
     ensures room { (at ≤ result) × (result ≤ at + 170) }
@@ -146,13 +175,7 @@ pub(crate) fn put_item(words: &Words, text: &mut [u8], at: usize) -> usize
             rest,
             size,
             id,
-        } => {
-            let before = b",\"item\":\"ext-handshake\",\"dictionary\":";
-            let at = put_between(before, *dict, b",\"rest\":", text, at);
-            let at = put_number(*rest, text, at);
-            let at = put_option(b",\"metadata_size\":", *size, text, at);
-            put_option(b",\"ut_metadata\":", *id, text, at)
-        }
+        } => put_announced(*dict, *rest, *size, *id, text, at),
         Words::Message(name, numbers) => {
             let at = put_word(b",\"item\":\"", text, at);
             let at = put_name(*name, text, at);

@@ -1,19 +1,19 @@
 //! Rows that are appended to one another, and room after them.
-ghost use Rattle.std.specs.Prelude.{◌≡◌, ◌+◌, ◌≤◌, [], ◌++◌, length, take, vec_len, IfOk, OnErr, OnOk};
+ghost use Rattle.std.specs.Prelude.{◌≡◌, ◌+◌, ◌≤◌, [], ◌++◌, length, take, vec_len, OnErr, OnOk};
 ghost use Rattle.bt_told.specs.Fronts.{item_row, line_end, object_end, text_by};
 ghost use Rattle.bt_told.specs.Rows.{row_object, row_text};
 
 use crate::fronts::{Front, RowForm, Stamp};
 use crate::members::put_item;
 use crate::rows::{Row, put_line_remarks, put_object_remarks, put_row, put_row_object};
-use crate::said::{Said, put_words};
+use crate::said::{Said, Words, put_words};
 use bt_remarks::Remarks;
-use bt_text::putting::{grow, put_number, put_word};
+use bt_text::putting::{grow, put_word};
 use std::alloc::{AllocError, Global};
 use std::marker::Model;
 
 /// How many bytes of room the row of an item needs.
-const ROOM: usize = 420;
+const ROOM: usize = 440;
 
 /// How many bytes the text grows by if it has no room, besides the room.
 const GROWTH: usize = 1024;
@@ -42,60 +42,47 @@ impl Model for RowBuffer {
     ghost invariant = { λ b. b.used ≤ vec_len b.bytes };
 }
 
-/// Makes room after what is used of the text; returns the place of the room.
-#[inline(always)]
-fn make_room(bytes: &mut Vec<u8>, used: usize) -> Result<usize, AllocError>
-    requires { used ≤ vec_len bytes.old }
-    ensures ok { IfOk result (λ n. (n + 420 ≤ vec_len bytes.new) × (take n bytes.new.items ≡ take used bytes.old.items)) }
-    ensures place { IfOk result (λ n. n ≡ used) }
-    ensures err { OnErr result ((used ≤ vec_len bytes.new) × (take used bytes.new.items ≡ take used bytes.old.items)) }
-{
-    if bytes.len() - used >= ROOM {
-        return Ok(used);
-    }
-    make_more(bytes, used)
-}
-
 /// Makes the text longer, by the room and more after what is used.
 #[inline(never)]
-fn make_more(bytes: &mut Vec<u8>, used: usize) -> Result<usize, AllocError>
+fn make_room(bytes: &mut Vec<u8>, used: usize) -> Result<(), AllocError>
     requires { used ≤ vec_len bytes.old }
-    ensures ok { IfOk result (λ n. (n + 420 ≤ vec_len bytes.new) × (take n bytes.new.items ≡ take used bytes.old.items)) }
-    ensures place { IfOk result (λ n. n ≡ used) }
-    ensures err { OnErr result ((used ≤ vec_len bytes.new) × (take used bytes.new.items ≡ take used bytes.old.items)) }
+    ensures ok { OnOk result (used + 440 ≤ vec_len bytes.new) }
+    ensures kept { (used ≤ vec_len bytes.new) × (take used bytes.new.items ≡ take used bytes.old.items) }
 {
     bytes.truncate(used);
-    grow(bytes, ROOM + GROWTH)
+    grow(bytes, ROOM + GROWTH)?;
+    Ok(())
 }
 
-/// Puts what follows the front of an item's line.
-fn end_line(said: &Said, remarks: &Remarks, text: &mut [u8], at: usize) -> usize
-    requires { at + 200 ≤ length text.old }
-    ensures room { (at ≤ result) × (result ≤ at + 200) }
+/// Puts what follows the offset of an item on its line.
+#[inline(always)]
+fn end_line(words: &Words, remarks: &Remarks, text: &mut [u8], at: usize) -> usize
+    requires { at + 172 ≤ length text.old }
+    ensures room { (at ≤ result) × (result ≤ at + 172) }
     ensures size { length text.new ≡ length text.old }
-    ensures text { take result text.new ≡ take at text.old ++ line_end said.now remarks.now }
+    ensures text { take result text.new ≡ take at text.old ++ line_end words.now remarks.now }
 {
-    let at = put_number(said.offset, text, at);
     let at = put_word(b" ", text, at);
-    let at = put_words(&said.words, text, at);
+    let at = put_words(words, text, at);
     let at = put_line_remarks(remarks, text, at);
     put_word(b"\n", text, at)
 }
 
-/// Puts what follows the front of an item's object.
-fn end_object(said: &Said, remarks: &Remarks, text: &mut [u8], at: usize) -> usize
-    requires { at + 292 ≤ length text.old }
-    ensures room { (at ≤ result) × (result ≤ at + 292) }
+/// Puts what follows the offset of an item in its object.
+#[inline(always)]
+fn end_object(words: &Words, remarks: &Remarks, text: &mut [u8], at: usize) -> usize
+    requires { at + 269 ≤ length text.old }
+    ensures room { (at ≤ result) × (result ≤ at + 269) }
     ensures size { length text.new ≡ length text.old }
-    ensures text { take result text.new ≡ take at text.old ++ object_end said.now remarks.now }
+    ensures text { take result text.new ≡ take at text.old ++ object_end words.now remarks.now }
 {
-    let at = put_number(said.offset, text, at);
-    let at = put_item(&said.words, text, at);
+    let at = put_item(words, text, at);
     let at = put_object_remarks(remarks, text, at);
     put_word(b"}\n", text, at)
 }
 
 /// Puts an item's row.
+#[inline(always)]
 fn put_item_row(
     front: &mut Front,
     stamp: &Stamp,
@@ -104,28 +91,23 @@ fn put_item_row(
     text: &mut [u8],
     at: usize,
 ) -> usize
-    requires { at + 420 ≤ length text.old }
-    ensures room { (at ≤ result) × (result ≤ at + 420) }
+    requires { at + 440 ≤ length text.old }
+    ensures room { (at ≤ result) × (result ≤ at + 440) }
     ensures size { length text.new ≡ length text.old }
     ensures text { take result text.new ≡ take at text.old ++ text_by stamp.now.form stamp.now.packet (item_row stamp.now said.now remarks.now) }
 {
-    let at = front.put(stamp, text, at);
+    let at = front.put(stamp, said.offset, text, at);
     match stamp.form {
-        RowForm::Text => end_line(said, remarks, text, at),
-        RowForm::Object => end_object(said, remarks, text, at),
+        RowForm::Text => end_line(&said.words, remarks, text, at),
+        RowForm::Object => end_object(&said.words, remarks, text, at),
     }
 }
 
-/// Returns the front that is kept, or else a new one.
-#[inline(always)]
-fn kept(front: Option<Box<Front>>, stamp: &Stamp, alloc: Global) -> Result<Box<Front>, AllocError> {
-    match front {
-        Some(front) => Ok(front),
-        None => {
-            let front = Box::new(alloc, Front::new(stamp))?;
-            Ok(front)
-        }
-    }
+/// Makes a front on the heap.
+#[inline(never)]
+fn boxed(alloc: Global, stamp: &Stamp) -> Result<Box<Front>, AllocError> {
+    let front = Box::new(alloc, Front::new(stamp))?;
+    Ok(front)
 }
 
 impl RowBuffer {
@@ -164,16 +146,22 @@ impl RowBuffer {
         &mut self,
         stamp: &Stamp,
         said: &Said,
-        remarks: Remarks,
+        remarks: &Remarks,
     ) -> Result<(), AllocError>
-        ensures ok { OnOk result (self.new.items ≡ self.old.items ++ text_by stamp.now.form stamp.now.packet (item_row stamp.now said.now remarks)) }
+        ensures ok { OnOk result (self.new.items ≡ self.old.items ++ text_by stamp.now.form stamp.now.packet (item_row stamp.now said.now remarks.now)) }
         ensures err { OnErr result (self.new.items ≡ self.old.items) }
     {
-        let place = make_room(&mut self.bytes, self.used)?;
-        let mut front = kept(self.front.take(), stamp, self.alloc)?;
+        if self.bytes.len() - self.used < ROOM {
+            make_room(&mut self.bytes, self.used)?;
+        }
+        if self.front.is_none() {
+            self.front = Some(boxed(self.alloc, stamp)?);
+        }
+        let Some(front) = &mut self.front else {
+            unreachable!();
+        };
         let text = self.bytes.as_mut_slice();
-        self.used = put_item_row(&mut front, stamp, said, &remarks, text, place);
-        self.front = Some(front);
+        self.used = put_item_row(front, stamp, said, remarks, text, self.used);
         Ok(())
     }
 

@@ -250,6 +250,7 @@ impl Words {
 }
 
 /// Puts a space and a number.
+#[inline(always)]
 pub(crate) fn put_spaced(n: u64, text: &mut [u8], at: usize) -> usize
     requires { at + 21 ≤ length text.old }
     ensures room { (at ≤ result) × (result ≤ at + 21) }
@@ -261,6 +262,7 @@ pub(crate) fn put_spaced(n: u64, text: &mut [u8], at: usize) -> usize
 }
 
 /// Puts the numbers after a name.
+#[inline(always)]
 fn put_numbers(numbers: Numbers, text: &mut [u8], at: usize) -> usize
     requires { at + 63 ≤ length text.old }
     ensures room { (at ≤ result) × (result ≤ at + 63) }
@@ -283,6 +285,7 @@ fn put_numbers(numbers: Numbers, text: &mut [u8], at: usize) -> usize
 }
 
 /// Puts a handshake's three fields in hex.
+#[inline(never)]
 fn put_handshake(handshake: &Handshake, text: &mut [u8], at: usize) -> usize
     requires { at + 120 ≤ length text.old }
     ensures room { (at ≤ result) × (result ≤ at + 120) }
@@ -323,7 +326,29 @@ fn put_announced(size: Option<u64>, id: Option<u64>, text: &mut [u8], at: usize)
     put_or_dash(id, text, at)
 }
 
+/// Puts the words of an extended handshake.
+#[inline(never)]
+fn put_ext_handshake(
+    dict: u64,
+    rest: u64,
+    size: Option<u64>,
+    id: Option<u64>,
+    text: &mut [u8],
+    at: usize,
+) -> usize
+    requires { at + 120 ≤ length text.old }
+    ensures room { (at ≤ result) × (result ≤ at + 120) }
+    ensures size { length text.new ≡ length text.old }
+    ensures text { take result text.new ≡ take at text.old ++ words_text (Words.Announced dict rest size id) }
+{
+    let at = put_word(b"ext-handshake", text, at);
+    let at = put_spaced(dict, text, at);
+    let at = put_spaced(rest, text, at);
+    put_announced(size, id, text, at)
+}
+
 /// Puts the words of an item.
+#[inline(always)]
 pub(crate) fn put_words(words: &Words, text: &mut [u8], at: usize) -> usize
     requires { at + 120 ≤ length text.old }
     ensures room { (at ≤ result) × (result ≤ at + 120) }
@@ -337,12 +362,7 @@ pub(crate) fn put_words(words: &Words, text: &mut [u8], at: usize) -> usize
             rest,
             size,
             id,
-        } => {
-            let at = put_word(b"ext-handshake", text, at);
-            let at = put_spaced(*dict, text, at);
-            let at = put_spaced(*rest, text, at);
-            put_announced(*size, *id, text, at)
-        }
+        } => put_ext_handshake(*dict, *rest, *size, *id, text, at),
         Words::Message(name, numbers) => {
             let at = put_name(*name, text, at);
             put_numbers(*numbers, text, at)
