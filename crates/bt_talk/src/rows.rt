@@ -1,11 +1,11 @@
 //! Rows of what the sides of a connection do, as they come.
-ghost use Rattle.std.specs.Prelude.{◌≡◌, OnOk, OnErr, [], ◌∷◌};
+ghost use Rattle.std.specs.Prelude.{◌≡◌, ◌-◌, OnOk, OnErr, [], ◌∷◌};
 ghost use Rattle.bt_talk.specs.Rows.{row_at};
 ghost use Rattle.bt_talk.specs.Shows.{Appends};
 
 use crate::closing::When;
 use bt_remarks::{Remarks, Side};
-use bt_told::{Deed, Row, Said, put_row, put_row_object};
+use bt_told::{Deed, Row, RowBuffer, RowForm, Said, Stamp};
 use std::alloc::{AllocError, Global};
 
 /// How rows are shown.
@@ -48,7 +48,7 @@ pub(crate) const NO_REMARKS: Remarks = Remarks {
 #[derive(Drop)]
 pub(crate) struct Rows {
     pub(crate) heading: Heading,
-    pub(crate) text: Vec<u8>,
+    pub(crate) text: RowBuffer,
 }
 
 impl Rows {
@@ -59,7 +59,7 @@ impl Rows {
     {
         Rows {
             heading,
-            text: Vec::new(alloc),
+            text: RowBuffer::new(alloc),
         }
     }
 
@@ -70,6 +70,24 @@ impl Rows {
     {
         self.text.clear();
         self.heading = heading;
+    }
+
+    /// Returns what the rows of a side's items have in common if they come with this packet.
+    #[inline(always)]
+    fn stamp(&self, form: RowForm, when: When, side: Side) -> Stamp
+        ensures form { result.form ≡ form }
+        ensures connection { result.connection ≡ self.now.heading.connection }
+        ensures packet { result.packet ≡ when.packet }
+        ensures at { result.at ≡ when.nanos - self.now.heading.start }
+        ensures side { result.side ≡ side }
+    {
+        Stamp {
+            form,
+            connection: self.heading.connection,
+            packet: when.packet,
+            at: when.nanos.saturating_sub(self.heading.start),
+            side,
+        }
     }
 
     /// Appends the row of an item, if rows are shown.
@@ -89,8 +107,13 @@ impl Rows {
     {
         match self.heading.showing {
             Showing::Nothing => Ok(()),
-            Showing::Text | Showing::Objects => {
-                self.put(when, side, said.offset, Deed::Item(said.words), remarks)
+            Showing::Text => {
+                let stamp = self.stamp(RowForm::Text, when, side);
+                self.text.put_item(&stamp, said, &remarks)
+            }
+            Showing::Objects => {
+                let stamp = self.stamp(RowForm::Object, when, side);
+                self.text.put_item(&stamp, said, &remarks)
             }
         }
     }
@@ -120,8 +143,8 @@ impl Rows {
         };
         match self.heading.showing {
             Showing::Nothing => Ok(()),
-            Showing::Text => put_row(&row, &mut self.text),
-            Showing::Objects => put_row_object(when.packet, &row, &mut self.text),
+            Showing::Text => self.text.put(&row),
+            Showing::Objects => self.text.put_object(when.packet, &row),
         }
     }
 }
