@@ -1,11 +1,13 @@
 -- Lemmas on flags that take a bit each.
-use Rattle.std.proofs.Common.{◌≡◌, ℕ, ◌+◌, ◌-◌, ◌*◌, ◌/◌, ◌%◌, ◌^◌, ◌<◌, ◌≤◌, ◌⊎◌, Bool, true, false, eqb, List, length, get_or, set, max, min, bit_or, bit_and, bit_xor}
+use Rattle.std.proofs.Common.{◌≡◌, ℕ, ◌+◌, ◌-◌, ◌*◌, ◌/◌, ◌%◌, ◌^◌, ◌<◌, ◌≤◌, ◌⊎◌, Bool, true, false, eqb, List, length, get_or, set}
+use Rattle.std.proofs.Common.{max, min, bit_or, bit_and, bit_xor}
 use Rattle.std.proofs.Common.{refl, sym, ap, ◌∙◌, arith, inl, inr}
 use Rattle.std.specs.Prelude.{if◌then◌else◌}
 use Rattle.std.proofs.lemmas.Bool.{cases_lt, cases_eq}
 use Rattle.std.proofs.lemmas.Bool.Decides.{nat_tests}
 use Rattle.std.proofs.lemmas.List.{get_or-set_same, get_or-set_other}
-use Rattle.std.proofs.lemmas.Nat.Bits.{bit_at_or, bit_at_and, bit_at_xor, bit_at-lt, bit_at_mask_inside, bit_at_mask_below, bit_at_mask_above, bit_at_ones, bit_at-zero}
+use Rattle.std.proofs.lemmas.Nat.Bits.{bit_at_or, bit_at_and, bit_at_xor, bit_at-lt, bit_at_ones, bit_at-zero}
+use Rattle.std.proofs.lemmas.Nat.Bits.{bit_at_mask_inside, bit_at_mask_below, bit_at_mask_above}
 use Rattle.std.proofs.Math.Pow.{pow_mono}
 use Rattle.std.specs.Int.{bit_at}
 use Rattle.bt_tcp.specs.Bits.{bit, flag, whole, IsFilled, IsCopiedTo}
@@ -50,9 +52,12 @@ small_power n h =
 pub mask_order : (i j : ℕ) → i ≤ j → j ≤ 8 → 1 * 2 ^ i % 65536 ≤ 1 * 2 ^ j % 65536
 mask_order i j h l = (let m : 2 ^ i ≤ 2 ^ j = pow_mono h in omega (arith, m, small_power i (omega arith), small_power j l))
 
+mask_in : (m from to i : ℕ) → m ≡ 2 ^ to - 2 ^ from → from ≤ i → i < to → bit_at m i ≡ 1
+mask_in m from to i e l h = ap (λ x. bit_at x i) e ∙ bit_at_mask_inside from to i l h
+
 pub masked_in : (value : Bool) (b m from to i : ℕ) → m ≡ 2 ^ to - 2 ^ from → from ≤ i → i < to → bit (masked value b m) i ≡ value
-masked_in true b m from to i e l h = bit_or-is b m i ∙ set_1 (bit_at b i) (bit_at m i) (bit_at-lt b i) (ap (λ x. bit_at x i) e ∙ bit_at_mask_inside from to i l h)
-masked_in false b m from to i e l h = bit_out-is b m i ∙ set_0 (bit_at b i) (bit_at m i) (bit_at-lt b i) (ap (λ x. bit_at x i) e ∙ bit_at_mask_inside from to i l h)
+masked_in true b m from to i e l h = bit_or-is b m i ∙ set_1 (bit_at b i) (bit_at m i) (bit_at-lt b i) (mask_in m from to i e l h)
+masked_in false b m from to i e l h = bit_out-is b m i ∙ set_0 (bit_at b i) (bit_at m i) (bit_at-lt b i) (mask_in m from to i e l h)
 
 mask_out : (m from to i : ℕ) → m ≡ 2 ^ to - 2 ^ from → (i < from) ⊎ (to ≤ i) → bit_at m i ≡ 0
 mask_out m from to i e (inl l) = ap (λ x. bit_at x i) e ∙ bit_at_mask_below from to i l

@@ -1,6 +1,6 @@
 //! The reassembly window as a ring over the caller's memory.
 ghost use Rattle.std.specs.Prelude.{◌≡◌, ℕ, ◌+◌, ◌-◌, ◌<◌, ◌≤◌, ◌^◌, true, false, List, [], length, slice_index_or, None, OnOk, nat_le};
-ghost use Rattle.bt_tcp.specs.Bits.{places, flag, IsFilled};
+ghost use Rattle.bt_tcp.specs.Bits.{places, flag};
 ghost use Rattle.bt_tcp.specs.Segments.{Segment, or_else, byte_in};
 ghost use Rattle.bt_tcp.specs.Cells.{slot_of, is_known, ring, IsRing, IsWritten};
 ghost use Rattle.bt_tcp.specs.Rings.{ahead, IsSound};
@@ -152,7 +152,7 @@ fn turn(bytes: &mut [u8], len: usize, head: usize)
     bytes[..len].rotate_left(head);
 }
 
-/// Turns the first flags likewise, to the front of other memory.
+/// Copies flags to other memory, so that the one at `head` is the first, and those before it come last.
 fn turn_flags(known: &[u8], len: usize, head: usize, to: &mut [u8])
     requires len { len ≡ places known.now }
     requires head { head < len }

@@ -83,6 +83,8 @@ fn take(
 
 /// Reassembles a direction of a connection, from `base` on up to the first place that no segment covers.
 ///
+/// `known` has a bit for each byte of `memory`; what is in both doesn't matter.
+///
 /// # Errors
 /// `Failed` says why not.
 pub fn reassemble(

@@ -6,13 +6,21 @@ pub overflow_sub-mask : goal.overflow_sub-mask
 overflow_sub-mask c = mask_order c.args.from c.args.to c.requires.order c.requires.within
 
 pub returns-then-value-clause-inside : goal.returns-then-value-clause-inside
-returns-then-value-clause-inside c i l h = rw c.if-value.true (masked_in true c.args.byte _ c.args.from c.args.to i (mask_is c.args.from c.args.to c.requires.order c.requires.within) l h)
+returns-then-value-clause-inside c i l h =
+    let m = mask_is c.args.from c.args.to c.requires.order c.requires.within in
+    rw c.if-value.true (masked_in true c.args.byte _ c.args.from c.args.to i m l h)
 
 pub returns-then-value-clause-outside : goal.returns-then-value-clause-outside
-returns-then-value-clause-outside c i l o = masked_out true c.args.byte _ c.args.from c.args.to i (mask_is c.args.from c.args.to c.requires.order c.requires.within) o
+returns-then-value-clause-outside c i l o =
+    let m = mask_is c.args.from c.args.to c.requires.order c.requires.within in
+    masked_out true c.args.byte _ c.args.from c.args.to i m o
 
 pub returns-else-value-clause-inside : goal.returns-else-value-clause-inside
-returns-else-value-clause-inside c i l h = rw c.if-value.false (masked_in false c.args.byte _ c.args.from c.args.to i (mask_is c.args.from c.args.to c.requires.order c.requires.within) l h)
+returns-else-value-clause-inside c i l h =
+    let m = mask_is c.args.from c.args.to c.requires.order c.requires.within in
+    rw c.if-value.false (masked_in false c.args.byte _ c.args.from c.args.to i m l h)
 
 pub returns-else-value-clause-outside : goal.returns-else-value-clause-outside
-returns-else-value-clause-outside c i l o = masked_out false c.args.byte _ c.args.from c.args.to i (mask_is c.args.from c.args.to c.requires.order c.requires.within) o
+returns-else-value-clause-outside c i l o =
+    let m = mask_is c.args.from c.args.to c.requires.order c.requires.within in
+    masked_out false c.args.byte _ c.args.from c.args.to i m o

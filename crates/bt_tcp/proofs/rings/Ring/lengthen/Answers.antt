@@ -59,7 +59,8 @@ alike c k =
     let o : length known ≤ j / 8 = omega arith in
     c.turn_flags.ensures.rest j (omega arith) ∙ ap (λ xs. flag xs j) c.deref_mut.ensures.value
     ∙ flag-whole c.resize.new.self.items j false (elim (cases_lt (j / 8) c.resize.new.self.len) [
-      | inl q ↦ c.in_ok-resize.ensures.by_index.1 (j / 8) 0 refl (omega (arith, o, c.in_ok-reserve_exact.ensures.len)) (omega (arith, q, c.in_ok-resize.ensures.len))
+      | inl q ↦ c.in_ok-resize.ensures.by_index.1 (j / 8) 0 refl (omega (arith, o, c.in_ok-reserve_exact.ensures.len))
+              (omega (arith, q, c.in_ok-resize.ensures.len))
       | inr q ↦ get_or_past c.resize.new.self.items (j / 8) 0 (omega (arith, l, q))
     ])))
 
@@ -80,7 +81,8 @@ returns-clause-sound c = record {
         inside = omega (arith, m, c.in_ok-resize.ensures.len, c.requires.fits.inside);
         same = omega (arith, m, n, c.in_ok-resize.ensures.len, c.in_ok-resize-2.ensures.len, c.requires.fits.same);
       } in
-      subst (λ x. IsRing x (take c.resize-2.new.self.len (c.turn.new.bytes ++ drop (length c.turn.new.bytes) c.resize-2.new.self.items)) 0) (sym (known_is c)) (subst (λ x. IsRing c.turn_flags.new.to x 0) (sym (bytes_are c)) r));
+      subst (λ x. IsRing x (take c.resize-2.new.self.len (c.turn.new.bytes ++ drop (length c.turn.new.bytes) c.resize-2.new.self.items)) 0) (sym (known_is c))
+      (subst (λ x. IsRing c.turn_flags.new.to x 0) (sym (bytes_are c)) r));
   over = same-over c.args.self.now.next c.args.known.now.items _ c.args.bytes.now.items _ c.args.self.now.head 0 c.args.self.now.end (returns-clause-ahead c)
       c.requires.over;
 }
