@@ -24,6 +24,7 @@ import time
 sys.dont_write_bytecode = True
 sys.path.insert(0, os.path.dirname(os.path.abspath(__file__)))
 import captures  # noqa: E402
+import judged  # noqa: E402
 import made_captures as made  # noqa: E402
 
 ROOT = os.path.dirname(os.path.dirname(os.path.abspath(__file__)))
@@ -259,57 +260,6 @@ def text_told(lines):
     return "".join(map(lines_of, lines.splitlines(True)))
 
 
-VERDICTS = re.compile(r"^    free (.*)\n(?:    why .*\n)?    bep  (.*)\n(?:    why .*\n)?    options (.*)$", re.M)
-
-
-def judged_in(streams, out):
-    """The streams with a whole handshake: the words of `--stream`, the bytes, and both verdicts and the options that a report has."""
-    judged = [(which, stream) for which, stream in streams.items() if len(stream) >= 68 and stream.startswith(captures.HELLO)]
-    return [(*one, *said) for one, said in zip(judged, VERDICTS.findall(out), strict=True)]
-
-
-def unnoted(words):
-    """A verdict or options without the note after them."""
-    return re.sub(r" \(.*\)$", "", words)
-
-
-def lines_by(program, path, command, options, rules):
-    """What a command says of a stream, for a receiver with the options of a report."""
-    words = [program, command, "--rules", rules, *unnoted(options).split(), path]
-    return subprocess.run(words, capture_output=True, text=True).stdout.splitlines()
-
-
-def is_said_again(program, folder, streams, out):
-    """Whether `check` gives the verdicts of a report on the streams that were sent, with the options that the report has."""
-    for _, stream, free, bep, options in judged_in(streams, out):
-        path = keep(folder, "stream.bin", stream)
-        if [lines_by(program, path, "check", options, rules) for rules in ("free", "bep")] != [[unnoted(free)], [unnoted(bep)]]:
-            return False
-    return True
-
-
-# A row on an item or a refusal: connection, side, offset and words, remarks.
-ROW = re.compile(r"^(\d+) +\d+\.\d{6} ([AB]) (\d+ (?!\().*?)(?:  \(([a-z, ]+)\))?$", re.M)
-
-
-def rows_of(shown):
-    """The rows on items and refusals with their remarks, by the words of `--stream`."""
-    found = {}
-    for number, side, words, remarks in ROW.findall(shown):
-        found.setdefault("%s-%s" % (number, side), []).append((words, remarks.split(", ")))
-    return found
-
-
-def is_shown_again(program, folder, streams, out, shown):
-    """Whether the rows are the lines of `show` on the streams that were sent, and each refusal that is no cut."""
-    wanted = {}
-    for which, stream, free, _, options in judged_in(streams, out):
-        lines = lines_by(program, keep(folder, "stream.bin", stream), "show", options, "free")
-        at = re.match(r"refused message=\d+ at=(\d+) \w+$", free)
-        wanted[which] = lines[:-1] + (["%s %s" % (at.group(1), free)] if at else [])
-    return {which: [words for words, _ in rows] for which, rows in rows_of(shown).items()} == wanted
-
-
 def noted_in(out):
     """The remarks of a report but for those of its end: the words of `--stream`, the remark, how many and the first one's words."""
     for number, text in re.findall(r"^connection (\d+) (.*?)(?=^connection |\Z)", out, re.M | re.S):
@@ -322,9 +272,9 @@ def noted_in(out):
 def is_remarked_again(out, shown):
     """Whether the rows have the remarks that the report has."""
     found = []
-    for which, rows in rows_of(shown).items():
+    for which, rows in judged.rows_of(shown).items():
         for key in REMARKS:
-            noted = [words for words, remarks in rows if key in remarks]
+            noted = [words for _, words, remarks in rows if key in remarks]
             found += [(which, key, len(noted), noted[0])] if noted else []
     return sorted(found) == sorted(noted_in(out))
 
@@ -408,14 +358,17 @@ def report_differences(program, paths, row):
         yield difference(name, given, done, without_rows(found) if has_rows else found, wanted)
 
 
-def row_differences(program, folder, paths, row):
+def row_differences(program, paths, row):
     """What is wrong with the rows of a capture."""
     name, words, capture, out, _, _ = row
     words = [word for word in words if word != "--show"]
     shown = run(program, paths, [*words, "--show", "CAPTURE"]).stdout.decode()
     objects = text_told(run(program, paths, [*words, "--show", "--json", "CAPTURE"]).stdout.decode())
     yield "" if objects == shown else name + ": the objects of --show say something else than its lines"
-    is_same = is_shown_again(program, folder, streams_in(capture), out, shown)
+    segments = captures.segments_of(capture)
+    is_same = captures.are_in_time(program, captures.connections(segments), out, segments[0].nanos, shown)
+    yield "" if is_same else name + ": rows come with other segments\n" + shown
+    is_same = judged.is_shown_again(program, streams_in(capture), out, shown)
     yield "" if is_same else name + ": rows are other lines than those of show\n" + shown
     yield "" if is_remarked_again(out, shown) else name + ": the remarks of rows are other ones than those of the report\n" + shown
 
@@ -452,9 +405,9 @@ def differences(program, folder):
         yield from report_differences(program, paths, row)
         yield from stream_differences(program, paths, row)
         if status < 2:
-            is_same = is_said_again(program, folder, streams_in(capture), out)
+            is_same = judged.is_said_again(program, streams_in(capture), out)
             yield "" if is_same else name + ": check gives other verdicts with these options"
-            yield from row_differences(program, folder, paths, row)
+            yield from row_differences(program, paths, row)
     yield "" if is_live(program) else "rows of a pipe don't come with their packets"
     yield "" if made.example("refused.pcap") == made.fault()[0] else "examples/refused.pcap isn't the capture of a fault"
     for reason in other_words():

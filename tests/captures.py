@@ -21,13 +21,14 @@ import sys
 sys.dont_write_bytecode = True
 sys.path.insert(0, os.path.dirname(os.path.abspath(__file__)))
 import made_captures as writer  # noqa: E402
+from judged import HANDSHAKE, HELLO, ROW, shown_lines  # noqa: E402
 from reason_words import reason_words  # noqa: E402
 
 ROOT = os.path.dirname(os.path.dirname(os.path.abspath(__file__)))
 FILES = 500
 # The captures that tshark reads, too, and the connections of each.
 PLAIN, CONNECTIONS = 10, 12
-HELLO, HANDSHAKE, EXCHANGE = b"\x13BitTorrent protocol", 68, 2048
+EXCHANGE = 2048
 FIN, SYN, RST, ACK = 1, 2, 4, 16
 FAST, EXT = 0x4, 0x100000
 # How far back a repeated byte is compared, and how long a connection that is over is waited for.
@@ -210,7 +211,7 @@ class Connection:
         self.ends = it.ends[::-1] if it.flags & SYN and it.flags & ACK else it.ends
         self.sides = {end: Side() for end in self.ends}
         self.has_bytes = False
-        self.marks = []  # a side and the length of its stream, for each segment
+        self.marks = []  # a side, the length of its stream, and the time, for each segment
 
     def opens_again(self, it):
         side = self.sides[it.ends[0]]
@@ -222,7 +223,7 @@ class Connection:
             if it.flags & ACK:
                 self.sides[it.ends[1]].hear(it.acked % 2 ** 32, it.flags & SYN)
             self.sides[it.ends[0]].take(it)
-            self.marks.append((it.ends[0], self.sides[it.ends[0]].length))
+            self.marks.append((it.ends[0], self.sides[it.ends[0]].length, it.nanos))
         if it.flags & (FIN | RST) and self.closed is None:
             self.closed = it.ends[0], "RST" if it.flags & RST else "FIN", it.nanos
         if self.over is None and (it.flags & RST or all(side.is_closed() for side in self.sides.values())):
@@ -252,14 +253,29 @@ class Connection:
     def read(self, end, rules="free"):
         return read(self.sides[end].stream()[self.said[end].start:], self.receiver(end), rules)
 
+    def completed(self, end, offset):
+        """The number of the segment with which a side's stream reaches an offset, and its time."""
+        place = self.said[end].start + offset
+        return next((k, nanos) for k, (side, length, nanos) in enumerate(self.marks) if side == end and length >= place)
+
+    def item_rows(self, lines, first):
+        """The rows on items in the order of the segments that complete them: seconds from the time `first`, side, and the line, of `lines`."""
+        found = []
+        for side, end, stream in zip("AB", self.ends, self.streams()):
+            for line in lines.get(side, ()):
+                offset = int(line.split()[0])
+                size = 4 + int.from_bytes(stream[offset:offset + 4], "big") if offset else HANDSHAKE
+                segment, nanos = self.completed(end, offset + size)
+                found.append((segment, offset, "%d.%06d" % divmod(max(0, nanos - first) // 1000, 10 ** 6), side, line))
+        return [row[2:] for row in sorted(found)]
+
     def events(self):
         """The messages of both sides, in the order of the segments that complete them: segment, offset, side and message."""
         found = []
         for end in self.ends:
             offset = HANDSHAKE
             for body in self.read(end)[0]:
-                last = self.said[end].start + offset + 4 + len(body)
-                found.append((next(k for k, (side, length) in enumerate(self.marks) if side == end and length >= last), offset, end, body))
+                found.append((self.completed(end, offset + 4 + len(body))[0], offset, end, body))
                 offset += 4 + len(body)
         return sorted(found)
 
@@ -348,17 +364,27 @@ def connections(packets):
     return [it for it in done if it.has_bytes]
 
 
+def are_in_time(program, found, out, first, shown):
+    """Whether each row on an item is the line that `show` has of it, and comes with the segment that completes it."""
+    lines = {it.number: {} for it in found}
+    for which, (items, _) in shown_lines(program, streams_of(found), out).items():
+        lines[int(which[:-2])][which[-1]] = items
+    wanted = [(str(it.number), *row) for it in found for row in it.item_rows(lines[it.number], first)]
+    rows = [row[:4] for row in ROW.findall(shown) if " refused message=" not in row[3]]
+    return sorted(rows, key=lambda row: row[0]) == sorted(wanted, key=lambda row: row[0])
+
+
 def streams_of(found):
     """The streams of connections, by the words that `--stream` has for them."""
     return {"%d-%s" % (it.number, side): stream for it in found for side, stream in zip("AB", it.streams())}
 
 
 def reports(packets):
-    """What `capture` writes, its exit status, and the streams that it writes one by one."""
+    """What `capture` writes, its exit status, and its connections."""
     found = connections(packets)
     told = [it.report(packets[0].nanos) for it in found]
     status = 3 if not any(it[1] for it in told) else int(any(it[2] for it in told))
-    return "".join(it[0] for it in told), status, streams_of(found)
+    return "".join(it[0] for it in told), status, found
 
 
 # ---- random captures
@@ -544,19 +570,19 @@ def plain_files():
 
 
 def rows():
-    """Name, file, output, status and streams."""
-    yield from ((name, file, *reports(packets)) for name, packets, file in plain_files())
+    """Name, time of the first packet, file, output, status and connections."""
+    yield from ((name, packets[0].nanos, file, *reports(packets)) for name, packets, file in plain_files())
     for seed in range(FILES):
         rng = random.Random(seed)
         packets = capture_of(rng)
-        yield ("seed %d" % seed, files_of(rng, packets)[0], *reports(packets))
+        yield ("seed %d" % seed, packets[0].nanos, files_of(rng, packets)[0], *reports(packets))
     packets = short_talk()
     wanted = [reports(packets[:n]) for n in range(len(packets) + 1)]
     for form in (("<", False, False), (">", True, True)):
         file, sizes = files_of(random.Random(1), packets, form)
         for cut in range(len(file) + 1):
             whole = sum(size <= cut for size in sizes[1:])
-            yield ("%r cut after %d bytes" % (form, cut), file[:cut], *wanted[whole])
+            yield ("%r cut after %d bytes" % (form, cut), 0, file[:cut], *wanted[whole])
 
 
 # ---- a second opinion
@@ -599,13 +625,17 @@ def run(program, file, *words):
 
 
 def model_differs(program):
-    """Each run: what is wrong with it, or an empty text. Of a random capture one stream is written, too."""
+    """Each run: what is wrong with it, or an empty text. Of a random capture one stream is written, too, and of some the rows."""
     rng = random.Random(1)
-    for name, file, out, status, streams in rows():
+    for name, first, file, out, status, connected in rows():
         told, ended = run(program, file, "-")
         found = UNKNOWN.sub("", told.decode()), ended
         yield "" if found == (out, status) else "%s: got %d\n%s\nexpected %d\n%s" % (name, ended, told.decode(), status, out)
-        if streams and "seed" in name:
+        streams = streams_of(connected) if first else {}
+        if streams and rng.random() < 0.25:
+            shown = run(program, file, "--show", "-")[0].decode()
+            yield "" if are_in_time(program, connected, told.decode(), first, shown) else "%s: other rows\n%s" % (name, shown)
+        if streams:
             words = rng.choice(sorted(streams))
             is_same = run(program, file, "--stream", words) == (streams[words], status)
             yield "" if is_same else "%s: --stream %s writes other bytes" % (name, words)

@@ -575,6 +575,24 @@ def open_requests():
         yield name, pcap(frames(packets)), NAMES + lines + "".join(ends if closer == "A" else ends[::-1]) + remark
 
 
+def late():
+    """A closes before B's handshake is whole, and B sends the rest and a message."""
+    bits = "0000000000000000"
+    left, right = handshakes(reserved=bits)
+    found = Talk().say("A", left).say("B", right[:40])
+    found.add("A", FIN | ACK)
+    found.say("B", right[40:] + message(b"\x02")).add("B", FIN | ACK)
+    found.add("A", ACK)
+    options = "--reserved %s --metadata-id 0" % bits
+    a = report("-AA0001-000000000000", 68, *2 * ["ok messages=0 bytes=68"], options)
+    b = report("-BB0001-000000000000", 73, *2 * ["ok messages=1 bytes=73"], options, "B")
+    return pcap(frames(found.packets)), NAMES + a + b + """\
+  A closed first, by FIN, at 0.007000 s
+    B had sent 40 bytes, last: nothing
+    A had sent 68 bytes, last: %s
+""" % handshake_line(left)
+
+
 def dropped():
     """libtorrent closes at a block of a byte that nobody had asked for: neither direction is refused."""
     left, right = handshakes()
@@ -671,6 +689,7 @@ def rows():
     yield "a key exchange", [], *key_exchange(), b"", 0
     yield "cut by the other end", [], *cut_by_the_other(), b"", 0
     yield "cut by itself", [], *cut_by_itself(), b"", 1
+    yield "a close before the other end's handshake is whole", [], *late(), b"", 0
     yield "two connections", [], *twice(), b"", 0
     yield "other bytes again", [], *conflict(), b"", 0
     yield "a torrent", ["--torrent", "TORRENT"], *with_torrent(), b"", 1
