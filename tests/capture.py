@@ -366,8 +366,8 @@ def row_differences(program, paths, row):
     objects = text_told(run(program, paths, [*words, "--show", "--json", "CAPTURE"]).stdout.decode())
     yield "" if objects == shown else name + ": the objects of --show say something else than its lines"
     segments = captures.segments_of(capture)
-    is_same = captures.are_in_time(program, captures.connections(segments), out, segments[0].nanos, shown)
-    yield "" if is_same else name + ": rows come with other segments\n" + shown
+    wanted = captures.item_rows(program, captures.connections(segments), out, segments[0].nanos)
+    yield "" if captures.are_in_time(wanted, shown) else name + ": rows have other times\n" + shown
     is_same = judged.is_shown_again(program, streams_in(capture), out, shown)
     yield "" if is_same else name + ": rows are other lines than those of show\n" + shown
     yield "" if is_remarked_again(out, shown) else name + ": the remarks of rows are other ones than those of the report\n" + shown

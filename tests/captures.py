@@ -10,6 +10,7 @@ connections between the same ports, both formats and byte orders; two files are 
 memory are those of tests/limits.py. `--stream` writes the model's bytes. Where tshark is installed, they are compared with those that tshark has
 of some captures, too: captures in which all copies of a byte are the same, and each is captured before its acknowledgement.
 """
+import json
 import os
 import random
 import re
@@ -211,19 +212,19 @@ class Connection:
         self.ends = it.ends[::-1] if it.flags & SYN and it.flags & ACK else it.ends
         self.sides = {end: Side() for end in self.ends}
         self.has_bytes = False
-        self.marks = []  # a side, the length of its stream, and the time, for each segment
+        self.marks = []  # for each segment: its side, the length of the side's stream, its time, and its packet's number from 1
 
     def opens_again(self, it):
         side = self.sides[it.ends[0]]
         return it.flags & (SYN | ACK) == SYN and (side.high() > 0 if side.opening is None else side.opening != it.sequence % 2 ** 32)
 
-    def take(self, it):
+    def take(self, it, packet):
         if not it.flags & RST:
             self.has_bytes |= bool(it.captured)
             if it.flags & ACK:
                 self.sides[it.ends[1]].hear(it.acked % 2 ** 32, it.flags & SYN)
             self.sides[it.ends[0]].take(it)
-            self.marks.append((it.ends[0], self.sides[it.ends[0]].length, it.nanos))
+            self.marks.append((it.ends[0], self.sides[it.ends[0]].length, it.nanos, packet))
         if it.flags & (FIN | RST) and self.closed is None:
             self.closed = it.ends[0], "RST" if it.flags & RST else "FIN", it.nanos
         if self.over is None and (it.flags & RST or all(side.is_closed() for side in self.sides.values())):
@@ -254,23 +255,23 @@ class Connection:
         return read(self.sides[end].stream()[self.said[end].start:], self.receiver(end), rules)
 
     def completed(self, end, offset):
-        """The number of the segment with which a side's stream reaches an offset, and its time."""
+        """The number and the time of the packet with which a side's stream reaches an offset."""
         place = self.said[end].start + offset
-        return next((k, nanos) for k, (side, length, nanos) in enumerate(self.marks) if side == end and length >= place)
+        return next((packet, nanos) for side, length, nanos, packet in self.marks if side == end and length >= place)
 
     def item_rows(self, lines, first):
-        """The rows on items in the order of the segments that complete them: seconds from the time `first`, side, and the line, of `lines`."""
+        """The rows on items, in the order of the packets that complete them: packet, offset, seconds since `first`, side, the line of `lines`."""
         found = []
         for side, end, stream in zip("AB", self.ends, self.streams()):
             for line in lines.get(side, ()):
                 offset = int(line.split()[0])
                 size = 4 + int.from_bytes(stream[offset:offset + 4], "big") if offset else HANDSHAKE
-                segment, nanos = self.completed(end, offset + size)
-                found.append((segment, offset, "%d.%06d" % divmod(max(0, nanos - first) // 1000, 10 ** 6), side, line))
-        return [row[2:] for row in sorted(found)]
+                packet, nanos = self.completed(end, offset + size)
+                found.append((packet, offset, "%d.%06d" % divmod(max(0, nanos - first) // 1000, 10 ** 6), side, line))
+        return sorted(found)
 
     def events(self):
-        """The messages of both sides, in the order of the segments that complete them: segment, offset, side and message."""
+        """The messages of both sides, in the order of the packets that complete them: packet, offset, side and message."""
         found = []
         for end in self.ends:
             offset = HANDSHAKE
@@ -351,7 +352,7 @@ class Connection:
 def connections(packets):
     """The connections with a byte: first those that are over before the end, in the order in which that is known, then by number."""
     current, done, begun = {}, [], 0
-    for it in packets:
+    for packet, it in enumerate(packets, 1):
         key = frozenset(it.ends)
         old = current.get(key)
         if old and (old.over is not None and it.nanos - old.over >= QUIET or old.opens_again(it)):
@@ -359,19 +360,30 @@ def connections(packets):
         if key not in current:
             current[key] = Connection(begun, it)
             begun += 1
-        current[key].take(it)
+        current[key].take(it, packet)
     done += sorted(current.values(), key=lambda it: it.number)
     return [it for it in done if it.has_bytes]
 
 
-def are_in_time(program, found, out, first, shown):
-    """Whether each row on an item is the line that `show` has of it, and comes with the segment that completes it."""
+def item_rows(program, found, out, first):
+    """The rows on the items of connections: the connection, and what `Connection.item_rows` has."""
     lines = {it.number: {} for it in found}
     for which, (items, _) in shown_lines(program, streams_of(found), out).items():
         lines[int(which[:-2])][which[-1]] = items
-    wanted = [(str(it.number), *row) for it in found for row in it.item_rows(lines[it.number], first)]
-    rows = [row[:4] for row in ROW.findall(shown) if " refused message=" not in row[3]]
-    return sorted(rows, key=lambda row: row[0]) == sorted(wanted, key=lambda row: row[0])
+    return [(it.number, *row) for it in sorted(found, key=lambda it: it.number) for row in it.item_rows(lines[it.number], first)]
+
+
+def are_in_time(wanted, shown):
+    """Whether each row on an item is the line that `show` has of it, and has the time of the packet that completes it."""
+    rows = [(int(row[0]), *row[1:4]) for row in ROW.findall(shown) if " refused message=" not in row[3]]
+    return sorted(rows, key=lambda row: row[0]) == [(row[0], *row[3:]) for row in wanted]
+
+
+def have_packets(wanted, objects):
+    """Whether each row on an item has the number of the packet that completes it."""
+    rows = [it for it in map(json.loads, objects.splitlines()) if "item" in it]
+    found = [(it["connection"], it["packet"], it["offset"]) for it in rows]
+    return sorted(found, key=lambda row: row[0]) == [row[:3] for row in wanted]
 
 
 def streams_of(found):
@@ -633,8 +645,11 @@ def model_differs(program):
         yield "" if found == (out, status) else "%s: got %d\n%s\nexpected %d\n%s" % (name, ended, told.decode(), status, out)
         streams = streams_of(connected) if first else {}
         if streams and rng.random() < 0.25:
+            wanted = item_rows(program, connected, told.decode(), first)
             shown = run(program, file, "--show", "-")[0].decode()
-            yield "" if are_in_time(program, connected, told.decode(), first, shown) else "%s: other rows\n%s" % (name, shown)
+            yield "" if are_in_time(wanted, shown) else "%s: other rows\n%s" % (name, shown)
+            shown = run(program, file, "--show", "--json", "-")[0].decode()
+            yield "" if have_packets(wanted, shown) else "%s: rows of other packets\n%s" % (name, shown)
         if streams:
             words = rng.choice(sorted(streams))
             is_same = run(program, file, "--stream", words) == (streams[words], status)
