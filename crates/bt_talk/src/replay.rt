@@ -238,6 +238,7 @@ impl<'a> Replay<'a> {
         };
         judge_more(&mut self.judged, self.rest, watch)?;
         let last = last_of(&self.judged, watch.last());
+        self.at = self.at.saturating_add(self.rest.len() as u64);
         self.rest = after;
         self.close = Close::Passed(Some(Cut {
             length: count,

@@ -28,7 +28,7 @@ returns-clause-goes_on c = λ side e since p receiver cut events items i h.
     let r : Replay = record {
       start = self.start;
       rest = c.in-Ahead.after;
-      at = self.at;
+      at = c.saturating_add-self.result;
       judged = c.judge_more.new.judged;
       close = Passed (Some (record { length = n; last = c.last_of-last.result }));
     } in
