@@ -3,7 +3,7 @@ import re
 import subprocess
 
 HEADING = re.compile(r"([A-Z][a-z]+(?: [a-z]+)*):(?: +(\S.*))?$")
-OPTION = re.compile(r" +(?:-(?P<short>\w), )?--(?P<name>[\w-]+)(?: <?(?P<value>[A-Z]+)>?)?(?: {2,}(?P<text>\S.*))?$")
+OPTION = re.compile(r" +(?:-(?P<short>\w), )?--(?P<name>[\w-]+)(?: <?(?P<value>[A-Z-]+)>?)?(?: {2,}(?P<text>\S.*))?$")
 OPERAND = re.compile(r" +(?P<name>[\[<]?[A-Z]+[\]>]?(?:\.{2,3})?)(?: {2,}(?P<text>\S.*))?$")
 COMMAND = re.compile(r" +(?P<name>[a-z]+) {2,}(?P<text>\S.*)$")
 # The values of an option stand in its text, in quotes.
@@ -91,7 +91,7 @@ def listed(rows, label):
 
 def option_label(row):
     short = "\\fB\\-%s\\fR, " % row["short"] if row["short"] else ""
-    return "%s\\fB\\-\\-%s\\fR%s" % (short, roff(row["name"]), " \\fI%s\\fR" % row["value"] if row["value"] else "")
+    return "%s\\fB\\-\\-%s\\fR%s" % (short, roff(row["name"]), " \\fI%s\\fR" % roff(row["value"]) if row["value"] else "")
 
 
 def man_sections(page, heading):

@@ -1,5 +1,5 @@
 -- Reports are told one by one.
-use Rattle.std.proofs.Common.{◌≡◌, ◌∙◌, ℕ, ◌+◌, ◌-◌, ◌^◌, min, true, false, Bool, ◌||◌, List, [], ◌∷◌, ◌++◌, length, append-nil, append_assoc, refl, sym, ap, subst, arith, inl, inr, if◌then◌else◌}
+use Rattle.std.proofs.Common.{◌≡◌, ◌∙◌, ℕ, Option, Some, None, is_some, ◌+◌, ◌-◌, ◌^◌, min, true, false, Bool, ◌||◌, List, [], ◌∷◌, ◌++◌, length, append-nil, append_assoc, refl, sym, ap, subst, arith, inl, inr, if◌then◌else◌}
 use Rattle.std.specs.List.{filter, flat_map, list_any}
 use Rattle.std.specs.Io.KnownBytes.{Appends}
 use Rattle.std.proofs.KnownBytes.{Appends-trans}
@@ -15,8 +15,9 @@ use Rattle.bt_capture.specs.declared.telling.Teller.{Teller}
 use Rattle.bt_talk.specs.declared.rows.Showing.TheVariants.{Nothing}
 use Rattle.bt_talk.specs.Rows.{Shown, shown_texts}
 use Rattle.bt_capture.specs.declared.ending.Form.{Form}
-use Rattle.bt_capture.specs.Forms.{showing_by, showing_in}
-use Rattle.bt_capture.specs.Tellings.{Part, OfReport, OfRows, report_of_part, part_text, AreTexts, text_by, texts, count_torrents, is_one_refused, is_refused, is_told, Tells, IsStopped}
+use Rattle.bt_capture.specs.Forms.{showing_by, showing_in, is_stream, side_of}
+use Rattle.bt_remarks.specs.declared.events.Side.{Side}
+use Rattle.bt_capture.specs.Tellings.{Part, OfReport, OfRows, OfBytes, report_of_part, bytes_of_part, report_by, part_text, AreTexts, text_by, texts, count_torrents, is_one_refused, is_refused, is_told, Tells, IsStopped}
 
 one : (p : Report → Bool) (x : Report) → length (filter p (x ∷ [])) ≡ (if p x then 1 else 0)
 one p x = elim (cases_Bool (p x)) [ inl e ↦ rw e refl | inr e ↦ rw e refl ]
@@ -68,29 +69,54 @@ nothing_shown : (rows : List Shown) → shown_texts Nothing rows ≡ []
 nothing_shown [] = refl
 nothing_shown (r ∷ rs) = nothing_shown rs
 
--- Without rows there are only reports.
-one_only : (form : Form) (x : Part) → form.show ≡ false → part_text form x ≡ texts form.json (report_of_part x)
-one_only form (OfReport r) e = sym (append-nil (text_by form.json r))
-one_only form (OfRows rows) e = ap (λ (b : Bool). shown_texts (showing_in b form.json) rows) e ∙ nothing_shown rows
+-- Without rows and a stream there are only reports.
+one_only : (form : Form) (x : Part) → form.show ≡ false → is_stream form ≡ false → part_text form x ≡ texts form.json (report_of_part x)
+one_only form (OfReport r) e f = ap (λ (b : Bool). if b then [] else text_by form.json r) f ∙ sym (append-nil (text_by form.json r))
+one_only form (OfRows rows) e f =
+    ap (λ (b : Bool). shown_texts (if b then Nothing else showing_in form.show form.json) rows) f
+    ∙ ap (λ (b : Bool). shown_texts (showing_in b form.json) rows) e ∙ nothing_shown rows
+one_only form (OfBytes bytes) e f = ap (λ (b : Bool). if b then bytes else []) f
 
-parts_only : (form : Form) (parts : List Part) → form.show ≡ false → flat_map (part_text form) parts ≡ texts form.json (flat_map report_of_part parts)
-parts_only form [] e = refl
-parts_only form (x ∷ xs) e =
-    ap (λ (l : List ℕ). l ++ flat_map (part_text form) xs) (one_only form x e)
-    ∙ ap (λ (l : List ℕ). texts form.json (report_of_part x) ++ l) (parts_only form xs e)
+parts_only : (form : Form) (parts : List Part) → form.show ≡ false → is_stream form ≡ false
+    → flat_map (part_text form) parts ≡ texts form.json (flat_map report_of_part parts)
+parts_only form [] e f = refl
+parts_only form (x ∷ xs) e f =
+    ap (λ (l : List ℕ). l ++ flat_map (part_text form) xs) (one_only form x e f)
+    ∙ ap (λ (l : List ℕ). texts form.json (report_of_part x) ++ l) (parts_only form xs e f)
     ∙ sym (flat_map-append (text_by form.json) (report_of_part x) (flat_map report_of_part xs))
 
-pub reports_only : (form : Form) (reports : List Report) (text : List ℕ) → form.show ≡ false → AreTexts form reports text → text ≡ texts form.json reports
-reports_only form reports text e i = i.is ∙ parts_only form i.parts e ∙ ap (texts form.json) i.reports_are
+pub reports_only : (form : Form) (reports : List Report) (text : List ℕ) → form.show ≡ false → form.stream ≡ None → AreTexts form reports text
+    → text ≡ texts form.json reports
+reports_only form reports text e none i =
+    let f : is_stream form ≡ false = ap (λ (s : Option (ℕ × Side)). is_some s) none in i.is ∙ parts_only form i.parts e f ∙ ap (texts form.json) i.reports_are
+
+-- If a stream is told there are only its bytes.
+one_bytes : (form : Form) (x : Part) → is_stream form ≡ true → part_text form x ≡ bytes_of_part x
+one_bytes form (OfReport r) e = ap (λ (b : Bool). if b then [] else text_by form.json r) e
+one_bytes form (OfRows rows) e =
+    ap (λ (b : Bool). shown_texts (if b then Nothing else showing_in form.show form.json) rows) e ∙ nothing_shown rows
+one_bytes form (OfBytes bytes) e = ap (λ (b : Bool). if b then bytes else []) e
+
+pub no_rows : (form : Form) (rows : List Shown) → is_stream form ≡ true → shown_texts (showing_by form) rows ≡ []
+no_rows form rows e = one_bytes form (OfRows rows) e
+
+parts_bytes : (form : Form) (parts : List Part) → is_stream form ≡ true → flat_map (part_text form) parts ≡ flat_map bytes_of_part parts
+parts_bytes form [] e = refl
+parts_bytes form (x ∷ xs) e =
+    ap (λ (l : List ℕ). l ++ flat_map (part_text form) xs) (one_bytes form x e) ∙ ap (λ (l : List ℕ). bytes_of_part x ++ l) (parts_bytes form xs e)
+
+pub bytes_only : (form : Form) (reports : List Report) (text : List ℕ) → is_stream form ≡ true → (i : AreTexts form reports text)
+    → text ≡ flat_map bytes_of_part i.parts
+bytes_only form reports text e i = i.is ∙ parts_bytes form i.parts e
 
 -- One more report is told.
-pub told_more : (start now : TargetSeen) (old new : Teller) (reports : List Report) (r : Report) → new.text.items ≡ old.text.items ++ text_by old.form.json r
+pub told_more : (start now : TargetSeen) (old new : Teller) (reports : List Report) (r : Report) → new.text.items ≡ old.text.items ++ report_by old.form r
     → new.form ≡ old.form → new.torrents ≡ counted (is_told r) old.torrents → new.is_refused ≡ (old.is_refused || is_refused r) → Tells start now old reports
     → Tells start now new (reports ++ r ∷ [])
 told_more start now old new reports r text form torrents refused t = record {
   written = t.written;
-  whole = texts_same old.form new.form (reports ++ r ∷ []) ((t.written ++ old.text.items) ++ text_by old.form.json r) (t.written ++ new.text.items) form
-      (ap (λ (l : List ℕ). t.written ++ l) text ∙ sym (append_assoc t.written old.text.items (text_by old.form.json r)))
+  whole = texts_same old.form new.form (reports ++ r ∷ []) ((t.written ++ old.text.items) ++ report_by old.form r) (t.written ++ new.text.items) form
+      (ap (λ (l : List ℕ). t.written ++ l) text ∙ sym (append_assoc t.written old.text.items (report_by old.form r)))
       (part_more old.form reports (t.written ++ old.text.items) (OfReport r) t.whole);
   held = t.held;
   calm = t.calm;
@@ -113,6 +139,30 @@ shown_more start now old new reports rows text form torrents refused t = record 
   torrents = torrents ∙ t.torrents;
   refused = refused ∙ t.refused;
 }
+
+-- Bytes of a stream are told.
+pub bytes_more : (start now : TargetSeen) (old new : Teller) (reports : List Report) (bytes : List ℕ) → is_stream old.form ≡ true
+    → new.text.items ≡ old.text.items ++ bytes → new.form ≡ old.form → new.torrents ≡ old.torrents → new.is_refused ≡ old.is_refused
+    → Tells start now old reports → Tells start now new reports
+bytes_more start now old new reports bytes stream text form torrents refused t =
+    let more : List ℕ = part_text old.form (OfBytes bytes) in
+    let same : more ≡ bytes = one_bytes old.form (OfBytes bytes) stream in
+    record {
+      written = t.written;
+      whole = texts_same old.form new.form reports ((t.written ++ old.text.items) ++ more) (t.written ++ new.text.items) form
+          (ap (λ (l : List ℕ). t.written ++ l) (text ∙ ap (λ (l : List ℕ). old.text.items ++ l) (sym same)) ∙ sym (append_assoc t.written old.text.items more))
+          (subst (λ (l : List Report). AreTexts old.form l ((t.written ++ old.text.items) ++ more)) (append-nil reports)
+          (part_more old.form reports (t.written ++ old.text.items) (OfBytes bytes) t.whole));
+      held = t.held;
+      calm = t.calm;
+      torrents = torrents ∙ t.torrents;
+      refused = refused ∙ t.refused;
+    }
+
+-- of a stream's connection
+pub wants_stream : (n : ℕ) (s : Option (ℕ × Side)) → is_some (side_of n s) ≡ true → is_some s ≡ true
+wants_stream n None e = cc
+wants_stream n (Some s) e = refl
 
 -- The text that was kept is written.
 pub all_written : (start now after : TargetSeen) (old new : Teller) (reports : List Report) → Appends now.held after.held old.text.items

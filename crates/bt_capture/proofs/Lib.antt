@@ -14,3 +14,4 @@ pub mod Shares
 pub mod Reported
 pub mod Outcomes
 pub mod Shown
+pub mod Sending

@@ -2,7 +2,7 @@
 use Rattle.std.proofs.Common.{◌≡◌, ◌∙◌, inl, inr, append_assoc, ℕ, ◌+◌, ◌-◌, ◌^◌, min, List, [], ◌∷◌, ◌++◌, length, append-nil, Option, Some, None, unwrap_or, Result, Ok, Err, refl, sym, ap, subst, arith}
 use Rattle.std.specs.List.{All}
 use Rattle.std.specs.List.Sorted.{IsPermutation}
-use Rattle.std.proofs.lemmas.List.Sorted.{IsPermutation-sym}
+use Rattle.std.proofs.lemmas.List.Sorted.{IsPermutation-sym, length_permutation}
 use Rattle.std.specs.Map.{lookup}
 use Rattle.std.specs.Io.KnownBytes.{Appends, Consumes, Keeps}
 use Rattle.std.proofs.lemmas.List.Elements.{All-nil}
@@ -26,6 +26,7 @@ use Rattle.bt_capture.specs.Following.{Finished, IsFinished, IsShare, IsShared, 
 use Rattle.bt_capture.specs.Readings.{Reading, IsReading, GoesOn, Hands, nothing_read, shown}
 use Rattle.bt_capture.specs.Tables.{Held, IsApart, same_pair}
 use Rattle.bt_capture.specs.declared.ending.Form.{Form}
+use Rattle.bt_capture.specs.Forms.{absent_from}
 use Rattle.bt_capture.specs.Tellings.{Tells, IsStopped, IsEmpty, AreTexts}
 use Rattle.bt_capture.specs.Runs.{Origin, HasRead, IsTelling, IsLeft, AreOver, AreAllOver, AreWritten, ArePartlyWritten, AfterFault, Adds, utp_lines, IsOfTelling, IsOfReading, IsToldTo}
 use Rattle.bt_capture.proofs.Entries.{apart_moved, lookup_moved}
@@ -86,10 +87,10 @@ pub told_read : (o : Origin) (left left' : Option (List ℕ)) (now : TargetSeen)
 told_read o left left' now es run r r' reads i = record { packets = i.packets; read = reads i.packets i.read; terms = i.terms; form = i.form; time = i.time; follows = i.follows; utp = i.utp }
 
 pub flushed : (o : Origin) (left : Option (List ℕ)) (now after : TargetSeen) (es : List (Pair × Held)) (old new : Run) (r : Reading) → new.terms ≡ old.terms
-    → new.teller.form ≡ old.teller.form → new.start ≡ old.start → new.lost ≡ old.lost → new.utp ≡ old.utp
+    → new.teller.form ≡ old.teller.form → new.start ≡ old.start → new.lost ≡ old.lost → new.begun ≡ old.begun → new.utp ≡ old.utp
     → ((reports : List Report) → Tells o.target now old.teller reports → Tells o.target after new.teller reports)
     → IsTelling o left now es old r → IsTelling o left after es new r
-flushed o left now after es old new r terms form begin lost utp tells i =
+flushed o left now after es old new r terms form begin lost count utp tells i =
     let known = i.follows.known in
     record {
       packets = i.packets;
@@ -99,6 +100,7 @@ flushed o left now after es old new r terms form begin lost utp tells i =
       time = begin ∙ i.time;
       follows = record {
         fs = i.follows.fs;
+        begun = count ∙ i.follows.begun;
         known = record {
           tells = tells (reports_of i.follows.fs) known.tells;
           finished = subst (λ x. All (IsFinished x (unwrap_or new.start 0)) i.follows.fs) (sym terms)
@@ -285,14 +287,14 @@ told_rest o left now old new es r all apart same i =
     let table : List (Pair × Held) = old.table in
     let was : IsApart table = apart_moved es table (IsPermutation-sym table es all) apart in
     let mid : Run = record old { table = new.table } in
-    let moves = follows_moved o.target now (arrivals i.packets) table es old (lookup_moved table es all was) i.follows in
+    let moves = follows_moved o.target now (arrivals i.packets) table es old (lookup_moved table es all was) (length_permutation table es all) i.follows in
     subst (λ x. IsTelling o left now es x r) (sym same) (record {
       packets = i.packets;
       read = i.read;
       terms = i.terms;
       form = i.form;
       time = i.time;
-      follows = follows_same o.target now (arrivals i.packets) es old mid refl refl refl refl moves;
+      follows = follows_same o.target now (arrivals i.packets) es old mid refl refl refl refl refl moves;
       utp = i.utp;
     })
 
@@ -309,3 +311,12 @@ begins o run r terms form begin follows utp same = record {
   follows = follows;
   utp = utp;
 }
+
+-- ---- connections that have begun
+
+pub begun_all : (begun n : ℕ) → begun ≡ min (n + 0) (2 ^ 64 - 1) → begun ≡ min n (2 ^ 64 - 1)
+begun_all begun n e = omega (arith, e)
+
+pub absent_by : (form form' : Form) (n begun : ℕ) → form' ≡ form → begun ≡ min n (2 ^ 64 - 1) → (o : Option ℕ) → o ≡ absent_from form' begun
+    → o ≡ absent_from form (min n (2 ^ 64 - 1))
+absent_by form form' n begun same count o is = is ∙ ap (λ (k : Form). absent_from k begun) same ∙ ap (λ (m : ℕ). absent_from form m) count

@@ -60,18 +60,45 @@ known_more start now fs f old new terms begin tells lost is i =
       lost = lost;
     }
 
+-- ---- how many have begun
+
+begun_over : (a : ℕ) (fs : List Finished) (f : Finished) (e : Pair × Held) (es : List (Pair × Held)) → a ≡ min (length fs + length (e ∷ es)) (2 ^ 64 - 1)
+    → a ≡ min (length (fs ++ f ∷ []) + length es) (2 ^ 64 - 1)
+begun_over a fs f e es h = omega (arith, h, length-append fs (f ∷ []))
+
+begun_held : (a n : ℕ) (e : Pair × Held) (es : List (Pair × Held)) → a ≡ min (n + length (e ∷ es)) (2 ^ 64 - 1) → a ≡ min (n + (length es + 1)) (2 ^ 64 - 1)
+begun_held a n e es h = omega (arith, h)
+
+begun_took : (a n : ℕ) (e : Pair × Held) (es : List (Pair × Held)) → a ≡ min (n + (length es + 1)) (2 ^ 64 - 1) → a ≡ min (n + length (e ∷ es)) (2 ^ 64 - 1)
+begun_took a n e es h = omega (arith, h)
+
+begun_more : (a b n m : ℕ) → a ≡ min (b + 1) (2 ^ 64 - 1) → b ≡ min (n + m) (2 ^ 64 - 1) → a ≡ min (n + (m + 1)) (2 ^ 64 - 1)
+begun_more a b n m e f = omega (arith, e, f)
+
+begun_out : (a n : ℕ) (e : Pair × Held) (es out : List (Pair × Held)) → length es ≡ length out + 1 → a ≡ min (n + length es) (2 ^ 64 - 1)
+    → a ≡ min (n + length (e ∷ out)) (2 ^ 64 - 1)
+begun_out a n e es out more h = omega (arith, h, more)
+
+length_out : (test : Pair → Bool) (es : List (Pair × Held)) (c : Held) → lookup test es ≡ Some c → length es ≡ length (remove_entry test es) + 1
+length_out test [] c found = cc
+length_out test (e ∷ es) c found = elim (cases_Bool (test e.0)) [
+  | inl t ↦ rw t (omega arith)
+  | inr f ↦ let rest = length_out test es c (rw f at found) in rw f (omega (arith, rest))
+]
+
 -- The first of these is over.
 pub follows_over : (start now : TargetSeen) (came : List Arrival) (p : Pair) (c : Held) (es : List (Pair × Held)) (old new : Run)
     → lookup (same_pair p) es ≡ None → (i : Follows start now came ((p, c) ∷ es) old) → (end : Fate) → new.terms ≡ old.terms → new.start ≡ old.start
     → Tells start now new.teller (reports_of i.fs ++ report_in end)
     → new.lost ≡ count_lost (i.fs ++ record { pair = p; taken = (own_of old.terms came i.fs p c es i.shared).taken; fate = end } ∷ [])
-    → IsFate old.terms (unwrap_or old.start 0) (own_of old.terms came i.fs p c es i.shared).taken end → Follows start now came es new
-follows_over start now came p c es old new absent i end terms begin tells lost is =
+    → new.begun ≡ old.begun → IsFate old.terms (unwrap_or old.start 0) (own_of old.terms came i.fs p c es i.shared).taken end → Follows start now came es new
+follows_over start now came p c es old new absent i end terms begin tells lost count is =
     let own = own_of old.terms came i.fs p c es i.shared in
     let f : Finished = record { pair = p; taken = own.taken; fate = end } in
     record {
       fs = i.fs ++ f ∷ [];
       known = known_more start now i.fs f old new terms begin tells lost is i.known;
+      begun = begun_over new.begun i.fs f (p, c) es (count ∙ i.begun);
       shared = subst (λ x. (k : Pair) → IsShare x came (i.fs ++ f ∷ []) k (lookup (same_pair k) es)) (sym terms)
           (over old.terms came i.fs p es own.taken end absent own.share (others_of old.terms came i.fs p c es i.shared));
     }
@@ -85,11 +112,20 @@ known_same start now fs old new terms begin lost tells i = record {
 }
 
 pub follows_same : (start now : TargetSeen) (came : List Arrival) (es : List (Pair × Held)) (old new : Run) → new.terms ≡ old.terms → new.start ≡ old.start
-    → new.lost ≡ old.lost → new.teller ≡ old.teller → Follows start now came es old → Follows start now came es new
-follows_same start now came es old new terms begin lost teller i = record {
+    → new.lost ≡ old.lost → new.teller ≡ old.teller → new.begun ≡ old.begun → Follows start now came es old → Follows start now came es new
+follows_same start now came es old new terms begin lost teller count i = record {
   fs = i.fs;
+  begun = count ∙ i.begun;
   known = known_same start now i.fs old new terms begin lost (subst (λ t. Tells start now t (reports_of i.fs)) (sym teller) i.known.tells) i.known;
   shared = subst (λ x. (k : Pair) → IsShare x came i.fs k (lookup (same_pair k) es)) (sym terms) i.shared;
+}
+
+pub stops_same : (start now : TargetSeen) (came : List Arrival) (old new : Run) → new.terms ≡ old.terms → new.start ≡ old.start → new.lost ≡ old.lost
+    → new.teller ≡ old.teller → Stops start now came old → Stops start now came new
+stops_same start now came old new terms begin lost teller i = record {
+  fs = i.fs;
+  known = known_same start now i.fs old new terms begin lost (subst (λ t. Tells start now t (reports_of i.fs)) (sym teller) i.known.tells) i.known;
+  shared = i.shared;
 }
 
 pub stops_of : (start now : TargetSeen) (came : List Arrival) (es : List (Pair × Held)) (run : Run) → Follows start now came es run → Stops start now came run
@@ -101,18 +137,18 @@ pub silent : (start now : TargetSeen) (came : List Arrival) (p : Pair) (c : Held
 silent start now came p c es run absent none i =
     let own = own_of run.terms came i.fs p c es i.shared in
     follows_over start now came p c es run run absent i Silent refl refl (subst (Tells start now run.teller) (sym (append-nil (reports_of i.fs))) i.known.tells)
-    (i.known.lost ∙ lost_same i.fs (record { pair = p; taken = own.taken; fate = Silent }) refl) (sym own.is.has_payload ∙ none)
+    (i.known.lost ∙ lost_same i.fs (record { pair = p; taken = own.taken; fate = Silent }) refl) refl (sym own.is.has_payload ∙ none)
 
 -- its opening couldn't be ended
 pub lost_one : (start now : TargetSeen) (came : List Arrival) (p : Pair) (c : Held) (es : List (Pair × Held)) (old new : Run) → lookup (same_pair p) es ≡ None
     → c.value.has_payload ≡ true → new.terms ≡ old.terms → new.start ≡ old.start → new.teller ≡ old.teller → new.lost ≡ min (old.lost + 1) (2 ^ 64 - 1)
-    → Follows start now came ((p, c) ∷ es) old → Follows start now came es new
-lost_one start now came p c es old new absent some terms begin teller lost i =
+    → new.begun ≡ old.begun → Follows start now came ((p, c) ∷ es) old → Follows start now came es new
+lost_one start now came p c es old new absent some terms begin teller lost count i =
     let own = own_of old.terms came i.fs p c es i.shared in
     follows_over start now came p c es old new absent i Lost terms begin
     (subst (λ t. Tells start now t (reports_of i.fs ++ [])) (sym teller) (subst (Tells start now old.teller) (sym (append-nil (reports_of i.fs))) i.known.tells))
     (lost ∙ ap (λ n. min (n + 1) (2 ^ 64 - 1)) i.known.lost ∙ lost_more i.fs (record { pair = p; taken = own.taken; fate = Lost }) refl)
-    (sym own.is.has_payload ∙ some)
+    count (sym own.is.has_payload ∙ some)
 
 -- A report on the connection was told.
 abbrev pub Says : Teller → Teller → ℕ → ℕ → Talk → Type 0
@@ -123,14 +159,14 @@ pub reported : {A E : Type 0} (r : Result A E) (start now : TargetSeen) (came : 
     → lookup (same_pair p) es ≡ None → c.value.has_payload ≡ true → new.terms ≡ old.terms → new.start ≡ old.start → new.lost ≡ old.lost
     → is_lost c.value.talk ≡ false → (talk : Talk) → ((a b : Past) → IsTalk a b c.value.talk → IsEnded a b c.value.talk talk) → (number : ℕ)
     → (Q : Type 0) → ((a b : Past) → IsTalk a b c.value.talk → Q) → OnOk r (Q → Says old.teller new.teller number (unwrap_or old.start 0) talk)
-    → OnErr r (Q → TellsOn old.teller new.teller) → Follows start now came ((p, c) ∷ es) old → Goes start now came es new r
-reported (Ok x) start now came p c es old new absent some terms begin lost there talk ended number Q shown says nothing i =
+    → OnErr r (Q → TellsOn old.teller new.teller) → new.begun ≡ old.begun → Follows start now came ((p, c) ∷ es) old → Goes start now came es new r
+reported (Ok x) start now came p c es old new absent some terms begin lost there talk ended number Q shown says nothing count i =
     let own = own_of old.terms came i.fs p c es i.shared in
     let m = own.is.made there in
     let e = ended m.a m.b m.made.is in
     let s = says (shown m.a m.b m.made.is) m.a m.b e.is in
     follows_over start now came p c es old new absent i (Reported s.0) terms begin (s.2 start now (reports_of i.fs) i.known.tells)
-    (lost ∙ i.known.lost ∙ lost_same i.fs (record { pair = p; taken = own.taken; fate = Reported s.0 }) refl) (
+    (lost ∙ i.known.lost ∙ lost_same i.fs (record { pair = p; taken = own.taken; fate = Reported s.0 }) refl) count (
       sym own.is.has_payload ∙ some,
       record {
         first = m.first;
@@ -145,7 +181,7 @@ reported (Ok x) start now came p c es old new absent some terms begin lost there
         is = s.1;
       },
     )
-reported (Err x) start now came p c es old new absent some terms begin lost there talk ended number Q shown says nothing i =
+reported (Err x) start now came p c es old new absent some terms begin lost there talk ended number Q shown says nothing count i =
     let m = (own_of old.terms came i.fs p c es i.shared).is.made there in
     record {
       fs = i.fs;
@@ -159,16 +195,18 @@ not_lost true x e stays = let both = stays refl in cc
 
 -- ---- the next segment
 
-pub begun : (start now : TargetSeen) (came : List Arrival) (x : Arrival) (p : Pair) (c : Held) (es : List (Pair × Held)) (run : Run) → lookup (same_pair p) es ≡ None
-    → IsOpen run.terms [] (x ∷ []) c.value → Follows start now came es run → Holds start now came x p c es run
-begun start now came x p c es run absent is i = record {
+pub begun : (start now : TargetSeen) (came : List Arrival) (x : Arrival) (p : Pair) (c : Held) (es : List (Pair × Held)) (old new : Run) → lookup (same_pair p) es ≡ None
+    → new.terms ≡ old.terms → new.start ≡ old.start → new.lost ≡ old.lost → new.teller ≡ old.teller → new.begun ≡ min (old.begun + 1) (2 ^ 64 - 1)
+    → IsOpen old.terms [] (x ∷ []) c.value → Follows start now came es old → Holds start now came x p c es new
+begun start now came x p c es old new absent terms begin lost teller count is i = record {
   fs = i.fs;
-  known = i.known;
+  known = known_same start now i.fs old new terms begin lost (subst (λ t. Tells start now t (reports_of i.fs)) (sym teller) i.known.tells) i.known;
+  begun = begun_more new.begun old.begun (length i.fs) (length es) count i.begun;
   taken = [];
-  is = is;
-  share = own_none run.terms came i.fs p es absent i.shared;
+  is = subst (λ y. IsOpen y [] (x ∷ []) c.value) (sym terms) is;
+  share = own_none old.terms came i.fs p es absent i.shared;
   absent = absent;
-  others = λ k e. i.shared k;
+  others = subst (λ y. (k : Pair) → same_pair k p ≡ false → IsShare y came i.fs k (lookup (same_pair k) es)) (sym terms) (λ k e. i.shared k);
 }
 
 pub held : (start now : TargetSeen) (came : List Arrival) (x : Arrival) (p : Pair) (c : Held) (es : List (Pair × Held)) (run : Run) → lookup (same_pair p) es ≡ None
@@ -178,6 +216,7 @@ held start now came x p c es run absent i =
     record {
       fs = i.fs;
       known = i.known;
+      begun = begun_held run.begun (length i.fs) (p, c) es i.begun;
       taken = own.taken;
       is = ready run.terms own.taken x c.value own.is;
       share = own.share;
@@ -192,6 +231,7 @@ pub follows_took : (start now : TargetSeen) (came : List Arrival) (x : Arrival) 
 follows_took start now came x p c c' es run ends takes i = record {
   fs = i.fs;
   known = i.known;
+  begun = begun_took run.begun (length i.fs) (p, c') es i.begun;
   shared = took run.terms came i.fs p c' es i.taken x ends i.share (takes i.taken i.is) i.others;
 }
 
@@ -239,10 +279,11 @@ shares_none : (k : Pair) (fs : List Finished) (rest : List Arrival) → IsShared
 shares_none k fs rest e = (parts_none (taken_between k fs) rest (sym e)).0
 
 pub started : (start now : TargetSeen) (packets : List Captured) (old new : Run) (time : ℕ) → old.start ≡ first_time packets → new.start ≡ option_or old.start (Some time)
-    → new.terms ≡ old.terms → new.lost ≡ old.lost → new.teller ≡ old.teller → new.table ≡ old.table
+    → new.terms ≡ old.terms → new.lost ≡ old.lost → new.teller ≡ old.teller → new.table ≡ old.table → new.begun ≡ old.begun
     → Follows start now (arrivals packets) old.table old → Follows start now (arrivals packets) new.table new
-started start now [] old new time is begin terms lost teller table i = record {
+started start now [] old new time is begin terms lost teller table count i = record {
   fs = i.fs;
+  begun = count ∙ i.begun ∙ ap (λ (l : List (Pair × Held)). min (length i.fs + length l) (2 ^ 64 - 1)) (sym table);
   known = record {
     tells = subst (λ t. Tells start now t (reports_of i.fs)) (sym teller) i.known.tells;
     finished = subst (λ x. All (IsFinished x (unwrap_or new.start 0)) i.fs) (sym terms)
@@ -253,9 +294,9 @@ started start now [] old new time is begin terms lost teller table i = record {
   shared = subst (λ x. (k : Pair) → IsShare x [] i.fs k (lookup (same_pair k) new.table)) (sym terms)
       (subst (λ t. (k : Pair) → IsShare old.terms [] i.fs k (lookup (same_pair k) t)) (sym table) i.shared);
 }
-started start now (p ∷ ps) old new time is begin terms lost teller table i =
+started start now (p ∷ ps) old new time is begin terms lost teller table count i =
     let e : new.start ≡ old.start = begin ∙ ap (λ o. option_or o (Some time)) is ∙ sym is in
-    subst (λ t. Follows start now (arrivals (p ∷ ps)) t new) (sym table) (follows_same start now (arrivals (p ∷ ps)) old.table old new terms e lost teller i)
+    subst (λ t. Follows start now (arrivals (p ∷ ps)) t new) (sym table) (follows_same start now (arrivals (p ∷ ps)) old.table old new terms e lost teller count i)
 
 after_more : (n : ℕ) (packets : List Captured) (p : Captured)
     → arrivals_after n (packets ++ p ∷ []) ≡ arrivals_after n packets ++ arrivals_of (min (n + length packets + 1) (2 ^ 64 - 1)) p
@@ -284,18 +325,26 @@ pub follows_out : (start now : TargetSeen) (came : List Arrival) (p : Pair) (c :
 follows_out start now came p c es out run found is i = record {
   fs = i.fs;
   known = i.known;
+  begun = begun_out run.begun (length i.fs) (p, c) es out (length_out (same_pair p) es c found ∙ ap (λ (l : List (Pair × Held)). length l + 1) (sym is)) i.begun;
   shared = subst (λ l. (k : Pair) → IsShare run.terms came i.fs k (lookup (same_pair k) ((p, c) ∷ l))) (sym is)
       (moved run.terms came i.fs es ((p, c) ∷ remove_entry (same_pair p) es) (lookup_back p c es found) i.shared);
 }
 
 pub follows_moved : (start now : TargetSeen) (came : List Arrival) (es gs : List (Pair × Held)) (run : Run) → ((k : Pair) → lookup (same_pair k) gs ≡ lookup (same_pair k) es)
-    → Follows start now came es run → Follows start now came gs run
-follows_moved start now came es gs run same i = record { fs = i.fs; known = i.known; shared = moved run.terms came i.fs es gs same i.shared }
+    → length gs ≡ length es → Follows start now came es run → Follows start now came gs run
+follows_moved start now came es gs run same long i = record {
+  fs = i.fs;
+  known = i.known;
+  begun = i.begun ∙ ap (λ n. min (length i.fs + n) (2 ^ 64 - 1)) (sym long);
+  shared = moved run.terms came i.fs es gs same i.shared;
+}
 
 pub holds_same : (start now : TargetSeen) (came : List Arrival) (x : Arrival) (p : Pair) (c : Held) (es : List (Pair × Held)) (old new : Run) → new.terms ≡ old.terms
-    → new.start ≡ old.start → new.lost ≡ old.lost → new.teller ≡ old.teller → Holds start now came x p c es old → Holds start now came x p c es new
-holds_same start now came x p c es old new terms begin lost teller i = record {
+    → new.start ≡ old.start → new.lost ≡ old.lost → new.teller ≡ old.teller → new.begun ≡ old.begun → Holds start now came x p c es old
+    → Holds start now came x p c es new
+holds_same start now came x p c es old new terms begin lost teller count i = record {
   fs = i.fs;
+  begun = count ∙ i.begun;
   known = known_same start now i.fs old new terms begin lost (subst (λ t. Tells start now t (reports_of i.fs)) (sym teller) i.known.tells) i.known;
   taken = i.taken;
   is = subst (λ y. IsOpen y i.taken (x ∷ []) c.value) (sym terms) i.is;
@@ -323,9 +372,11 @@ follows_table start now came p c es gs run e i = subst (λ l. Follows start now 
 
 -- Rows were told.
 pub holds_told : (start now : TargetSeen) (came : List Arrival) (x : Arrival) (p : Pair) (c : Held) (es : List (Pair × Held)) (old new : Run) → new.terms ≡ old.terms
-    → new.start ≡ old.start → new.lost ≡ old.lost → TellsOn old.teller new.teller → Holds start now came x p c es old → Holds start now came x p c es new
-holds_told start now came x p c es old new terms begin lost tells i = record {
+    → new.start ≡ old.start → new.lost ≡ old.lost → new.begun ≡ old.begun → TellsOn old.teller new.teller → Holds start now came x p c es old
+    → Holds start now came x p c es new
+holds_told start now came x p c es old new terms begin lost count tells i = record {
   fs = i.fs;
+  begun = count ∙ i.begun;
   known = known_same start now i.fs old new terms begin lost (tells start now (reports_of i.fs) i.known.tells) i.known;
   taken = i.taken;
   is = subst (λ y. IsOpen y i.taken (x ∷ []) c.value) (sym terms) i.is;
@@ -334,9 +385,10 @@ holds_told start now came x p c es old new terms begin lost tells i = record {
   others = subst (λ y. (k : Pair) → same_pair k p ≡ false → IsShare y came i.fs k (lookup (same_pair k) es)) (sym terms) i.others;
 }
 
-pub follows_nothing : (start : TargetSeen) (run : Run) → Tells start start run.teller [] → run.lost ≡ 0 → run.table ≡ [] → Follows start start [] run.table run
-follows_nothing start run tells lost none = record {
+pub follows_nothing : (start : TargetSeen) (run : Run) → Tells start start run.teller [] → run.lost ≡ 0 → run.begun ≡ 0 → run.table ≡ [] → Follows start start [] run.table run
+follows_nothing start run tells lost count none = record {
   fs = [];
+  begun = count ∙ ap (λ (l : List (Pair × Held)). min (length {A = Finished} [] + length l) (2 ^ 64 - 1)) (sym none);
   known = record { tells = tells; finished = All-nil (IsFinished run.terms (unwrap_or run.start 0)); lost = lost };
   shared = λ k. subst (λ (l : List (Pair × Held)). IsShare run.terms [] [] k (lookup (same_pair k) l)) (sym none) (record { taken = []; is = refl; share = refl });
 }

@@ -26,7 +26,7 @@ was_there r false lost fault stays l e = refl
 was_there (Ok x) true lost fault stays l e = let f : Ok x ≡ Err fault = stays refl in cc
 was_there (Err x) true lost fault stays l e = cc
 
-taken_more : (xs : List Arrival) (x : Arrival) (s : Segment) → segment s ≡ x.segment → (a b : Past) (t : Talk) (a' b' : Past) (t' t'' : Talk)
+pub taken_more : (xs : List Arrival) (x : Arrival) (s : Segment) → segment s ≡ x.segment → (a b : Past) (t : Talk) (a' b' : Past) (t' t'' : Talk)
     → HasTaken xs a b t a' b' t' → (took : Takes s x.when a' b' t' t'') → HasTaken (xs ++ x ∷ []) a b t took.a' took.b' t''
 taken_more [] x s e a b t a' b' t' t'' i took =
     subst (λ (p : Past). HasTaken (x ∷ []) p b t took.a' took.b' t'') i.0
@@ -34,7 +34,7 @@ taken_more [] x s e a b t a' b' t' t'' i took =
     (subst (λ (u : Talk). HasTaken (x ∷ []) a' b' u took.a' took.b' t'') i.2 (s, e, t'', took, (refl, refl, refl))))
 taken_more (y ∷ ys) x s e a b t a' b' t' t'' i took = (i.0, i.1, i.2, i.3, taken_more ys x s e i.3.a' i.3.b' i.2 a' b' t' t'' i.4 took)
 
-pub made_more : (terms : Terms) (taken : List Arrival) (s : Segment) (x : Arrival) (t t' : Talk) → segment s ≡ x.segment → ends_of t' ≡ ends_of t
+unfoldable pub made_more : (terms : Terms) (taken : List Arrival) (s : Segment) (x : Arrival) (t t' : Talk) → segment s ≡ x.segment → ends_of t' ≡ ends_of t
     → terms_of t' ≡ terms_of t → (i : IsMade terms taken (x ∷ []) t) → Takes s x.when i.a i.b t t' → IsMade terms (taken ++ x ∷ []) [] t'
 made_more terms taken s x t t' e ends same i took = record {
   first = i.first;

@@ -1,6 +1,6 @@
 -- The connections of a capture: those that are over, and those that aren't.
 use Rattle.bt_talk.specs.declared.terms.Terms.{Terms}
-use Rattle.std.specs.Prelude.{◌≡◌, ℕ, ◌-◌, ◌^◌, min, Bool, true, false, List, [], ◌∷◌, ◌++◌, length, Option, Some, None, unwrap_or, Result, Ok, Err}
+use Rattle.std.specs.Prelude.{◌≡◌, ℕ, ◌+◌, ◌-◌, ◌^◌, min, Bool, true, false, List, [], ◌∷◌, ◌++◌, length, Option, Some, None, unwrap_or, Result, Ok, Err}
 use Rattle.std.specs.List.{All, filter, flat_map, list_any}
 use Rattle.std.specs.Map.{lookup}
 use Rattle.bt_io.specs.Seen.{TargetSeen}
@@ -113,10 +113,11 @@ pub record IsKnown (start now : TargetSeen) (fs : List Finished) (run : Run) : T
   pub finished : All (IsFinished run.terms (unwrap_or run.start 0)) fs
   pub lost : run.lost ≡ count_lost fs
 
--- These segments were taken. These connections aren't over, and the others are told.
+-- These segments were taken. These connections aren't over, and the others are told. All of them have begun.
 pub record Follows (start now : TargetSeen) (arrivals : List Arrival) (es : List (Pair × Held)) (run : Run) : Type 0 where
   pub fs : List Finished
   pub known : IsKnown start now fs run
+  pub begun : run.begun ≡ min (length fs + length es) (2 ^ 64 - 1)
   pub shared : (k : Pair) → IsShare run.terms arrivals fs k (lookup (same_pair k) es)
 
 -- These segments came. Connections are over and told, the others are given up.
@@ -134,6 +135,7 @@ Goes start now arrivals es run (Err e) = Stops start now arrivals run
 pub record Holds (start now : TargetSeen) (arrivals : List Arrival) (x : Arrival) (p : Pair) (c : Held) (es : List (Pair × Held)) (run : Run) : Type 0 where
   pub fs : List Finished
   pub known : IsKnown start now fs run
+  pub begun : run.begun ≡ min (length fs + (length es + 1)) (2 ^ 64 - 1)
   pub taken : List Arrival
   pub is : IsOpen run.terms taken (x ∷ []) c.value
   pub share : IsShared p arrivals fs taken

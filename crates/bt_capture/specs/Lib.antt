@@ -15,3 +15,4 @@ pub mod Following
 pub mod Runs
 pub mod Tables
 pub mod Bounds
+pub mod Sending

@@ -1,6 +1,6 @@
 -- What was told of a capture.
 use Rattle.bt_talk.specs.declared.terms.Terms.{Terms}
-use Rattle.std.specs.Prelude.{◌≡◌, ◌⊎◌, ℕ, ◌-◌, ◌^◌, ◌++◌, min, Bool, true, false, List, [], length, Option, unwrap_or, Result, Ok, Err}
+use Rattle.std.specs.Prelude.{◌≡◌, ◌⊎◌, ℕ, ◌-◌, ◌^◌, ◌++◌, min, Bool, true, false, List, [], length, Option, unwrap_or, Result, Ok, Err, if◌then◌else◌}
 use Rattle.std.specs.List.{All}
 use Rattle.std.specs.Io.KnownBytes.{Appends, Consumes}
 use Rattle.bt_io.specs.Seen.{SourceSeen, TargetSeen, AppendsPrefix, WriteFailed}
@@ -22,6 +22,8 @@ use Rattle.bt_capture.specs.Tables.{Held}
 use Rattle.bt_utp.specs.Flows.{flows}
 use Rattle.bt_utp.specs.States.{AreCounted}
 use Rattle.bt_capture.specs.FlowTexts.{datagrams, flow_texts}
+use Rattle.bt_capture.specs.Forms.{absent_from, is_stream}
+use Rattle.bt_packet.specs.declared.utp.Utp.{Utp}
 use Rattle.bt_capture.specs.Tellings.{AreTexts, count_torrents, is_one_refused}
 
 -- ---- what a run begins with
@@ -34,7 +36,7 @@ pub record Origin : Type 0 where
   pub target : TargetSeen
 
 abbrev pub origin : CaptureJob → SourceSeen → TargetSeen → Origin
-origin job source target = record { terms = job.terms; form = record { show = job.show; json = job.json }; left = source.left; target = target }
+origin job source target = record { terms = job.terms; form = record { show = job.show; json = job.json; stream = job.stream }; left = source.left; target = target }
 
 -- These packets were read from the source, all of them since the begin. Now it has these bytes left.
 pub record HasRead (o : Origin) (left : Option (List ℕ)) (packets : List Captured) (r : Reading) : Type 0 where
@@ -70,9 +72,13 @@ abbrev pub is_cut_by : FileEnd → Bool
 is_cut_by Whole = false
 is_cut_by Cut = true
 
+-- the lines on packets of uTP; none if only a stream is told
+abbrev pub utp_text : Form → List Utp → List ℕ
+utp_text form ds = if is_stream form then [] else flow_texts form.json (flows ds)
+
 -- the lines on the packets of uTP that packets carry
 abbrev pub utp_lines : Form → List Captured → List ℕ
-utp_lines form packets = flow_texts form.json (flows (datagrams packets))
+utp_lines form packets = utp_text form (datagrams packets)
 
 -- The file was read to its end. What was written are the texts of the reports on all its connections, in order, with rows between them, and
 -- after them the lines on uTP. The reports add up to this.
@@ -93,6 +99,7 @@ pub record IsEndOf (o : Origin) (left : Option (List ℕ)) (now : TargetSeen) (e
   pub torrents : end.torrents ≡ count_torrents (reports_of fs)
   pub refused : end.is_refused ≡ is_one_refused (reports_of fs)
   pub lost : end.lost ≡ count_lost fs
+  pub absent : end.absent ≡ absent_from o.form (min (length fs) (2 ^ 64 - 1))
 
 -- The texts of the reports on all connections of what was read are written, and the lines on uTP.
 pub record AreWritten (o : Origin) (left : Option (List ℕ)) (now : TargetSeen) : Type 0 where

@@ -1,5 +1,5 @@
 -- The reports of connections, in order, and what they add up to.
-use Rattle.std.specs.Prelude.{◌≡◌, ℕ, ◌^◌, ◌-◌, min, Bool, true, false, List, [], ◌∷◌, ◌++◌, length}
+use Rattle.std.specs.Prelude.{◌≡◌, ℕ, ◌^◌, ◌-◌, min, Bool, true, false, List, [], ◌∷◌, ◌++◌, length, if◌then◌else◌}
 use Rattle.std.specs.List.{flat_map, filter, list_any}
 use Rattle.std.specs.Io.KnownBytes.{Appends}
 use Rattle.bt_io.specs.Seen.{TargetSeen, AppendsPrefix, WriteFailed}
@@ -12,7 +12,7 @@ use Rattle.bt_told.specs.declared.finding.Finding.TheVariants as finding
 use Rattle.bt_told.specs.declared.report.Report.{Report}
 use Rattle.bt_capture.specs.declared.ending.Form.{Form}
 use Rattle.bt_capture.specs.declared.telling.Teller.{Teller}
-use Rattle.bt_capture.specs.Forms.{showing_by}
+use Rattle.bt_capture.specs.Forms.{showing_by, is_stream}
 
 -- ---- a report on a connection
 
@@ -44,22 +44,34 @@ text_by true r = report_object r
 abbrev pub texts : Bool → List Report → List ℕ
 texts json reports = flat_map (text_by json) reports
 
--- ---- reports, and rows between them
+-- ---- reports, and rows or a stream's bytes between them
 
--- a report, or rows of what sides of connections did
+-- a report, or rows of what sides of connections did, or bytes of a stream
 pub data Part : Type 0 where
   OfReport : Report → Part
   OfRows : List Shown → Part
+  OfBytes : List ℕ → Part
 
 abbrev pub report_of_part : Part → List Report
 report_of_part (OfReport r) = r ∷ []
 report_of_part (OfRows rows) = []
+report_of_part (OfBytes bytes) = []
+
+abbrev pub bytes_of_part : Part → List ℕ
+bytes_of_part (OfReport r) = []
+bytes_of_part (OfRows rows) = []
+bytes_of_part (OfBytes bytes) = bytes
+
+-- A report has no text if only a stream is told.
+abbrev pub report_by : Form → Report → List ℕ
+report_by form r = if is_stream form then [] else text_by form.json r
 
 abbrev pub part_text : Form → Part → List ℕ
-part_text form (OfReport r) = text_by form.json r
+part_text form (OfReport r) = report_by form r
 part_text form (OfRows rows) = shown_texts (showing_by form) rows
+part_text form (OfBytes bytes) = if is_stream form then bytes else []
 
--- The text is that of these reports, in order, and of rows before, between and after them.
+-- The text is that of these reports, in order, and of rows before, between and after them. If only a stream is told it is its bytes.
 pub record AreTexts (form : Form) (reports : List Report) (text : List ℕ) : Type 0 where
   pub parts : List Part
   pub reports_are : flat_map report_of_part parts ≡ reports

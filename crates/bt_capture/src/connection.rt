@@ -1,9 +1,11 @@
 //! A connection of a capture, with its number.
 ghost use Rattle.bt_talk.specs.declared.terms.Terms.{Terms};
-ghost use Rattle.std.specs.Prelude.{◌≡◌, ◌<◌, ◌^◌, ◌++◌, ◌∷◌, List, [], Option, ℕ};
+ghost use Rattle.std.specs.Prelude.{◌≡◌, ◌<◌, ◌^◌, ◌++◌, ◌∷◌, List, [], Option, Some, ℕ};
 ghost use Rattle.bt_talk.specs.declared.closing.When.{When};
 ghost use Rattle.bt_capture.specs.Arrivals.{Arrival, arrived, has_data};
-ghost use Rattle.bt_talk.specs.Rooms.{rows_in, showing_in};
+ghost use Rattle.bt_remarks.specs.declared.events.Side.{Side};
+ghost use Rattle.bt_talk.specs.Rooms.{rows_in, sent_in, showing_in, wanted_in};
+ghost use Rattle.bt_capture.specs.Sending.{HasSent};
 ghost use Rattle.bt_capture.specs.Connections.{IsOpen};
 ghost use Rattle.bt_capture.specs.Shown.{HasRows};
 
@@ -44,7 +46,9 @@ fn has_payload(segment: &Segment) -> bool
 impl Connection {
     /// Begins a connection; nothing of it was taken yet.
     pub fn new(alloc: Global, number: u64, first: &Segment, terms: Terms) -> Connection
-        ensures { (when : When) → IsOpen terms [] (arrived first.now when ∷ []) result }
+        ensures open { (when : When) → IsOpen terms [] (arrived first.now when ∷ []) result }
+        ensures sent { (when : When) (side : Side) → HasSent side [] terms [] (arrived first.now when ∷ []) result }
+        ensures number { result.number ≡ number }
     {
         Connection {
             number,
@@ -56,12 +60,16 @@ impl Connection {
 
     /// Takes a segment.
     ///
-    /// If memory runs out the connection is lost. The room had no rows before; then it has those of the segment.
+    /// If memory runs out the connection is lost. The room had no rows before; then it has those of the segment, and the bytes of the
+    /// wanted side's stream that come with it.
     pub fn take(&mut self, segment: &Segment, when: When, room: &mut Room)
         ensures takes { (terms : Terms) (taken : List Arrival) → let a = arrived segment.now when in IsOpen terms taken (a ∷ []) self.old
             → IsOpen terms (taken ++ a ∷ []) [] self.new }
         ensures rows { (terms : Terms) (taken : List Arrival) → IsOpen terms taken (arrived segment.now when ∷ []) self.old
             → (rows_in room.old).text.items ≡ [] → HasRows (showing_in room.old) room.new }
+        ensures sent { (terms : Terms) (taken : List Arrival) (side : Side) (sent : List ℕ) → let a = arrived segment.now when in wanted_in room.old ≡ Some side
+            → HasSent side sent terms taken (a ∷ []) self.old → HasSent side (sent ++ sent_in room.new) terms (taken ++ a ∷ []) [] self.new }
+        ensures number { self.new.number ≡ self.old.number }
     {
         self.has_payload |= has_payload(segment);
         let _taken = self.talk.take(segment, when, room);

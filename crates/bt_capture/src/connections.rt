@@ -1,19 +1,23 @@
 //! The connections of a capture, and the reports of those that are over.
-ghost use Rattle.std.specs.Prelude.{◌≡◌, ◌∷◌, ◌++◌, [], ◌+◌, ◌-◌, ◌^◌, ◌<◌, ◌≤◌, min, ℕ, List, length, false, None, IfOk, OnOk};
+ghost use Rattle.std.specs.Prelude.{◌≡◌, ◌∷◌, ◌++◌, [], ◌+◌, ◌-◌, ◌^◌, ◌<◌, ◌≤◌, min, ℕ, List, length, false, true, None, Some, IfOk, OnOk};
 ghost use Rattle.std.specs.Map.{lookup};
 ghost use Rattle.std.specs.List.Sorted.{IsPermutation};
 ghost use Rattle.bt_io.specs.Seen.{TargetSeen};
 ghost use Rattle.bt_pcap.specs.Formats.{Captured};
 ghost use Rattle.bt_pcap.specs.Steps.{captured};
 ghost use Rattle.bt_capture.specs.Arrivals.{Arrival, arrived, arrivals, arrivals_in, first_time};
-ghost use Rattle.bt_utp.specs.Flows.{flows};
 ghost use Rattle.bt_utp.specs.States.{AreCounted};
 ghost use Rattle.bt_packet.specs.declared.utp.Utp.{Utp};
-ghost use Rattle.bt_capture.specs.FlowTexts.{datagrams, datagrams_in, flow_texts};
+ghost use Rattle.bt_capture.specs.FlowTexts.{datagrams, datagrams_in};
 ghost use Rattle.bt_capture.specs.Connections.{IsOpen};
+ghost use Rattle.bt_remarks.specs.declared.events.Side.{Side};
 ghost use Rattle.bt_talk.specs.Rooms.{rows_in};
+ghost use Rattle.bt_talk.specs.Talks.{is_lost};
+ghost use Rattle.bt_capture.specs.Sending.{HasSent, IsSentOff};
+ghost use Rattle.bt_capture.specs.Forms.{absent_from, handed, is_stream, wanted_by};
 ghost use Rattle.bt_capture.specs.Bounds.{IsBounded, IsCounted};
 ghost use Rattle.bt_capture.specs.Following.{Follows, Goes, Finds, TellsOn};
+ghost use Rattle.bt_capture.specs.Runs.{utp_text};
 ghost use Rattle.bt_capture.specs.Sights.{seen};
 ghost use Rattle.bt_capture.specs.Tables.{Held, same_pair, IsApart};
 ghost use Rattle.bt_capture.specs.declared.pair.Pair.{Pair};
@@ -103,6 +107,11 @@ impl Run {
     pub fn report(&mut self, mut connection: Box<Connection>) -> Result<(), AllocError>
         ensures goes { (start now : TargetSeen) (came : List Arrival) (p : Pair) (es : List (Pair × Held)) → lookup (same_pair p) es ≡ None
             → Follows start now came ((p, connection) ∷ es) self.old → Goes start now came es self.new result }
+        ensures sent { OnOk result ((terms : Terms) (taken : List Arrival) (side : Side) (sent : List ℕ) → connection.value.has_payload ≡ true
+            → wanted_by self.old.teller.form connection.value.number ≡ Some side → is_lost connection.value.talk ≡ false
+            → HasSent side sent terms taken [] connection.value → IsSentOff side sent terms taken connection.value self.old self.new) }
+        ensures others { OnOk result (is_stream self.old.teller.form ≡ true → wanted_by self.old.teller.form connection.value.number ≡ None
+            → (terms : Terms) (taken : List Arrival) → IsOpen terms taken [] connection.value → self.new.teller.text.items ≡ self.old.teller.text.items) }
         ensures table { self.new.table ≡ self.old.table }
         ensures bytes { self.new.bytes ≡ self.old.bytes }
         ensures terms { self.new.terms ≡ self.old.terms }
@@ -114,8 +123,9 @@ impl Run {
             return Ok(());
         }
         let from = self.start.unwrap_or(0);
+        let wanted = self.teller.wanted(connection.number);
         self.room
-            .turn_to(self.teller.showing(), connection.number, from);
+            .turn_to(self.teller.showing(), connection.number, from, wanted);
         match connection.talk.end_opening(&mut self.room) {
             Ok(()) => self
                 .teller
@@ -201,6 +211,8 @@ impl Run {
     fn begin(&mut self, segment: &Segment) -> Result<Box<Connection>, AllocError>
         ensures finds { (start now : TargetSeen) (came : List Arrival) (when : When) (p : Pair) (es : List (Pair × Held)) → lookup (same_pair p) es ≡ None
             → Follows start now came es self.old → Finds start now came (arrived segment.now when) p es self.new result }
+        ensures number { IfOk result (λ c. c.value.number ≡ self.old.begun) }
+        ensures sent { IfOk result (λ c. (when : When) (side : Side) → HasSent side [] self.old.terms [] (arrived segment.now when ∷ []) c.value) }
         ensures table { self.new.table ≡ self.old.table }
         ensures bytes { self.new.bytes ≡ self.old.bytes }
         ensures terms { self.new.terms ≡ self.old.terms }
@@ -282,15 +294,20 @@ impl Run {
             → IsOpen terms (taken ++ a ∷ []) [] connection.new }
         ensures tells { (terms : Terms) (taken : List Arrival) → IsOpen terms taken (arrived segment.now when ∷ []) connection.old
             → TellsOn self.old.teller self.new.teller }
-        ensures text { OnOk result (self.new.teller.text.items ≡ self.old.teller.text.items ++ (rows_in self.new.room).text.items) }
+        ensures text { OnOk result (self.new.teller.text.items ≡ (self.old.teller.text.items ++ (rows_in self.new.room).text.items) ++ handed self.old.teller.form connection.new.number self.new.room) }
+        ensures number { connection.new.number ≡ connection.old.number }
+        ensures sent { (terms : Terms) (taken : List Arrival) (side : Side) (sent : List ℕ) → let a = arrived segment.now when in
+            wanted_by self.old.teller.form connection.old.number ≡ Some side → HasSent side sent terms taken (a ∷ []) connection.old
+            → HasSent side (sent ++ handed self.old.teller.form connection.new.number self.new.room) terms (taken ++ a ∷ []) [] connection.new }
         ensures form { self.new.teller.form ≡ self.old.teller.form }
         ensures rest { self.new ≡ record self.old { teller = self.new.teller; room = self.new.room } }
     {
         let from = self.start.unwrap_or(0);
+        let wanted = self.teller.wanted(connection.number);
         self.room
-            .turn_to(self.teller.showing(), connection.number, from);
+            .turn_to(self.teller.showing(), connection.number, from, wanted);
         connection.take(segment, when, &mut self.room);
-        self.teller.show(&self.room)
+        self.teller.show(connection.number, &self.room)
     }
 
     /// Takes a segment.
@@ -387,13 +404,32 @@ impl Run {
         Ok(rest)
     }
 
-    /// Returns the lines on packets of uTP.
+    /// Returns the lines on packets of uTP. There are none if only a stream is told.
     ///
     /// # Errors
     /// `AllocError` when out of memory.
     pub fn utp_lines(&self) -> Result<Vec<u8>, AllocError>
-        ensures { IfOk result (λ text. (ds : List Utp) → AreCounted ds self.now.utp → text.items ≡ flow_texts self.now.teller.form.json (flows ds)) }
+        ensures { IfOk result (λ text. (ds : List Utp) → AreCounted ds self.now.utp → text.items ≡ utp_text self.now.teller.form ds) }
     {
+        if self.teller.form.stream.is_some() {
+            return Ok(Vec::new(self.alloc));
+        }
         flow_lines(self.alloc, &self.utp, self.teller.form.json)
+    }
+
+    /// Returns the number of the connection whose stream is told, if none of that number has begun.
+    pub fn absent(&self) -> Option<u64>
+        ensures { result ≡ absent_from self.now.teller.form self.now.begun }
+    {
+        match self.teller.form.stream {
+            Some((number, _)) => {
+                if self.begun <= number {
+                    Some(number)
+                } else {
+                    None
+                }
+            }
+            None => None,
+        }
     }
 }

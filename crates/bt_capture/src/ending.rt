@@ -1,8 +1,9 @@
 //! What `capture` is asked for, how it ends, and what can stop it.
 ghost use Rattle.std.specs.Prelude.{◌≡◌};
-ghost use Rattle.bt_capture.specs.Forms.{showing_by};
+ghost use Rattle.bt_capture.specs.Forms.{showing_by, wanted_by};
 
 use bt_pcap::FileFault;
+use bt_remarks::Side;
 use bt_talk::{Showing, Terms};
 use thiserror::Error;
 
@@ -15,6 +16,8 @@ pub struct CaptureJob {
     pub show: bool,
     /// Whether reports and rows are JSON objects, each on a line; else they are text.
     pub json: bool,
+    /// The number of a connection and one of its sides: only the stream of that side is written, and neither reports nor rows.
+    pub stream: Option<(u64, Side)>,
 }
 
 /// How it is told.
@@ -24,6 +27,8 @@ pub struct Form {
     pub show: bool,
     /// Whether reports and rows are JSON objects; else they are text.
     pub json: bool,
+    /// The number of a connection and its side of which only the stream is told.
+    pub stream: Option<(u64, Side)>,
 }
 
 impl Form {
@@ -31,10 +36,23 @@ impl Form {
     pub(crate) fn showing(self) -> Showing
         ensures { result ≡ showing_by self }
     {
+        if self.stream.is_some() {
+            return Showing::Nothing;
+        }
         match (self.show, self.json) {
             (false, _) => Showing::Nothing,
             (true, false) => Showing::Text,
             (true, true) => Showing::Objects,
+        }
+    }
+
+    /// Returns the side whose stream is told, if it is one of the connection with this number.
+    pub(crate) fn wanted(self, number: u64) -> Option<Side>
+        ensures { result ≡ wanted_by self number }
+    {
+        match self.stream {
+            Some((wanted, side)) => { if wanted == number { Some(side) } else { None } }
+            None => None,
         }
     }
 }
@@ -53,6 +71,8 @@ pub struct CaptureEnd {
     pub is_refused: bool,
     /// Whether the file ended inside a packet, which is left out.
     pub is_cut: bool,
+    /// The number of the connection whose stream was asked for, if no connection has it.
+    pub absent: Option<u64>,
 }
 
 /// What stops a command on a capture.

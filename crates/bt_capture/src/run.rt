@@ -3,14 +3,12 @@ ghost use Rattle.std.specs.Prelude.{◌≡◌, ◌<◌, ℕ, List, [], ◌∷◌
 ghost use Rattle.std.specs.Map.{lookup};
 ghost use Rattle.bt_io.specs.Seen.{TargetSeen};
 ghost use Rattle.bt_packet.specs.declared.utp.Utp.{Utp};
-ghost use Rattle.bt_utp.specs.Flows.{flows};
 ghost use Rattle.bt_utp.specs.States.{AreCounted};
 ghost use Rattle.bt_capture.specs.Ends.{IsEnded};
-ghost use Rattle.bt_capture.specs.FlowTexts.{flow_texts};
 ghost use Rattle.bt_capture.specs.Readings.{Reading};
 ghost use Rattle.bt_capture.specs.Tables.{Held, same_pair};
 ghost use Rattle.bt_capture.specs.Tellings.{IsEmpty};
-ghost use Rattle.bt_capture.specs.Runs.{Adds, Origin, done, origin, IsTelling, IsOfTelling, IsOfReading, IsAfter, IsTold, IsEndOf, is_cut_by, utp_lines};
+ghost use Rattle.bt_capture.specs.Runs.{Adds, Origin, done, origin, IsTelling, IsOfTelling, IsOfReading, IsAfter, IsTold, IsEndOf, is_cut_by, utp_lines, utp_text};
 ghost use Rattle.bt_capture.specs.declared.connections.Run.{Run};
 ghost use Rattle.bt_capture.specs.declared.pair.Pair.{Pair};
 
@@ -184,10 +182,10 @@ fn finish<W: Target>(run: &mut Run, writer: &mut W) -> Result<(), CaptureFault>
     write(run, writer)
 }
 
-/// Writes the lines on packets of uTP, after all reports.
+/// Writes the lines on packets of uTP, after all reports. There are none if only a stream is told.
 fn write_utp<W: Target>(run: &Run, writer: &mut W) -> Result<(), CaptureFault>
     ensures { (ds : List Utp) → AreCounted ds run.now.utp
-        → Adds (flow_texts run.now.teller.form.json (flows ds)) (W.seen writer.old) (W.seen writer.new) result }
+        → Adds (utp_text run.now.teller.form ds) (W.seen writer.old) (W.seen writer.new) result }
 {
     let Ok(lines) = run.utp_lines() else {
         return Err(CaptureFault::Memory);
@@ -220,6 +218,7 @@ fn end_of(run: &Run, packets: &Packets, end: FileEnd) -> CaptureEnd
         lost: run.lost,
         is_refused: run.teller.is_refused(),
         is_cut: is_cut(end),
+        absent: run.absent(),
     }
 }
 
@@ -288,6 +287,10 @@ fn tell_all<R: Source, W: Target>(
 /// on each two ends with packets of uTP, in the order of the first ones. What was told is written before more is read. If a read
 /// fails or the file is broken, all that was read up to there is reported.
 ///
+/// If a stream is asked for, only its bytes are written: those of the side from its handshake on, or from its first byte if none
+/// began in the opening, up to the first gap. They come at the end of the connection's opening, and after it with each packet.
+/// Reports are made all the same, for what the capture had.
+///
 /// `keys` are those of the table of connections.
 ///
 /// # Errors
@@ -305,6 +308,7 @@ pub fn run_capture<R: Source, W: Target>(
     let form = Form {
         show: job.show,
         json: job.json,
+        stream: job.stream,
     };
     match Run::new(alloc, keys, job.terms, form) {
         Ok(mut run) => match Packets::new(alloc) {

@@ -1,20 +1,21 @@
-//! The text of reports and rows, or their JSON objects, which are written in large pieces.
-ghost use Rattle.std.specs.Prelude.{◌≡◌, ◌∷◌, ◌++◌, [], ℕ, List, OnOk, OnErr};
+//! The text of reports and rows, or their JSON objects, or a stream's bytes, which are written in large pieces.
+ghost use Rattle.std.specs.Prelude.{◌≡◌, ◌∷◌, ◌++◌, [], ℕ, List, OnOk, OnErr, true};
 ghost use Rattle.bt_io.specs.Counts.{counted as counted_by};
 ghost use Rattle.bt_io.specs.Seen.{TargetSeen, WriteFailed};
 ghost use Rattle.bt_told.specs.declared.report.Report.{Report};
 ghost use Rattle.bt_talk.specs.Pasts.{Past};
 ghost use Rattle.bt_talk.specs.Talks.{IsTalk};
-ghost use Rattle.bt_capture.specs.Forms.{showing_by};
+ghost use Rattle.bt_capture.specs.Forms.{handed, is_stream, showing_by, wanted_by};
 ghost use Rattle.bt_capture.specs.Reportings.{IsReportOf};
 ghost use Rattle.bt_capture.specs.Shown.{HasRows};
 ghost use Rattle.bt_talk.specs.Rooms.{rows_in};
-ghost use Rattle.bt_capture.specs.Tellings.{is_told_with, is_refused_with, text_by};
+ghost use Rattle.bt_capture.specs.Tellings.{is_told_with, is_refused_with, report_by, text_by};
 
 use crate::ending::Form;
 use crate::reporting::body_of;
 use bt_io::{Target, WriteFault};
 use bt_jobs::output::write_out;
+use bt_remarks::Side;
 use bt_talk::{Room, Showing, Talk};
 use bt_told::{Finding, Report, put_report, put_report_object};
 use std::alloc::{AllocError, Global};
@@ -67,7 +68,18 @@ fn put_by(json: bool, report: &Report, text: &mut Vec<u8>) -> Result<(), AllocEr
     }
 }
 
-/// Tells reports, and rows between them: their text is kept, and written in large pieces.
+/// Appends a report as it is told in this form. It has no text if only a stream is told.
+fn put_in(form: Form, report: &Report, text: &mut Vec<u8>) -> Result<(), AllocError>
+    ensures ok { OnOk result (text.new.items ≡ text.old.items ++ report_by form report.now) }
+    ensures err { OnErr result (text.new.items ≡ text.old.items) }
+{
+    if form.stream.is_some() {
+        return Ok(());
+    }
+    put_by(form.json, report, text)
+}
+
+/// Tells reports, and rows between them, or a stream: the text is kept, and written in large pieces.
 #[derive(Drop)]
 pub struct Teller {
     text: Vec<u8>,
@@ -102,9 +114,10 @@ impl Teller {
             → Tells start now self.new (reports ++ report.now ∷ [])) }
         ensures same { OnErr result ((start now : TargetSeen) (reports : List Report) → Tells start now self.old reports
             → Tells start now self.new reports) }
+        ensures text { OnOk result (self.new.text.items ≡ self.old.text.items ++ report_by self.old.form report.now) }
         ensures form { self.new.form ≡ self.old.form }
     {
-        put_by(self.form.json, report, &mut self.text)?;
+        put_in(self.form, report, &mut self.text)?;
         let finding = report.finding();
         self.torrents = counted(self.torrents, finding);
         self.is_refused |= is_refused(finding);
@@ -118,11 +131,15 @@ impl Teller {
         self.form.showing()
     }
 
+    /// Returns the side whose stream is told, if it is one of the connection with this number.
+    pub fn wanted(&self, number: u64) -> Option<Side>
+        ensures { result ≡ wanted_by self.now.form number }
+    {
+        self.form.wanted(number)
+    }
+
     /// Tells the rows that a room has.
-    ///
-    /// # Errors
-    /// `AllocError` when out of memory. They aren't told then.
-    pub fn show(&mut self, room: &Room) -> Result<(), AllocError>
+    fn show_rows(&mut self, room: &Room) -> Result<(), AllocError>
         ensures told { HasRows (showing_by self.old.form) room.now → (start now : TargetSeen) (reports : List Report) → Tells start now self.old reports
             → Tells start now self.new reports }
         ensures text { OnOk result (self.new.text.items ≡ self.old.text.items ++ (rows_in room.now).text.items) }
@@ -132,12 +149,43 @@ impl Teller {
         Ok(())
     }
 
+    /// Tells the bytes that a room has, if they are of the stream that is told. It is turned to the connection with this number.
+    fn hand_out(&mut self, number: u64, room: &Room) -> Result<(), AllocError>
+        ensures told { (start now : TargetSeen) (reports : List Report) → Tells start now self.old reports → Tells start now self.new reports }
+        ensures text { OnOk result (self.new.text.items ≡ self.old.text.items ++ handed self.old.form number room.now) }
+        ensures form { self.new.form ≡ self.old.form }
+    {
+        if self.form.wanted(number).is_none() {
+            return Ok(());
+        }
+        self.text.extend_from_slice(room.sent())?;
+        Ok(())
+    }
+
+    /// Tells the rows that a room has, and its bytes if they are of the stream that is told. It is turned to the connection with
+    /// this number.
+    ///
+    /// # Errors
+    /// `AllocError` when out of memory. Bytes aren't told then.
+    pub fn show(&mut self, number: u64, room: &Room) -> Result<(), AllocError>
+        ensures told { HasRows (showing_by self.old.form) room.now → (start now : TargetSeen) (reports : List Report) → Tells start now self.old reports
+            → Tells start now self.new reports }
+        ensures text { OnOk result (self.new.text.items ≡ (self.old.text.items ++ (rows_in room.now).text.items) ++ handed self.old.form number room.now) }
+        ensures form { self.new.form ≡ self.old.form }
+    {
+        match self.show_rows(room) {
+            Ok(()) => self.hand_out(number, room),
+            Err(error) => Err(error),
+        }
+    }
+
     /// Tells the report on a connection, whose number and rows the room has, in a capture that starts at this time.
     fn report_on(&mut self, talk: &Talk, number: u64, from: u64) -> Result<(), AllocError>
         ensures told { OnOk result ((a b : Past) → IsTalk a b talk.now → (r : Report) × IsReportOf number from a b talk.now r
             × ((start now : TargetSeen) (reports : List Report) → Tells start now self.old reports → Tells start now self.new (reports ++ r ∷ []))) }
         ensures same { OnErr result ((start now : TargetSeen) (reports : List Report) → Tells start now self.old reports
             → Tells start now self.new reports) }
+        ensures text { OnOk result (is_stream self.old.form ≡ true → self.new.text.items ≡ self.old.text.items) }
         ensures form { self.new.form ≡ self.old.form }
     {
         let ends = talk.ends();
@@ -155,6 +203,8 @@ impl Teller {
 
     /// Tells the last rows of a connection, those of its gaps, and the report on it, in a capture that starts at this time.
     ///
+    /// If only a stream is told, these are the bytes that the room has, if they are of it.
+    ///
     /// # Errors
     /// `AllocError` when out of memory. The report isn't told then.
     pub fn report(
@@ -169,10 +219,13 @@ impl Teller {
             × ((start now : TargetSeen) (reports : List Report) → Tells start now self.old reports → Tells start now self.new (reports ++ r ∷ []))) }
         ensures same { OnErr result (HasRows (showing_by self.old.form) room.old → (start now : TargetSeen) (reports : List Report)
             → Tells start now self.old reports → Tells start now self.new reports) }
+        ensures text { OnOk result (is_stream self.old.form ≡ true → HasRows (showing_by self.old.form) room.old
+            → self.new.text.items ≡ self.old.text.items ++ handed self.old.form number room.old) }
         ensures form { self.new.form ≡ self.old.form }
     {
+        self.hand_out(number, room)?;
         talk.show_gaps(room)?;
-        self.show(room)?;
+        self.show_rows(room)?;
         self.report_on(talk, number, from)?;
         Ok(())
     }

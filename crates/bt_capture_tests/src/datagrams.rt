@@ -94,6 +94,7 @@ fn is_written(rt: &HostRuntime, json: bool, text: &[u8]) -> Result<bool, Fail> {
         },
         show: false,
         json,
+        stream: None,
     };
     let Ok(keys) = RandomState::new(rt) else {
         return Ok(false);

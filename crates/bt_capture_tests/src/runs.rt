@@ -1,6 +1,7 @@
 //! A capture file from its bytes to the report of its connection.
 use bt_capture::{CaptureEnd, CaptureFault, CaptureJob, run_capture};
 use bt_io::{MemSource, MemTarget};
+use bt_remarks::Side;
 use bt_talk::Terms;
 use std::alloc::AllocError;
 use std::hash::RandomState;
@@ -47,6 +48,15 @@ const ROWS: &[u8] =
 2d4242303030312d626262626262626262626262\n\
 0     0.004000 A 73 refused message=1 at=73 BadIndex\n";
 
+/// What side A sends.
+const SENT_BY_A: &[u8] = b"\x13BitTorrent protocol\0\0\0\0\0\0\0\0\
+    \0\x01\x02\x03\x04\x05\x06\x07\x08\x09\x0a\x0b\x0c\x0d\x0e\x0f\x10\x11\x12\x13-AA0001-aaaaaaaaaaaa\
+    \0\0\0\x05\x04\0\0\0\x09";
+
+/// What side B sends.
+const SENT_BY_B: &[u8] = b"\x13BitTorrent protocol\0\0\0\0\0\0\0\0\
+    \0\x01\x02\x03\x04\x05\x06\x07\x08\x09\x0a\x0b\x0c\x0d\x0e\x0f\x10\x11\x12\x13-BB0001-bbbbbbbbbbbb";
+
 /// How many connections there may be.
 const MOST: u32 = 16_384;
 
@@ -56,6 +66,17 @@ fn run(
     file: Vec<u8>,
     most: usize,
     show: bool,
+) -> (Result<CaptureEnd, CaptureFault>, MemTarget) {
+    run_for(rt, file, most, show, None)
+}
+
+/// As `run`; `stream` is the connection's number and the side whose stream is asked for.
+fn run_for(
+    rt: &HostRuntime,
+    file: Vec<u8>,
+    most: usize,
+    show: bool,
+    stream: Option<(u64, Side)>,
 ) -> (Result<CaptureEnd, CaptureFault>, MemTarget) {
     let mut reader = MemSource::new(file, most.max(1), None);
     let mut writer = MemTarget::new(Vec::new(rt.alloc()), 4_096, None);
@@ -67,6 +88,7 @@ fn run(
         },
         show,
         json: false,
+        stream,
     };
     let Ok(keys) = RandomState::new(rt) else {
         return (Err(CaptureFault::Read), writer);
@@ -84,6 +106,7 @@ fn is_reported(end: &Result<CaptureEnd, CaptureFault>, text: &[u8]) -> bool {
         lost: 0,
         is_refused: true,
         is_cut: false,
+        absent: None,
     }) && text == FOUR
 }
 
@@ -93,6 +116,24 @@ fn a_have_out_of_range(rt: HostRuntime) -> Result<(), Fail> {
     for most in [1, 7, 65_536] {
         let (end, writer) = run(&rt, Vec::from_slice(rt.alloc(), FILE)?, most, false);
         right = right && is_reported(&end, writer.bytes());
+    }
+    assert!(rt; right);
+    Ok(())
+}
+
+/// Only the bytes of the stream that is asked for are written; if no connection has its number, nothing.
+#[test]
+fn a_stream(rt: HostRuntime) -> Result<(), Fail> {
+    let mut right = true;
+    for (stream, sent, absent) in [
+        ((0, Side::A), SENT_BY_A, None),
+        ((0, Side::B), SENT_BY_B, None),
+        ((1, Side::A), b"".as_slice(), Some(1)),
+    ] {
+        let file = Vec::from_slice(rt.alloc(), FILE)?;
+        let (end, writer) = run_for(&rt, file, 7, false, Some(stream));
+        let is_refused = end.map(|end| (end.is_refused, end.absent)) == Ok((true, absent));
+        right = right && is_refused && writer.bytes() == sent;
     }
     assert!(rt; right);
     Ok(())
@@ -129,6 +170,7 @@ fn a_flood(rt: HostRuntime) -> Result<(), Fail> {
         lost: 0,
         is_refused: true,
         is_cut: false,
+        absent: None,
     });
     let text = writer.bytes();
     let lines = count_lines(FOUR).saturating_add(16_385);

@@ -1,5 +1,5 @@
 -- What `capture` says at its end, and its exit status.
-use Rattle.std.specs.Prelude.{◌≡◌, ◌==◌, ◌⊎◌, ◌++◌, ℕ, Bool, true, false, List, [], codes, decimal, nat_lt, Result, Ok, Err, if◌then◌else◌}
+use Rattle.std.specs.Prelude.{◌≡◌, ◌==◌, ◌⊎◌, ◌++◌, ℕ, Bool, true, false, List, [], codes, decimal, nat_lt, is_some, Option, Some, None, Result, Ok, Err, if◌then◌else◌}
 use Rattle.bt_io.specs.Seen.{TargetSeen}
 use Rattle.bt_text.specs.declared.ended.ToolFault.TheVariants as fault
 use Rattle.bt_text.specs.Lines.{fault_line}
@@ -11,15 +11,16 @@ use Rattle.bt_capture.specs.declared.ending.CaptureEnd.{CaptureEnd}
 use Rattle.bt_capture.specs.declared.ending.CaptureFault.{CaptureFault}
 use Rattle.bt_capture.specs.declared.ending.CaptureFault.TheVariants.{File, Read, Write, Memory, Turns}
 use Rattle.bt_cli.specs.declared.capture.Outcome.{Outcome}
-use Rattle.bt_cli.specs.declared.capture.Outcome.TheVariants.{Lost, Nothing, Refused, Accepted}
+use Rattle.bt_cli.specs.declared.capture.Outcome.TheVariants.{Lost, Absent, Nothing, Refused, Accepted}
 
 -- ---- a capture that was read to its end
 
 abbrev pub outcome_in : CaptureEnd → Outcome
-outcome_in e = if nat_lt 0 e.lost then Lost else if e.torrents == 0 then Nothing else if e.is_refused then Refused else Accepted
+outcome_in e = if nat_lt 0 e.lost then Lost else if is_some e.absent then Absent else if e.torrents == 0 then Nothing else if e.is_refused then Refused else Accepted
 
 abbrev pub outcome_status : Outcome → ℕ
 outcome_status Lost = 3
+outcome_status Absent = 3
 outcome_status Nothing = 3
 outcome_status Refused = 1
 outcome_status Accepted = 0
@@ -33,9 +34,16 @@ abbrev pub nothing_words : ℕ → ℕ → List ℕ
 nothing_words packets skipped =
     (((codes "no BitTorrent connection in " ++ decimal packets) ++ codes " packets; ") ++ decimal skipped) ++ codes " of them aren't TCP\n"
 
--- Connections that memory didn't last for are a fault. A capture without a BitTorrent connection has its line, if there is memory for that.
+-- no connection has the number of the stream
+abbrev pub absent_words : Option ℕ → List ℕ
+absent_words None = []
+absent_words (Some n) = (codes "no connection " ++ decimal n) ++ codes "\n"
+
+-- Connections that memory didn't last for are a fault. A capture without the connection of a stream or without a BitTorrent connection has
+-- its line, if there is memory for that.
 abbrev pub IsLastLine : Outcome → CaptureEnd → List ℕ → Type 0
 IsLastLine Lost e line = line ≡ fault_line fault.Memory
+IsLastLine Absent e line = (line ≡ absent_words e.absent) ⊎ (line ≡ fault_line fault.Memory)
 IsLastLine Nothing e line = (line ≡ nothing_words e.packets e.skipped) ⊎ (line ≡ fault_line fault.Memory)
 IsLastLine Refused e line = line ≡ []
 IsLastLine Accepted e line = line ≡ []

@@ -3,6 +3,8 @@ pub mod Endings
 pub mod Options
 pub mod Fetches
 pub mod Tallies
+pub mod Streams
+pub mod Readings
 pub mod Wanted
 pub mod Services
 pub mod Lists

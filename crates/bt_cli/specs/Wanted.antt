@@ -1,5 +1,5 @@
 -- What the options of `fetch`, `serve` and `capture` say.
-use Rattle.std.specs.Prelude.{◌≡◌, ◌&&◌, ℕ, Bool, false, List, [], map, string_bytes, is_some, unwrap_or, codes, Option, Some, None, option_map}
+use Rattle.std.specs.Prelude.{◌≡◌, ◌&&◌, ◌||◌, ℕ, Bool, false, List, [], map, string_bytes, is_some, unwrap_or, codes, Option, Some, None, option_map}
 use Rattle.std.specs.Str.{bytes_eq}
 use Rattle.std.specs.Net.Grammar.{IsSocketText}
 use Rattle.clap.specs.declared.parser.matches.Found.{Found}
@@ -9,7 +9,9 @@ use Rattle.bt_ext.specs.declared.ids.Rules.TheVariants.{Free}
 use Rattle.bt_magnet.specs.Links.{IsMagnet}
 use Rattle.bt_run.specs.Options.{number_in, rules_of, value_of}
 use Rattle.bt_fetch.specs.declared.wish.Wish.{Wish}
+use Rattle.bt_remarks.specs.declared.events.Side.{Side}
 use Rattle.bt_capture.specs.declared.ending.CaptureJob.{CaptureJob}
+use Rattle.bt_cli.specs.Streams.{direction_in}
 use Rattle.bt_cli.specs.declared.capture.CaptureRequest.{CaptureRequest}
 use Rattle.bt_cli.specs.declared.fetch.FetchJob.{FetchJob}
 use Rattle.bt_cli.specs.declared.serve.ServeJob.{ServeJob}
@@ -48,6 +50,9 @@ capture_pieces_in t = value_of None (λ s. option_map (λ n. Some n) (number_in 
 
 abbrev pub capture_limit_in : Option (List ℕ) → Option ℕ
 capture_limit_in t = number_or 1 1048576 262144 t
+
+abbrev pub capture_stream_in : Option (List ℕ) → Option (Option (ℕ × Side))
+capture_stream_in t = value_of None (λ s. option_map (λ d. Some d) (direction_in s)) t
 
 -- the texts of all words of this name
 abbrev pub words_in : Found → List ℕ → List (List ℕ)
@@ -106,6 +111,8 @@ pub record IsCaptureAsked (f : Found) (job : CaptureJob) : Type 0 where
   pub torrent : job.terms.torrent ≡ None
   pub json : job.json ≡ flag_in f (codes "json")
   pub show : job.show ≡ flag_in f (codes "show")
+  pub stream : capture_stream_in (first_value f (codes "stream")) ≡ Some job.stream
+  pub alone : is_some job.stream && (job.show || job.json) ≡ false
 
 pub record IsCaptureRequested (f : Found) (r : CaptureRequest) : Type 0 where
   pub job : IsCaptureAsked f r.job

@@ -1,16 +1,18 @@
 //! The command `capture`: what its words ask for, what it says at its end, and the exit status.
-ghost use Rattle.std.specs.Prelude.{◌≡◌, ◌++◌, ◌&&◌, IfOk, is_some, option_map};
+ghost use Rattle.std.specs.Prelude.{◌≡◌, ◌++◌, ◌&&◌, IfOk, is_some, option_map, Some};
 ghost use Rattle.clap.specs.Matches.{first_value, found_of};
 ghost use Rattle.bt_run.specs.Runs.{IsSaid};
-ghost use Rattle.bt_cli.specs.Captures.{IsCaptureSaid, IsEndSaid, capture_fault_status, capture_fault_words, capture_status, cut_words, file_words, nothing_words, outcome_in, outcome_status};
-ghost use Rattle.bt_cli.specs.declared.capture.Outcome.TheVariants.{Nothing};
-ghost use Rattle.bt_cli.specs.Wanted.{IsCaptureAsked, capture_pieces_in};
+ghost use Rattle.bt_cli.specs.Captures.{IsCaptureSaid, IsEndSaid, absent_words, capture_fault_status, capture_fault_words, capture_status, cut_words, file_words, nothing_words, outcome_in, outcome_status};
+ghost use Rattle.bt_cli.specs.declared.capture.Outcome.TheVariants.{Absent, Nothing};
+ghost use Rattle.bt_cli.specs.Wanted.{IsCaptureAsked, capture_pieces_in, capture_stream_in};
 
 use crate::fetch::{DEFAULT_LIMIT, is_given, number_or};
+use crate::stream::direction_of;
 use bt_capture::{CaptureEnd, CaptureFault, CaptureJob};
 use bt_feed::Target;
 use bt_link::text::push_number;
 use bt_pcap::FileFault;
+use bt_remarks::Side;
 use bt_run::ending::{end_by_fault, say_both};
 use bt_run::values::number_within;
 use bt_talk::Terms;
@@ -35,6 +37,8 @@ pub struct CaptureRequest {
 pub enum Outcome {
     /// Connections aren't reported, since memory ran out.
     Lost,
+    /// No connection has the number of the stream that is asked for.
+    Absent,
     /// No BitTorrent connection.
     Nothing,
     /// A direction that is refused.
@@ -50,6 +54,16 @@ fn pieces_in(text: Option<&str>) -> Option<Option<u32>>
     match text {
         None => Some(None),
         Some(digits) => Some(Some(number_within(digits, 0, 4_294_967_295)?)),
+    }
+}
+
+/// Returns the direction of `--stream`.
+fn stream_in(text: Option<&str>) -> Option<Option<(u64, Side)>>
+    ensures { result ≡ capture_stream_in (option_map (λ s. s.now) text.entry) }
+{
+    match text {
+        None => Some(None),
+        Some(direction) => Some(Some(direction_of(direction)?)),
     }
 }
 
@@ -76,14 +90,22 @@ pub fn capture_in(options: &ArgMatches<'_>) -> Result<CaptureJob, &'static str>
     let Some(limit) = number_or(options.get_str("limit"), 1, 1_048_576, DEFAULT_LIMIT) else {
         return Err("'--limit' takes a number from 1 to 1048576");
     };
+    let Some(stream) = stream_in(options.get_str("stream")) else {
+        return Err("'--stream' takes a connection's number, a hyphen, and 'A' or 'B'");
+    };
+    let (show, json) = (is_given(options, "show"), is_given(options, "json"));
+    if stream.is_some() && (show || json) {
+        return Err("'--stream' can't be given with '--show' or '--json'");
+    }
     Ok(CaptureJob {
         terms: Terms {
             limit,
             pieces,
             torrent: None,
         },
-        show: is_given(options, "show"),
-        json: is_given(options, "json"),
+        show,
+        json,
+        stream,
     })
 }
 
@@ -93,6 +115,8 @@ fn outcome_of(end: &CaptureEnd) -> Outcome
 {
     if end.lost > 0 {
         Outcome::Lost
+    } else if end.absent.is_some() {
+        Outcome::Absent
     } else if end.torrents == 0 {
         Outcome::Nothing
     } else if end.is_refused {
@@ -107,7 +131,7 @@ fn status_of(outcome: Outcome) -> u8
     ensures { result ≡ outcome_status outcome }
 {
     match outcome {
-        Outcome::Lost | Outcome::Nothing => 3,
+        Outcome::Lost | Outcome::Absent | Outcome::Nothing => 3,
         Outcome::Refused => 1,
         Outcome::Accepted => 0,
     }
@@ -124,6 +148,17 @@ fn cut_line(is_cut: bool) -> &'static [u8]
     }
 }
 
+/// Returns the line on a capture without a connection of this number.
+fn absent_line(alloc: Global, number: u64) -> Result<Vec<u8>, AllocError>
+    ensures { IfOk result (λ line. line.items ≡ absent_words (Some number)) }
+{
+    let mut text = Vec::new(alloc);
+    text.extend_from_slice(b"no connection ")?;
+    push_number(number, &mut text)?;
+    text.push(b'\n')?;
+    Ok(text)
+}
+
 /// Returns the line on a capture without a BitTorrent connection.
 fn nothing_line(alloc: Global, packets: u64, skipped: u64) -> Result<Vec<u8>, AllocError>
     ensures { IfOk result (λ line. line.items ≡ nothing_words packets skipped) }
@@ -135,6 +170,21 @@ fn nothing_line(alloc: Global, packets: u64, skipped: u64) -> Result<Vec<u8>, Al
     push_number(skipped, &mut text)?;
     text.extend_from_slice(b" of them aren't TCP\n")?;
     Ok(text)
+}
+
+/// Says that a capture has no connection of the number of the stream, after what else is said of its end.
+fn say_absent<E: Target>(alloc: Global, end: &CaptureEnd, errors: &mut E)
+    requires { outcome_in end.now ≡ Absent }
+    ensures { IsEndSaid end.now (E.seen errors.old) (E.seen errors.new) }
+{
+    let cut = cut_line(end.is_cut);
+    let Some(number) = end.absent else {
+        return say_both(cut, b"", errors);
+    };
+    match absent_line(alloc, number) {
+        Ok(line) => say_both(cut, line.as_slice(), errors),
+        Err(_) => say_both(cut, fault_line(ToolFault::Memory), errors),
+    }
 }
 
 /// Says that a capture has no BitTorrent connection, after what else is said of its end.
@@ -155,6 +205,7 @@ fn say_end<E: Target>(alloc: Global, end: &CaptureEnd, errors: &mut E)
 {
     match outcome_of(end) {
         Outcome::Lost => say_both(cut_line(end.is_cut), fault_line(ToolFault::Memory), errors),
+        Outcome::Absent => say_absent(alloc, end, errors),
         Outcome::Nothing => say_nothing(alloc, end, errors),
         Outcome::Refused => say_both(cut_line(end.is_cut), b"", errors),
         Outcome::Accepted => say_both(cut_line(end.is_cut), b"", errors),

@@ -14,8 +14,10 @@ pub mod link;
 pub mod looped;
 pub mod options;
 pub mod peers;
+pub mod reading;
 pub mod report;
 pub mod serve;
+pub mod stream;
 mod texts;
 pub mod torrent;
 

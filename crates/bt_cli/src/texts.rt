@@ -202,6 +202,13 @@ const ROWS_OF_CAPTURE: OptionText = OptionText {
     help: "Prints a row for each item, refusal, gap and close too, as it comes",
 };
 
+const STREAM_OF_CAPTURE: OptionText = OptionText {
+    name: "stream",
+    alias: "",
+    value: "N-SIDE",
+    help: "Writes only the stream of one side, as 0-A: what side A of connection 0 sent [default: none]",
+};
+
 const JSON_OF_CAPTURE: OptionText = OptionText {
     name: "json",
     alias: "",
@@ -409,6 +416,7 @@ pub(crate) const CAPTURE: CommandText = CommandText {
         TORRENT_OF_CAPTURE,
         LIMIT,
         ROWS_OF_CAPTURE,
+        STREAM_OF_CAPTURE,
         JSON_OF_CAPTURE,
     ],
     operands: &[PACKETS],
@@ -420,7 +428,7 @@ Exit status:
   0    No direction is refused under the lenient rules; one that was cut off isn't counted
   1    A direction is refused under the lenient rules
   2    Usage error
-  3    No BitTorrent connection was found, FILE is no capture, a read or a write failed, or the program is out of memory
+  3    No BitTorrent connection was found, or none of the number of '--stream', FILE is no capture, a read or a write failed, or the program is out of memory
   141  The output pipe was closed, as after '| head'",
 };
 

@@ -16,6 +16,7 @@ use bt_cli::notice::refuse_words;
 use bt_cli::options::{is_input, long_list, no_handshake, no_peer};
 use bt_cli::other::receiver_by;
 use bt_cli::peers::{NoPeers, list_from, peers_in};
+use bt_cli::reading::{Shown, is_long};
 use bt_cli::run::{JobEnd, do_job, say};
 use bt_cli::serve::{ServeJob, end_serve, run_serve};
 use bt_cli::torrent::{end_torrent, job_for};
@@ -73,6 +74,8 @@ pub struct Program<'a, R, W, E> {
     is_terminal: bool,
     /// Standard error is a terminal.
     is_watched: bool,
+    /// Standard output is none.
+    is_piped: bool,
 }
 
 /// An input: standard input, or a file.
@@ -92,6 +95,7 @@ impl<'a, R: Files + Input + Net + Clock + RandomSource + AllocGlobal, W: Write, 
         is_gone: &'a Cell<bool>,
         is_terminal: bool,
         is_watched: bool,
+        is_piped: bool,
     ) -> Program<'a, R, W, E> {
         let writer = Host::new(Piped::new(writer, is_gone));
         let errors = Host::new(errors);
@@ -102,6 +106,7 @@ impl<'a, R: Files + Input + Net + Clock + RandomSource + AllocGlobal, W: Write, 
             is_gone,
             is_terminal,
             is_watched,
+            is_piped,
         }
     }
 
@@ -322,6 +327,19 @@ impl<'a, R: Files + Input + Net + Clock + RandomSource + AllocGlobal, W: Write, 
         }
     }
 
+    /// Returns the size of a long file, if how much of it is read is to be shown: on a terminal that gets nothing else.
+    fn long_size(&self, name: &str) -> Option<u64> {
+        if !self.is_watched || !self.is_piped || is_input(name) {
+            return None;
+        }
+        let found = fs::metadata(self.host, name).ok()?;
+        if found.is_file() && is_long(found.len()) {
+            Some(found.len())
+        } else {
+            None
+        }
+    }
+
     /// As `capture`; `prefix` stands before the line of a fault.
     fn capture_after(&mut self, prefix: &[u8], name: &str, job: &CaptureJob) -> u8 {
         let Some(mut reader) = self.open(name, CAPTURE_AWAITED) else {
@@ -331,7 +349,15 @@ impl<'a, R: Files + Input + Net + Clock + RandomSource + AllocGlobal, W: Write, 
             return end_by_fault(ToolFault::Read, prefix, false, &mut self.errors);
         };
         let alloc = self.host.alloc();
-        let end = run_capture(alloc, keys, &mut reader, &mut self.writer, job);
+        let end = match self.long_size(name) {
+            Some(size) => {
+                let mut shown = Shown::new(self.host, alloc, reader, &mut self.errors, size);
+                let end = run_capture(alloc, keys, &mut shown, &mut self.writer, job);
+                shown.clear();
+                end
+            }
+            None => run_capture(alloc, keys, &mut reader, &mut self.writer, job),
+        };
         let is_gone = self.is_gone.get();
         end_capture(alloc, end, prefix, is_gone, &mut self.errors)
     }

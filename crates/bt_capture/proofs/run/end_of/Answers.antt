@@ -1,6 +1,6 @@
-use Rattle.std.proofs.Common.{◌∙◌}
+use Rattle.std.proofs.Common.{◌∙◌, length}
 use Rattle.bt_capture.specs.Following.{reports_of}
-use Rattle.bt_capture.proofs.Outcomes.{all_over, whole_written}
+use Rattle.bt_capture.proofs.Outcomes.{all_over, whole_written, absent_by, begun_all}
 use Rattle.bt_capture.proofs.run.end_of.Goals as goal
 
 pub returns : goal.returns
@@ -26,4 +26,5 @@ returns c o left before now i empty ended added =
       torrents = c.torrents.ensures o.target before (reports_of fs) known.tells;
       refused = c.is_refused.ensures o.target before (reports_of fs) known.tells;
       lost = known.lost;
+      absent = absent_by o.form run.teller.form (length fs) run.begun i.form (begun_all run.begun (length fs) i.follows.begun) _ c.absent.ensures;
     }

@@ -1,9 +1,11 @@
 use Rattle.std.proofs.Common.{refl}
 use Rattle.bt_talk.specs.Pasts.{no_past}
+use Rattle.bt_talk.specs.Talks.{of_side}
+use Rattle.bt_capture.proofs.Sending.{nothing_sent}
 use Rattle.bt_capture.proofs.connection.Connection.new.Goals as goal
 
-pub returns : goal.returns
-returns c when = record {
+pub returns-clause-open : goal.returns-clause-open
+returns-clause-open c when = record {
   has_payload = refl;
   made = λ there. record {
     first = c.args.first.now;
@@ -22,3 +24,8 @@ returns c when = record {
     };
   };
 }
+
+pub returns-clause-sent : goal.returns-clause-sent
+unfolding returns-clause-open
+returns-clause-sent c when side there =
+    ((returns-clause-open c when).made there, nothing_sent (of_side side no_past no_past) _ c.new.ensures.opening)

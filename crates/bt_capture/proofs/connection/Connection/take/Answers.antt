@@ -22,3 +22,15 @@ pub returns-clause-rows : goal.returns-clause-rows
 returns-clause-rows c terms taken i empty =
     has_taken c.take-taken.result c.args.self.now.talk.is_lost _ c.args.self.now.talk c.args.room.now c.take-taken.new.room c.take-taken.ensures.stays
     c.take-taken.ensures.rows c.take-taken.ensures.none (λ there. let m = i.made there in (m.a, m.b, m.made.is)) empty
+
+pub returns-clause-sent : goal.returns-clause-sent
+unfolding made_more
+returns-clause-sent c terms taken side sent wanted h = λ there.
+    let x = arrived c.args.segment.now c.args.when in
+    let now = c.take-taken.new.self.is_lost in
+    let took = on_there c.take-taken.result now c.take-taken.ensures.sent c.take-taken.ensures.lost there in
+    let g = h (was_there c.take-taken.result c.args.self.now.talk.is_lost now _ c.take-taken.ensures.stays c.take-taken.ensures.lost there) in
+    let k = took g.0.a g.0.b g.0.made.is in (
+      made_more terms taken c.args.segment.now x c.args.self.now.talk c.take-taken.new.self refl c.take-taken.ensures.ends c.take-taken.ensures.terms g.0 k.0,
+      k.1 side wanted sent g.1,
+    )

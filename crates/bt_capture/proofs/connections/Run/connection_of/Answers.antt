@@ -19,7 +19,7 @@ returns-in-Some-clause-finds c start now came i =
     subst (λ l. lookup (same_pair p) l ≡ None) (sym c.in-Some.ensures.rest) (lookup_gone p es c.in-Some.ensures.apart) in
     let out = follows_out start now came p c.in-Some.connection es left c.args.self.now (sym c.in-Some.ensures.found) c.in-Some.ensures.rest i in
     subst (λ l. Finds start now came (arrived c.args.segment.now c.args.when) p l c.goes_on.new.self c.goes_on.result) (sym c.goes_on.ensures.table)
-    (c.goes_on.ensures.finds start now came p left absent (follows_same start now came ((p, c.in-Some.connection) ∷ left) c.args.self.now _ refl refl refl refl out))
+    (c.goes_on.ensures.finds start now came p left absent (follows_same start now came ((p, c.in-Some.connection) ∷ left) c.args.self.now _ refl refl refl refl refl out))
 
 pub returns-in-Some-clause-absent : goal.returns-in-Some-clause-absent
 returns-in-Some-clause-absent c =
@@ -37,7 +37,7 @@ returns-in-None-clause-finds c start now came i =
     let same : left ≡ es = c.in-None.ensures.rest ∙ lookup_kept p es (sym c.in-None.ensures.found) in
     subst (λ l. Finds start now came (arrived c.args.segment.now c.args.when) p l c.begin.new.self c.begin.result) (sym c.begin.ensures.table)
     (c.begin.ensures.finds start now came c.args.when p left absent
-    (follows_same start now came left c.args.self.now _ refl refl refl refl (subst (λ l. Follows start now came l c.args.self.now) (sym same) i)))
+    (follows_same start now came left c.args.self.now _ refl refl refl refl refl (subst (λ l. Follows start now came l c.args.self.now) (sym same) i)))
 
 pub returns-in-None-clause-absent : goal.returns-in-None-clause-absent
 returns-in-None-clause-absent c =

@@ -1,7 +1,7 @@
 use Rattle.std.proofs.Common.{rules, ◌≡◌, refl, sym, subst, List, [], ◌∷◌, ◌++◌, ◌∙◌, ◌+◌, ap, arith, length}
 use Rattle.std.proofs.lemmas.List.{length-append}
 use Rattle.std.specs.List.Sorted.{IsPermutation}
-use Rattle.std.proofs.lemmas.List.Sorted.{IsPermutation-append_comm}
+use Rattle.std.proofs.lemmas.List.Sorted.{IsPermutation-append_comm, length_permutation}
 use Rattle.bt_capture.specs.Following.{Follows, Goes}
 use Rattle.bt_capture.specs.Tables.{Held, IsApart}
 use Rattle.bt_capture.specs.declared.pair.Pair.{Pair}
@@ -19,9 +19,9 @@ returns-in-Some-clause-goes c start now came i =
     let move : IsPermutation (left ++ e ∷ []) (e ∷ left) = IsPermutation-append_comm left (e ∷ []) in
     let absent = apart_first e left (apart_moved (left ++ e ∷ []) (e ∷ left) move apart) in
     let same = follows_moved start now came (left ++ e ∷ []) (e ∷ left) c.args.self.now (lookup_moved (left ++ e ∷ []) (e ∷ left) move apart)
-    (subst (λ l. Follows start now came l c.args.self.now) is i) in
+    (length_permutation (left ++ e ∷ []) (e ∷ left) move) (subst (λ l. Follows start now came l c.args.self.now) is i) in
     subst (λ l. Goes start now came l c.report.new.self c.report.result) (sym c.report.ensures.table)
-    (c.report.ensures.goes start now came e.0 left absent (follows_same start now came (e ∷ left) c.args.self.now _ refl refl refl refl same))
+    (c.report.ensures.goes start now came e.0 left absent (follows_same start now came (e ∷ left) c.args.self.now _ refl refl refl refl refl same))
 
 pub returns-in-Some-clause-shorter : goal.returns-in-Some-clause-shorter
 returns-in-Some-clause-shorter c some =

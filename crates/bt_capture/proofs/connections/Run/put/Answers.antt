@@ -1,4 +1,5 @@
 use Rattle.std.proofs.Common.{◌≡◌, ◌∙◌, ◌+◌, ◌-◌, ◌^◌, ◌<◌, min, refl, ap, subst, List, ◌∷◌}
+use Rattle.std.proofs.lemmas.List.Sorted.{length_permutation}
 use Rattle.bt_capture.specs.Tables.{Held}
 use Rattle.bt_capture.specs.declared.connection.Connection.{Connection}
 use Rattle.bt_capture.specs.declared.pair.Pair.{Pair}
@@ -13,15 +14,16 @@ returns-in-Ok-clause-goes c start now came i =
     let e : Pair × Held = (c.args.pair, c.args.connection) in
     let es : List (Pair × Held) = c.args.self.now.table in
     c.shrink.ensures.goes start now came
-    (follows_same start now came c.put.new.self c.args.self.now _ refl refl refl refl
+    (follows_same start now came c.put.new.self c.args.self.now _ refl refl refl refl refl
     (follows_moved start now came (e ∷ es) c.put.new.self c.args.self.now
-    (lookup_moved (e ∷ es) c.put.new.self c.in-Ok.ensures.put (apart_put e es c.requires c.in-Ok.ensures.apart)) i))
+    (lookup_moved (e ∷ es) c.put.new.self c.in-Ok.ensures.put (apart_put e es c.requires c.in-Ok.ensures.apart))
+    (length_permutation (e ∷ es) c.put.new.self c.in-Ok.ensures.put) i))
 
 pub returns-in-Err-clause-goes : goal.returns-in-Err-clause-goes
 returns-in-Err-clause-goes c start now came i =
     let e : Pair × Held = (c.args.pair, c.args.connection) in
     let es : List (Pair × Held) = c.args.self.now.table in
-    stops_of start now came (e ∷ es) _ (follows_same start now came (e ∷ es) c.args.self.now _ refl refl refl refl i)
+    stops_of start now came (e ∷ es) _ (follows_same start now came (e ∷ es) c.args.self.now _ refl refl refl refl refl i)
 
 pub returns-in-Ok-clause-bounded : goal.returns-in-Ok-clause-bounded
 returns-in-Ok-clause-bounded c =

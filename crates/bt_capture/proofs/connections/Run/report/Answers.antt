@@ -1,13 +1,19 @@
-use Rattle.std.proofs.Common.{rules, ◌≡◌, ◌∙◌, ℕ, refl, ap, subst, true, false, OnOk}
+use Rattle.std.proofs.Common.{rules, ◌≡◌, ◌∙◌, ℕ, List, [], ◌++◌, append-nil, Bool, Option, Some, None, is_some, inl, inr, refl, sym, ap, subst, true, false, OnOk}
 use Rattle.bt_talk.specs.declared.rows.Heading.{Heading}
 use Rattle.bt_talk.specs.declared.rows.Showing.{Showing}
 use Rattle.bt_talk.specs.Pasts.{Past}
-use Rattle.bt_talk.specs.Talks.{IsTalk, is_lost}
+use Rattle.bt_remarks.specs.declared.events.Side.{Side}
+use Rattle.bt_talk.specs.Rooms.{sent_in, showing_in, wanted_in}
+use Rattle.bt_talk.specs.Sent.{IsSent, SendsOn}
+use Rattle.bt_talk.specs.Talks.{IsTalk, is_in_opening, is_lost, of_side}
 use Rattle.bt_talk.specs.declared.talk.Talk.{Talk}
 use Rattle.bt_capture.specs.Following.{IsEnded}
 use Rattle.bt_capture.specs.declared.connection.Connection.{Connection}
-use Rattle.bt_capture.specs.Forms.{showing_by}
+use Rattle.bt_capture.specs.Forms.{handed, is_stream, showing_by, wanted_by}
 use Rattle.bt_capture.specs.Shown.{HasRows}
+use Rattle.bt_capture.proofs.InOrder.{wants_stream}
+use Rattle.bt_capture.proofs.Parts.{on_ok}
+use Rattle.bt_capture.proofs.Sending.{handed_all, handed_none}
 use Rattle.bt_capture.proofs.Shown.{has_first}
 use Rattle.bt_capture.proofs.Reported.{silent, lost_one, not_lost, reported, Says}
 use Rattle.bt_capture.proofs.connections.Run.report.Goals as goal
@@ -37,9 +43,71 @@ returns-in-Ok-clause-goes c start now came p es absent i =
     let S : ℕ → Type 0 = λ n. OnOk c.report.result (P → Says c.args.self.now.teller c.report.new.self c.deref-in-Ok-2.result.now.number n talk) in
     reported c.report.result start now came p c.args.connection es c.args.self.now _ absent some refl refl refl
     (subst (λ (x : Connection). is_lost x.talk ≡ false) old there) talk (subst Q old ends) c.deref-in-Ok-2.result.now.number P (subst Z old shown)
-    (subst S c.unwrap_or-from.ensures (subst R new c.report.ensures.told)) c.report.ensures.same i
+    (subst S c.unwrap_or-from.ensures (subst R new c.report.ensures.told)) c.report.ensures.same refl i
 
 pub returns-clause-goes : goal.returns-clause-goes
 returns-clause-goes c start now came p es absent i =
     let some : c.args.connection.value.has_payload ≡ true = search rules in
-    lost_one start now came p c.args.connection es c.args.self.now _ absent some refl refl refl c.saturating_add-self.ensures i
+    lost_one start now came p c.args.connection es c.args.self.now _ absent some refl refl refl c.saturating_add-self.ensures refl i
+
+pub returns-then-not-deref-clause-sent : goal.returns-then-not-deref-clause-sent
+returns-then-not-deref-clause-sent c terms taken side sent some =
+    let none : c.args.connection.value.has_payload ≡ false = search rules in
+    cc
+
+pub returns-clause-sent : goal.returns-clause-sent
+returns-clause-sent c terms taken side sent some w there h = record {
+  more = [];
+  text = sym (append-nil c.args.self.now.teller.text.items);
+  whole = inl c.saturating_add-self.ensures;
+}
+
+pub returns-in-Ok-clause-sent : goal.returns-in-Ok-clause-sent
+returns-in-Ok-clause-sent c =
+    let form = c.args.self.now.teller.form in
+    let room = c.end_opening.new.room in
+    let talk = c.end_opening.new.self in
+    let connection = c.args.connection.value in
+    let number = c.deref-in-Ok-2.result.now.number in
+    let old : c.deref_mut.result.now ≡ connection = search rules in
+    let same : number ≡ connection.number = search rules in
+    let showing : showing_in c.turn_to.new.self ≡ showing_by form = ap (λ (h : Heading). h.showing) c.turn_to.ensures.heading ∙ c.showing.ensures in
+    let Z : Connection → Type 0 = λ x. (a b : Past) → IsTalk a b x.talk → HasRows (showing_by form) room in
+    let shown : Z c.deref_mut.result.now = λ a b t.
+    let rows = c.in-Ok.ensures.rows a b t in
+    subst (λ (s : Showing). HasRows s room) showing (has_first c.turn_to.new.self room rows.0 c.turn_to.ensures.empty rows.1) in
+    let S : Connection → Type 0 = λ x. (a b : Past) (side : Side) → IsTalk a b x.talk → wanted_in c.turn_to.new.self ≡ Some side
+    → SendsOn (is_in_opening x.talk) (of_side side a b) (is_in_opening talk) (of_side side a b) (sent_in room) in
+    let sends = subst S old c.in-Ok.ensures.sent in
+    let wanted : wanted_in c.turn_to.new.self ≡ wanted_by form connection.number = search rules in
+    on_ok c.report.result (λ text terms taken side sent some w there h.
+    let g = h there in
+    let stream : is_stream form ≡ true = wants_stream connection.number form.stream (ap (λ (o : Option Side). is_some o) w) in
+    let all : handed form number room ≡ sent_in room = handed_all form connection.number number room side same w in
+    let P : List ℕ → Type 0 = λ l. IsSent false (of_side side g.0.a g.0.b) (sent ++ l) in
+    let Q : Bool → Type 0 = λ o. IsSent o (of_side side g.0.a g.0.b) (sent ++ sent_in room) in
+    record {
+      more = handed form number room;
+      text = text stream (subst Z old shown g.0.a g.0.b g.0.made.is);
+      whole = inr (g.0, subst P (sym all) (subst Q c.in-Ok.ensures.over (sends g.0.a g.0.b side g.0.made.is (wanted ∙ w) sent g.1)));
+    }) c.report.ensures.text
+
+pub returns-in-Ok-clause-others : goal.returns-in-Ok-clause-others
+returns-in-Ok-clause-others c =
+    let form = c.args.self.now.teller.form in
+    let room = c.end_opening.new.room in
+    let connection = c.args.connection.value in
+    let number = c.deref-in-Ok-2.result.now.number in
+    let old : c.deref_mut.result.now ≡ connection = search rules in
+    let same : number ≡ connection.number = search rules in
+    let showing : showing_in c.turn_to.new.self ≡ showing_by form = ap (λ (h : Heading). h.showing) c.turn_to.ensures.heading ∙ c.showing.ensures in
+    let Z : Connection → Type 0 = λ x. (a b : Past) → IsTalk a b x.talk → HasRows (showing_by form) room in
+    let shown : Z c.deref_mut.result.now = λ a b t.
+    let rows = c.in-Ok.ensures.rows a b t in
+    subst (λ (s : Showing). HasRows s room) showing (has_first c.turn_to.new.self room rows.0 c.turn_to.ensures.empty rows.1) in
+    let there : is_lost c.deref_mut.result.now.talk ≡ false = not_lost _ _ _ c.in-Ok.ensures.stays in
+    on_ok c.report.result (λ text stream w terms taken i.
+    let m = i.made (subst (λ (x : Connection). is_lost x.talk ≡ false) old there) in
+    let before : List ℕ = c.args.self.now.teller.text.items in
+    text stream (subst Z old shown m.a m.b m.made.is)
+    ∙ ap (λ (l : List ℕ). before ++ l) (handed_none form number room (ap (λ n. wanted_by form n) same ∙ w)) ∙ append-nil before) c.report.ensures.text

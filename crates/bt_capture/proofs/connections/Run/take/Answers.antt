@@ -15,7 +15,7 @@ returns-clause-goes c start now packets number time i =
     let nanos = c.args.packet.now.nanos in
     let P : List Arrival → Type 0 = λ l. Goes start now l run.table run c.take_sight.result in
     subst P (ap (λ s. arrivals packets ++ arrivals_in c.args.number nanos s) c.sight_of.ensures ∙ sym (arrivals_more packets (captured c.args.packet.now) c.args.number number))
-    (c.take_sight.ensures.goes start now (arrivals packets) (started start now packets c.args.self.now _ nanos time c.or-self.ensures refl refl refl refl i))
+    (c.take_sight.ensures.goes start now (arrivals packets) (started start now packets c.args.self.now _ nanos time c.or-self.ensures refl refl refl refl refl i))
 
 pub returns-clause-utp : goal.returns-clause-utp
 returns-clause-utp c =

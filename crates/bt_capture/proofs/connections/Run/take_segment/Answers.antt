@@ -20,7 +20,7 @@ returns-in-Ok-give-clause-goes c start now came i =
     let R : Connection → Type 0 = λ k. (taken : List Arrival) → IsOpen run.terms taken (x ∷ []) k → IsOpen run.terms (taken ++ x ∷ []) [] c.give.new.connection in
     let tells = c.give.ensures.tells run.terms h.taken (subst (λ (k : Connection). IsOpen run.terms h.taken (x ∷ []) k) (sym was) h.is) in
     let told = holds_told start now came x c.of-pair.result c.in-Ok.connection es run c.give.new.self (ap (λ (k : Run). k.terms) rest)
-    (ap (λ (k : Run). k.start) rest) (ap (λ (k : Run). k.lost) rest) tells h in
+    (ap (λ (k : Run). k.start) rest) (ap (λ (k : Run). k.lost) rest) (ap (λ (k : Run). k.begun) rest) tells h in
     let S : Terms → Type 0 = λ t. (taken : List Arrival) → IsOpen t taken (x ∷ []) c.in-Ok.connection.value → IsOpen t (taken ++ x ∷ []) [] c.give.new.connection in
     let takes = subst S (sym (ap (λ (k : Run). k.terms) rest)) (subst R was (c.give.ensures.takes run.terms)) in
     c.put.ensures.goes start now (came ++ x ∷ [])
@@ -39,7 +39,7 @@ returns-in-Err-give-clause-goes c start now came i =
     stops_more start now came (x ∷ []) c.give.new.self
     (holds_stop start now came x c.of-pair.result c.in-Ok.connection es c.give.new.self
     (holds_told start now came x c.of-pair.result c.in-Ok.connection es run c.give.new.self (ap (λ (k : Run). k.terms) rest) (ap (λ (k : Run). k.start) rest)
-    (ap (λ (k : Run). k.lost) rest) tells h))
+    (ap (λ (k : Run). k.lost) rest) (ap (λ (k : Run). k.begun) rest) tells h))
 
 pub returns-in-Err-clause-goes : goal.returns-in-Err-clause-goes
 returns-in-Err-clause-goes c start now came i = stops_more start now came (arrived c.args.segment.now c.args.when ∷ []) _ (c.in-Err.ensures.finds start now came i)

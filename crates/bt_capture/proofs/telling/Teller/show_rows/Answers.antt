@@ -1,6 +1,6 @@
 use Rattle.std.proofs.Common.{◌∙◌, ◌++◌, ℕ, List, ap, refl}
 use Rattle.bt_capture.proofs.InOrder.{shown_more}
-use Rattle.bt_capture.proofs.telling.Teller.show.Goals as goal
+use Rattle.bt_capture.proofs.telling.Teller.show_rows.Goals as goal
 
 pub returns-clause-told : goal.returns-clause-told
 returns-clause-told c h start now reports t =

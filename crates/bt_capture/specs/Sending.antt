@@ -1,0 +1,27 @@
+-- The bytes of a connection's side that are handed out, by the segments that the connection took.
+use Rattle.bt_talk.specs.declared.terms.Terms.{Terms}
+use Rattle.std.specs.Prelude.{◌≡◌, ◌⊎◌, ℕ, ◌+◌, ◌-◌, ◌^◌, min, false, List, [], ◌++◌}
+use Rattle.bt_remarks.specs.declared.events.Side.{Side}
+use Rattle.bt_talk.specs.Sent.{IsSent}
+use Rattle.bt_talk.specs.Talks.{is_in_opening, is_lost, of_side}
+use Rattle.bt_capture.specs.Arrivals.{Arrival}
+use Rattle.bt_capture.specs.Connections.{IsMade}
+use Rattle.bt_capture.specs.declared.connection.Connection.{Connection}
+use Rattle.bt_capture.specs.declared.connections.Run.{Run}
+
+-- The connection took these segments, and these bytes of the side were handed out, if memory didn't run out.
+abbrev pub HasSent : Side → List ℕ → Terms → (taken more : List Arrival) → Connection → Type 0
+HasSent side sent terms taken more c =
+    is_lost c.talk ≡ false → (m : IsMade terms taken more c.talk) × IsSent (is_in_opening c.talk) (of_side side m.a m.b) sent
+
+-- The connection is over: it took these segments, and these are all bytes of the side's stream from its handshake on, or from its first byte
+-- if none started in the opening.
+abbrev pub IsWhole : Side → List ℕ → Terms → List Arrival → Connection → Type 0
+IsWhole side sent terms taken c = (m : IsMade terms taken [] c.talk) × IsSent false (of_side side m.a m.b) sent
+
+-- These bytes were appended to what is told, and with them all of the side's stream was; or memory ran out, and the connection is counted as
+-- lost.
+pub record IsSentOff (side : Side) (sent : List ℕ) (terms : Terms) (taken : List Arrival) (c : Connection) (old new : Run) : Type 0 where
+  pub more : List ℕ
+  pub text : new.teller.text.items ≡ old.teller.text.items ++ more
+  pub whole : (new.lost ≡ min (old.lost + 1) (2 ^ 64 - 1)) ⊎ IsWhole side (sent ++ more) terms taken c
