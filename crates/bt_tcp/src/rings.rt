@@ -1,5 +1,5 @@
 //! The reassembly window as a ring over the caller's memory.
-ghost use Rattle.std.specs.Prelude.{◌≡◌, ℕ, ◌+◌, ◌-◌, ◌<◌, ◌≤◌, ◌^◌, true, false, List, [], length, slice_index_or, None, OnOk, nat_le};
+ghost use Rattle.std.specs.Prelude.{◌≡◌, ℕ, ◌+◌, ◌-◌, ◌<◌, ◌≤◌, ◌^◌, true, false, List, [], length, slice_index_or, None, OnOk, OnErr, nat_le};
 ghost use Rattle.bt_tcp.specs.Bits.{places, flag};
 ghost use Rattle.bt_tcp.specs.Segments.{Segment, or_else, byte_in};
 ghost use Rattle.bt_tcp.specs.Cells.{slot_of, is_known, ring, IsRing, IsWritten};
@@ -162,6 +162,27 @@ fn turn_flags(known: &[u8], len: usize, head: usize, to: &mut [u8])
 {
     bits::copy(known, head, len - head, to, 0);
     bits::copy(known, 0, head, to, len - head);
+}
+
+/// Adds bytes of flags that are 0, and turns the flags, so that the one at `head` is the first.
+fn lengthen_flags(
+    known: &mut Vec<u8>,
+    len: usize,
+    head: usize,
+    more: usize,
+) -> Result<(), AllocError>
+    requires len { len ≡ places known.old.items }
+    requires head { head < len }
+    ensures err { OnErr result (known.new.items ≡ known.old.items) }
+    ensures len { OnOk result (length known.new.items ≡ length known.old.items + more) }
+    ensures turned { OnOk result ((k : ℕ) → k < len → flag known.new.items k ≡ flag known.old.items (slot_of len head k)) }
+    ensures rest { OnOk result ((k : ℕ) → len ≤ k → flag known.new.items k ≡ false) }
+{
+    let before = known.clone()?;
+    known.reserve_exact(more)?;
+    known.resize(known.len() + more, 0)?;
+    turn_flags(&before, len, head, known);
+    Ok(())
 }
 
 /// One direction's place in its stream.
@@ -371,12 +392,9 @@ impl Ring {
             return Ok(());
         }
         let more = (count - len).div_ceil(8);
-        let before = known.clone()?;
-        known.reserve_exact(more)?;
         bytes.reserve_exact(more.saturating_mul(8))?;
-        known.resize(known.len() + more, 0)?;
+        lengthen_flags(known, len, self.head, more)?;
         bytes.resize(len + more * 8, 0)?;
-        turn_flags(&before, len, self.head, known);
         turn(bytes, len, self.head);
         self.head = 0;
         Ok(())
