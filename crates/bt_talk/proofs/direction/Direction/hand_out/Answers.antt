@@ -11,5 +11,6 @@ returns-in_ok-extend_from_slice-in-Opening c = λ terms p other d o.
     let start = unwrap_or c.start.result 0 in
     let n : c.min-start.result ≡ min start (length front) = omega (arith, c.min-start.ensures, c.unwrap_or.ensures, c.len.ensures) in
     let kept : c.split_at.result.1.now ≡ drop start p.out =
-    c.split_at.ensures.back ∙ ap (drop c.min-start.result) c.deref.ensures.value ∙ ap (λ (k : ℕ). drop k front) n ∙ drop_min start front ∙ ap (drop start) s.0 in
+    c.split_at.ensures.back ∙ ap (drop c.min-start.result) c.deref.ensures.value ∙ ap (λ (k : ℕ). drop k front) n ∙ drop_min start front
+    ∙ ap (drop start) s.0 in
     (c.start.result, c.start.ensures p.front d.intro, c.in_ok-extend_from_slice-in-Opening.ensures.items ∙ ap (λ (l : List ℕ). c.args.out.now.items ++ l) kept)

@@ -12,7 +12,9 @@ returns-in_ok-hand_out-in-Some-clause-sent c = λ a b side t o w e.
     let k = c.in-Some.side in
     let p = of_side k a b in
     let d = c.direction.result.now in
-    let x = c.in_ok-hand_out-in-Some.ensures self.terms p (of_side (other k) a b) (found k a b self d c.direction.ensures t) (opening_of k a b self d c.direction.ensures t ∙ o) in
+    let is = found k a b self d c.direction.ensures t in
+    let opens = opening_of k a b self d c.direction.ensures t ∙ o in
+    let x = c.in_ok-hand_out-in-Some.ensures self.terms p (of_side (other k) a b) is opens in
     let same : k ≡ side = ap (λ (z : Option Side). unwrap_or z side) (sym c.in-Some.is ∙ w) in
     subst (λ (s : Side). IsSent false (of_side s a b) c.hand_out.new.out.items) same
     (record { start = x.0; is_start = λ _. x.1; is = x.2 ∙ ap (λ (l : List ℕ). l ++ drop (unwrap_or x.0 0) p.out) e })
