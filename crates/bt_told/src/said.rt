@@ -188,6 +188,9 @@ fn one(name: Name, n: u32) -> Words
 }
 
 /// Returns the words of a message.
+///
+/// It is inlined, so that a caller that knows the kind of the message doesn't look at it again.
+#[inline(always)]
 #[tactic(auto, unfolding(json::specs::Print::escape_byte, json::specs::Print::print_from, bt_json::specs::Objects::a_field))]
 fn message_in(message: &MessageView) -> Words
     ensures text { words_text result ≡ message_words (message_of message.now) }
@@ -238,6 +241,7 @@ fn message_in(message: &MessageView) -> Words
 
 impl Words {
     /// Returns the words of an item.
+    #[inline(always)]
     pub fn of(view: &View) -> Words
         ensures text { words_text result ≡ words_of_item (item_of view.now) }
         ensures fields { IsItemShown (item_of view.now) result }
