@@ -21,6 +21,9 @@ const REDRAW: u64 = 1_000;
 /// What clears the line of a terminal.
 const CLEAR: &[u8] = b"\r\x1b[K";
 
+/// What goes back to the line's start, so that text on the same terminal takes its place.
+const BACK: &[u8] = b"\r";
+
 /// Tells whether a file with this many bytes is long enough that it is shown how much of it is read.
 pub fn is_long(size: u64) -> bool
     ensures { result ≡ is_long_by size }
@@ -112,6 +115,7 @@ impl<'a, R: Clock, S, E: Target> Shown<'a, R, S, E> {
         self.is_shown = true;
         say(CLEAR, self.errors);
         say(line.as_slice(), self.errors);
+        say(BACK, self.errors);
     }
 
     /// Removes the line, if it stands there.

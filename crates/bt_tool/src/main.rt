@@ -29,7 +29,6 @@ fn main(rt: HostRuntime) -> ExitCode {
     let is_gone = Cell::new(false);
     let is_terminal = rt.stdin().is_terminal();
     let is_watched = stderr.is_terminal();
-    let is_piped = !rt.stdout().is_terminal();
     let mut program = Program::new(
         &rt,
         io::writer(&rt),
@@ -37,7 +36,6 @@ fn main(rt: HostRuntime) -> ExitCode {
         &is_gone,
         is_terminal,
         is_watched,
-        is_piped,
     );
     let status = match words(&rt) {
         Ok(words) => match asked(rt.alloc(), &words, SOURCES) {

@@ -74,8 +74,6 @@ pub struct Program<'a, R, W, E> {
     is_terminal: bool,
     /// Standard error is a terminal.
     is_watched: bool,
-    /// Standard output is none.
-    is_piped: bool,
 }
 
 /// An input: standard input, or a file.
@@ -95,7 +93,6 @@ impl<'a, R: Files + Input + Net + Clock + RandomSource + AllocGlobal, W: Write, 
         is_gone: &'a Cell<bool>,
         is_terminal: bool,
         is_watched: bool,
-        is_piped: bool,
     ) -> Program<'a, R, W, E> {
         let writer = Host::new(Piped::new(writer, is_gone));
         let errors = Host::new(errors);
@@ -106,7 +103,6 @@ impl<'a, R: Files + Input + Net + Clock + RandomSource + AllocGlobal, W: Write, 
             is_gone,
             is_terminal,
             is_watched,
-            is_piped,
         }
     }
 
@@ -327,9 +323,9 @@ impl<'a, R: Files + Input + Net + Clock + RandomSource + AllocGlobal, W: Write, 
         }
     }
 
-    /// Returns the size of a long file, if how much of it is read is to be shown: on a terminal that gets nothing else.
+    /// Returns the size of a long file, if how much of it is read is to be shown.
     fn long_size(&self, name: &str) -> Option<u64> {
-        if !self.is_watched || !self.is_piped || is_input(name) {
+        if !self.is_watched || is_input(name) {
             return None;
         }
         let found = fs::metadata(self.host, name).ok()?;
