@@ -8,7 +8,7 @@ _bt_tool() {
     unpack) options='--reserved --pieces --metadata-id --donthave-id --info-hash --other --rules --limit --hints --help' ;;
     pack) options='--reserved --pieces --metadata-id --donthave-id --info-hash --other --rules --limit --hints --help' ;;
     link) options='--help' ;;
-    capture) options='--pieces --torrent --limit --show --json --help' ;;
+    capture) options='--pieces --torrent --limit --show --stream --json --help' ;;
     loop) options='--rules --limit --help' ;;
     fetch) options='--peers --at-once --rules --limit --timeout --window --max-size --torrent --json --help' ;;
     serve) options='--listen --rules --limit --timeout --exit-after --max-connections --help' ;;
@@ -20,7 +20,7 @@ _bt_tool() {
     case $before in
     --rules) values='free bep' ;;
     --hints) values='always never auto' ;;
-    --reserved | --pieces | --metadata-id | --donthave-id | --info-hash | --limit | --at-once | --timeout | --window | --max-size | --listen | --exit-after | --max-connections) return ;;
+    --reserved | --pieces | --metadata-id | --donthave-id | --info-hash | --limit | --stream | --at-once | --timeout | --window | --max-size | --listen | --exit-after | --max-connections) return ;;
     esac
     case $word in
     -*) values=$options ;;

@@ -56,6 +56,7 @@ complete -c bt_tool -n '__fish_seen_subcommand_from capture' -l pieces -x -d 'Nu
 complete -c bt_tool -n '__fish_seen_subcommand_from capture' -l torrent -r -d 'A .torrent, whose piece count the connections with its info hash have'
 complete -c bt_tool -n '__fish_seen_subcommand_from capture' -l limit -x -d 'Greatest length of a message, without its prefix: 1 to 1048576'
 complete -c bt_tool -n '__fish_seen_subcommand_from capture' -l show -d 'Prints a row for each item, refusal, gap and close too, as it comes'
+complete -c bt_tool -n '__fish_seen_subcommand_from capture' -l stream -x -d 'Writes only the stream of one side, as 0-A: what side A of connection 0 sent'
 complete -c bt_tool -n '__fish_seen_subcommand_from capture' -l json -d 'Prints a JSON object a line: one for each connection, and with \'--show\' one for each row'
 complete -c bt_tool -n '__fish_seen_subcommand_from capture' -l help -s h -d 'Print help'
 complete -c bt_tool -n '__fish_seen_subcommand_from loop' -l rules -x -a 'free bep' -d 'Rules: \'free\' (lenient) or \'bep\' (strict)'
