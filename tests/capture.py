@@ -3,18 +3,21 @@
 
 usage: tests/capture.py [PROGRAM]
 
-PROGRAM is the built bt_tool, or else the script at the top of the repository. The objects of `--json` say what the lines of the text
-say, and nothing else. With `--show` the rows stand before the report, and reports are the same. `bt_tool check` gives the verdicts
-that are printed on the streams that were sent, with the options that are printed, and `show` the rows, whose remarks are those of the
-report; `--stream` writes these streams. The sentences on reasons that bt_told defines have the words of tools/reasons.json, and that
-has what docs/RULES.md says. Where tcpdump is installed and may capture, two ends talk over loopback, and their capture is read too.
+PROGRAM is the built bt_tool, or else the script at the top of the repository. The objects of `--json` say what the lines of the
+text say, and nothing else. With `--show` the rows stand before the report, and reports are the same. `bt_tool check` gives the
+verdicts that are printed on the streams that were sent, with the options that are printed, and `show` the rows, whose remarks are
+those of the report; `--stream` writes these streams. A terminal shows how much of a long file is read. The sentences on reasons
+that bt_told defines have the words of tools/reasons.json, and that has what docs/RULES.md says. Where tcpdump is installed and may
+capture, two ends talk over loopback, and their capture is read too.
 """
 import json
 import os
+import pty
 import re
 import select
 import shutil
 import socket
+import struct
 import subprocess
 import sys
 import tempfile
@@ -314,6 +317,46 @@ def is_live(program):
         return steps > 3 and len(rows) > 8
 
 
+def drawn(program, path, on_terminal):
+    """What a run says on standard error, a terminal or a pipe, while its rows are read only after more than a second."""
+    ours, theirs = pty.openpty() if on_terminal else os.pipe()
+    with subprocess.Popen([program, "capture", "--show", path], stdout=subprocess.PIPE, stderr=theirs) as running:
+        os.close(theirs)
+        time.sleep(1.2)
+        running.stdout.read()
+    said = b""
+    while select.select([ours], [], [], 1)[0]:
+        try:
+            more = os.read(ours, 65536)
+        except OSError:
+            break
+        if not more:
+            break
+        said += more
+    os.close(ours)
+    return said
+
+
+def is_drawn(program, folder):
+    """Whether a terminal shows how much of a file of over 64 MB is read, and at the end nothing of it; a pipe and a shorter file get nothing."""
+    talk, hands = made.Talk(), made.handshakes(reserved="00" * 8)
+    talk.say("B", hands[1]).say("A", hands[0] + made.message(b"\x02") * 8000)
+    link, framed = made.frames(talk.packets)
+    path = keep(folder, "long", made.pcap((link, framed)))
+    few = drawn(program, path, True)
+    size = os.path.getsize(path)
+    # packets of a million zeros, which aren't IP: the file has no memory for them
+    with open(path, "r+b") as file:
+        for k in range(70):
+            file.seek(size + 1000016 * k)
+            file.write(struct.pack("<4I", 1000, 0, 1000000, 1000000))
+        file.truncate(size + 1000016 * 70)
+    many, piped = drawn(program, path, True), drawn(program, path, False)
+    os.remove(path)
+    line = rb"\r\x1b\[Kcapture: \d+ of %d MB\r" % ((size + 1000016 * 70) // 10 ** 6)
+    return bool(re.fullmatch(rb"(%s)+\r\x1b\[K" % line, many)) and not few and not piped
+
+
 def keep(folder, name, data):
     path = os.path.join(folder, name)
     with open(path, "wb") as file:
@@ -409,6 +452,7 @@ def differences(program, folder):
             yield "" if is_same else name + ": check gives other verdicts with these options"
             yield from row_differences(program, paths, row)
     yield "" if is_live(program) else "rows of a pipe don't come with their packets"
+    yield "" if is_drawn(program, folder) else "how much of a file is read"
     yield "" if made.example("refused.pcap") == made.fault()[0] else "examples/refused.pcap isn't the capture of a fault"
     for reason in other_words():
         yield "%s has other words in bt_told than in tools/reasons.json" % reason
