@@ -1,11 +1,10 @@
 //! How many remarks there are, and the first of each.
-ghost use Rattle.std.specs.Prelude.{◌≡◌, [], true, IfOk};
+ghost use Rattle.std.specs.Prelude.{◌≡◌, [], true};
 ghost use Rattle.bt_remarks.specs.declared.events.Side.{Side};
 ghost use Rattle.bt_remarks.specs.Remarked.{found_after, tally_after, tally_of};
 ghost use Rattle.bt_remarks.specs.Steps.{found_has_room, tally_has_room};
 
 use crate::events::{Block, Remarks};
-use std::alloc::AllocError;
 
 /// The events of a side that have a remark.
 #[derive(Clone, Copy, Debug, PartialEq, Eq)]
@@ -46,22 +45,6 @@ impl Found {
         count: 0,
         first: None,
     };
-
-    /// Counts an event, if it has the remark.
-    fn with(self, is_remarked: bool, mark: u64) -> Result<Found, AllocError>
-        ensures { IfOk result (λ found. found ≡ found_after is_remarked mark self) }
-    {
-        if !is_remarked {
-            return Ok(self);
-        }
-        match self.count.checked_add(1) {
-            None => Err(AllocError),
-            Some(count) => Ok(Found {
-                count,
-                first: Some(self.first.unwrap_or(mark)),
-            }),
-        }
-    }
 
     /// Tells whether an event can be counted, if it has the remark.
     #[inline(always)]
@@ -105,21 +88,6 @@ impl Tally {
             again: Found::NOTHING,
             elsewhere: Found::NOTHING,
         }
-    }
-
-    /// Counts an event with its remarks.
-    ///
-    /// # Errors
-    /// `AllocError` if there are 2^64 of a remark.
-    pub fn with(self, remarks: Remarks, mark: u64) -> Result<Tally, AllocError>
-        ensures { IfOk result (λ tally. tally ≡ tally_after remarks mark self) }
-    {
-        Ok(Tally {
-            unasked: self.unasked.with(remarks.unasked, mark)?,
-            choked: self.choked.with(remarks.choked, mark)?,
-            again: self.again.with(remarks.again, mark)?,
-            elsewhere: self.elsewhere.with(remarks.elsewhere, mark)?,
-        })
     }
 
     /// Tells whether an event with these remarks can be counted.
