@@ -4,11 +4,11 @@
 usage: tests/capture.py [PROGRAM]
 
 PROGRAM is the built bt_tool, or else the script at the top of the repository. The objects of `--json` say what the lines of the
-text say, and nothing else. With `--show` the rows stand before the report, and reports are the same. `bt_tool check` gives the
-verdicts that are printed on the streams that were sent, with the options that are printed, and `show` the rows, whose remarks are
-those of the report; `--stream` writes these streams. A terminal shows how much of a long file is read. The sentences on reasons
-that bt_told defines have the words of tools/reasons.json, and that has what docs/RULES.md says. Where tcpdump is installed and may
-capture, two ends talk over loopback, and their capture is read too.
+text say, and nothing else, by names that docs/COMMANDS.md has. With `--show` the rows stand before the report, and reports are the
+same. `bt_tool check` gives the verdicts that are printed on the streams that were sent, with the options that are printed, and `show`
+the rows, whose remarks are those of the report; `--stream` writes these streams. A terminal shows how much of a long file is read. The
+sentences on reasons that bt_told defines have the words of tools/reasons.json, and that has what docs/RULES.md says. Where tcpdump is
+installed and may capture, two ends talk over loopback, and their capture is read too.
 """
 import json
 import os
@@ -27,6 +27,7 @@ import time
 sys.dont_write_bytecode = True
 sys.path.insert(0, os.path.dirname(os.path.abspath(__file__)))
 import captures  # noqa: E402
+import json_lines  # noqa: E402
 import judged  # noqa: E402
 import made_captures as made  # noqa: E402
 
@@ -42,6 +43,9 @@ def unique(pairs):
 def item_of(item):
     """An item's offset and words."""
     offset, name, *values = item.values()
+    if name == "handshake":
+        text = values.pop()
+        assert text == item["peer_id_text"] == json_lines.text_of(bytes.fromhex(item["peer_id"])), item
     if name == "ext-handshake":
         values = values[:2] + ["size=%s" % item.get("metadata_size", "-"), "ut_metadata=%s" % item.get("ut_metadata", "-")]
     return " ".join(map(str, [offset, name, *values]))
@@ -151,7 +155,7 @@ def lines_of(line):
     text = "connection %d  A %s > B %s" % (found.pop("connection"), found.pop("a"), found.pop("b"))
     if not found.pop("bittorrent"):
         assert not found, found
-        return text + "  no BitTorrent handshake: encrypted, another protocol, or begun before the capture\n"
+        return text + "  no BitTorrent handshake: encrypted, another protocol, or its start isn't in the capture\n"
     sides = [(side, found.pop("from_" + side.lower())) for side in "AB"]
     lines = [line for side, way in sides for line in direction_lines(side, way)]
     lines += closing_lines(found.pop("closed", None))
@@ -163,6 +167,10 @@ def lines_of(line):
 def read(name):
     with open(os.path.join(ROOT, name), encoding="utf8") as file:
         return file.read()
+
+
+# What docs/COMMANDS.md names.
+NAMES = set(re.findall(r"`(\w+)`", read("docs/COMMANDS.md")))
 
 
 def words_of(reason, text):
@@ -282,6 +290,19 @@ def is_remarked_again(out, shown):
     return sorted(found) == sorted(noted_in(out))
 
 
+def is_gap_placed(program, folder):
+    """Whether the gap of a side without a captured byte is shown at its connection's first packet, as a line and as an object."""
+    capture = made.one_side()
+    paths, segments = {"CAPTURE": keep(folder, "one-side", capture)}, captures.segments_of(capture)
+    number, first = next((number, it) for number, it in enumerate(segments, 1) if it.ends[0] == made.B)
+    seconds = "%d.%06d" % divmod((first.nanos - segments[0].nanos) // 1000, 10 ** 6)
+    row = {"connection": 1, "time": seconds, "packet": number, "side": "A", "offset": 0, "gap": len(made.FETCHING)}
+    objects = run(program, paths, ["--show", "--json", "CAPTURE"]).stdout.decode().splitlines()
+    objects = [it for it in (json.loads(line, parse_float=str) for line in objects) if "gap" in it]
+    lines = [line for line in run(program, paths, ["--show", "CAPTURE"]).stdout.decode().splitlines(True) if "(gap of " in line]
+    return objects == [row] and lines == [row_of(dict(row))]
+
+
 def lines_within(seconds, pipe, count):
     """The next lines of a pipe, `count` of them or as many as come in time."""
     text, end = b"", time.monotonic() + seconds
@@ -315,6 +336,37 @@ def is_live(program):
                     return False
         running.stdin.close()
         return steps > 3 and len(rows) > 8
+
+
+def is_told_when_over(program):
+    """Whether a report comes with the first packet of any connection four seconds after the end, while the pipe stays open."""
+    later = made.Talk().packets[:1]
+    later[0].at = 5000
+    link, framed = made.frames(made.talk())
+    framed += made.frames(later, ends=(("10.0.0.9", 9), made.B))[1]
+    with subprocess.Popen([program, "capture", "-"], stdin=subprocess.PIPE, stdout=subprocess.PIPE) as running:
+        running.stdin.write(made.pcap((link, framed)))
+        running.stdin.flush()
+        found = lines_within(5, running.stdout, made.WHOLE.count("\n"))
+        running.stdin.close()
+        return "".join(found) == made.WHOLE
+
+
+def is_kept(program):
+    """Whether an open connection that is idle is read whole, though 20,000 others come and end meanwhile."""
+    idle, half = made.talk(), 30
+    for it in idle[half:]:
+        it.at += 10 ** 6
+    link, framed = made.frames(idle[:half])
+    for k in range(20_000):
+        brief = made.Talk().say("A", b"?").close("A").packets
+        for it in brief:
+            it.at += 100 + 20 * k
+        framed += made.frames(brief, ends=(("10.1.%d.%d" % divmod(k, 250), 1024 + k), made.B))[1]
+    framed += made.frames(idle[half:])[1]
+    done = subprocess.run([program, "capture", "-"], input=made.pcap((link, framed)), capture_output=True, timeout=100)
+    wanted = made.WHOLE.replace("at 0.057000", "at 1000.057000")
+    return done.returncode == 0 and [line for line in done.stdout.decode().split("connection ") if ":51413 > " in line] == [wanted[11:]]
 
 
 def drawn(program, path, on_terminal):
@@ -391,12 +443,27 @@ def difference(name, given, done, found, wanted):
         name, given, found, out, done.stderr, done.returncode)
 
 
+def names_in(value):
+    """The names of the members of an object, and of those in it."""
+    if isinstance(value, dict):
+        yield from value
+        for member in value.values():
+            yield from names_in(member)
+
+
+def undocumented(lines):
+    """The names in objects on a line each that docs/COMMANDS.md doesn't have, and that aren't remarks."""
+    return sorted({name for line in lines.splitlines() for name in names_in(json.loads(line))} - {*NAMES, *REMARKS})
+
+
 def report_differences(program, paths, row):
     """What is wrong with each run that writes reports."""
     name, words, capture, *wanted = row
     for given, data, is_json, has_rows in runs_of(words, capture):
         done = run(program, paths, given, data)
         found = done.stdout.decode()
+        missing = undocumented(found) if is_json else []
+        yield "%s: docs/COMMANDS.md doesn't have %s" % (name, ", ".join(missing)) if missing else ""
         found = text_told(found) if is_json else found
         yield difference(name, given, done, without_rows(found) if has_rows else found, wanted)
 
@@ -424,10 +491,10 @@ def streams_in(capture):
 
 def stream_differences(program, paths, row):
     """What is wrong with each run that writes a stream. If there is none, it may be said in either way."""
-    name, words, capture, _, errors, status = row
+    name, words, capture, out, errors, status = row
     if "--show" in words:
         return
-    streams = streams_in(capture) if status < 2 else {}
+    streams = streams_in(capture) if out else {}
     errors = b"connection" if errors.startswith(b"no BitTorrent") else errors
     for which, stream in (streams or {"0-A": b""}).items():
         for given, data in ([*words, "--stream", which, "CAPTURE"], None), ([*words, "--stream", which, "-"], capture):
@@ -436,7 +503,7 @@ def stream_differences(program, paths, row):
     if streams:
         given = [*words, "--stream", "9-A", "CAPTURE"]
         done = run(program, paths, given)
-        yield difference(name, given, done, done.stdout, (b"", b"no connection 9", 3))
+        yield difference(name, given, done, done.stdout, (b"", errors if b"fault" in errors else b"no connection 9", 3))
 
 
 def differences(program, folder):
@@ -452,7 +519,10 @@ def differences(program, folder):
             yield "" if is_same else name + ": check gives other verdicts with these options"
             yield from row_differences(program, paths, row)
     yield "" if is_live(program) else "rows of a pipe don't come with their packets"
+    yield "" if is_told_when_over(program) else "a report doesn't come when its connection is over"
+    yield "" if is_kept(program) else "an idle connection isn't read whole"
     yield "" if is_drawn(program, folder) else "how much of a file is read"
+    yield "" if is_gap_placed(program, folder) else "a gap of a side without a byte isn't shown at its connection's first packet"
     yield "" if made.example("refused.pcap") == made.fault()[0] else "examples/refused.pcap isn't the capture of a fault"
     for reason in other_words():
         yield "%s has other words in bt_told than in tools/reasons.json" % reason

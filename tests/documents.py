@@ -15,7 +15,7 @@ It also looks whether these are right:
 - the blocks of docs/RATTLE.md are parts of the examples, and those of doc comments parts of a crate's code;
 - the mutants, laws, calls, files and names of docs/PROVED.md, docs/API.md, docs/ARCHITECTURE.md, docs/DEFINITIONS.md, docs/RATTLE.md
   and docs/C.md are there, and no crate, law or crate of the toolchain is missing in them;
-- docs/COMMANDS.md has the usage of each command, and it or docs/FETCH.md each option.
+- docs/COMMANDS.md has the usage of each command, and it or docs/FETCH.md each option; the commands on streams have the options that it says.
 """
 import glob
 import os
@@ -271,6 +271,16 @@ def unhelped(program):
     return wrong
 
 
+def other_options(program):
+    """The commands on a stream whose options aren't those of show, as docs/COMMANDS.md says: without --json, and check has other rules."""
+    pages = help_texts.pages(program)[1]
+    rows = {name: [(it["name"], it["value"], it["text"]) for it in pages[name].options()] for name in ("show", "check", "unpack", "pack")}
+    wanted = [it for it in rows["show"] if it[0] != "json"]
+    strict = [(name, value, text.replace("[default: free]", "[default: bep]")) for name, value, text in wanted]
+    wrong = [name for name in ("check", "unpack", "pack") if rows[name] != (strict if name == "check" else wanted)]
+    return ["docs/COMMANDS.md: %s has other options than show\n" % name for name in wrong]
+
+
 def dead_links(document):
     """The links to files and to headings that aren't there."""
     folder, text, wrong = os.path.dirname(os.path.join(ROOT, document)), content(os.path.join(ROOT, document)).decode(), []
@@ -340,7 +350,7 @@ def main():
     wrong += fragments()
     if subprocess.run([program, "--version"], stdout=subprocess.DEVNULL).returncode:
         sys.exit("documents: failed: %s --version" % program)
-    wrong += unhelped(program)
+    wrong += unhelped(program) + other_options(program)
     counts = Counter()
     for document in documents:
         with tempfile.TemporaryDirectory(prefix="documents-") as folder:

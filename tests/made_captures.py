@@ -11,6 +11,7 @@ import struct
 ROOT = os.path.dirname(os.path.dirname(os.path.abspath(__file__)))
 FIN, SYN, RST, ACK = 1, 2, 4, 16
 A, B = ("10.0.0.1", 51413), ("10.0.0.2", 6881)
+NOW = 1_795_000_000  # read as a length it is no packet's
 
 
 def example(name):
@@ -73,7 +74,8 @@ def ipv4(packet, ends, total=None):
 
 def ipv6(packet, ends, options=b""):
     tcp = packet.tcp([port for _, port in ends])
-    hosts = b"".join(bytes(14) + bytes([int(host.split(".")[0]), int(host.split(".")[3])]) for host, _ in ends)
+    hosts = b"".join(socket.inet_pton(socket.AF_INET6, host) if ":" in host else bytes(14) + bytes([int(host.split(".")[0]), int(host.split(".")[3])])
+                     for host, _ in ends)
     return struct.pack(">IHBB", 6 << 28, len(options) + len(tcp), 0 if options else 6, 64) + hosts + options + tcp
 
 
@@ -119,13 +121,13 @@ def offloaded(packet, ends):
     return ipv4(packet, ends, 0)
 
 
-def pcap(framed, order="<", nano=False, snap=None):
+def pcap(framed, order="<", nano=False, snap=None, since=1000):
     link, found = framed
-    file = struct.pack(order + "IHHIIII", 0xA1B23C4D if nano else 0xA1B2C3D4, 2, 4, 0, 0, 262144, link)
+    parts = [struct.pack(order + "IHHIIII", 0xA1B23C4D if nano else 0xA1B2C3D4, 2, 4, 0, 0, 262144, link)]
     for at, frame in found:
-        file += struct.pack(order + "4I", 1000 + at // 1000, at % 1000 * (10 ** 6 if nano else 1000),
-                            len(frame[:snap]), len(frame)) + frame[:snap]
-    return holding(File(file), packets=packets_of(found, snap))
+        parts.append(struct.pack(order + "4I", since + at // 1000, at % 1000 * (10 ** 6 if nano else 1000),
+                                 len(frame[:snap]), len(frame)) + frame[:snap])
+    return holding(File(b"".join(parts)), packets=packets_of(found, snap))
 
 
 def packets_of(found, snap=None):
@@ -170,7 +172,7 @@ CLOSE = """  A closed first, by FIN, at 0.057000 s
 """
 NAMES = "connection 0  A 10.0.0.1:51413 > B 10.0.0.2:6881\n"
 WHOLE = NAMES + A_LINES + B_LINES + CLOSE
-WHOLE6 = "connection 0  A [0:0:0:0:0:0:0:a01]:51413 > B [0:0:0:0:0:0:0:a02]:6881\n" + A_LINES + B_LINES + CLOSE
+WHOLE6 = "connection 0  A [::a01]:51413 > B [::a02]:6881\n" + A_LINES + B_LINES + CLOSE
 
 
 def talk(**how):
@@ -265,6 +267,15 @@ def gaps():
     yield "one direction's start lost", pcap(frames(without(3))), lines
 
 
+def one_side():
+    """Only B's packets of a connection, after three packets of another one. The acknowledgements tell that A sent FETCHING."""
+    link, before = frames(Talk().packets, ends=(("10.0.0.3", 1024), ("10.0.0.4", 6881)))
+    said = [it for it in Talk().say("A", FETCHING).say("B", SERVING).packets if it.side == "B"]
+    for it in said:
+        it.at += len(before)
+    return pcap((link, before + frames(said)[1]))
+
+
 # ---- streams made by hand
 
 HASH = bytes.fromhex("a9993e364706816aba3e25717850c26c9cd0d89d")
@@ -324,6 +335,15 @@ def shown():
 """ % (LINE_A, LINE_B)
 
 
+def odd_peer_ids():
+    """A's peer id has bytes that are escaped in JSON, and two that are one letter in UTF-8; B's isn't UTF-8."""
+    found = Talk().say("A", hand(b'-AA"\\\n\t\x1f\xc3\xa4-000000000')).say("B", hand(20 * b"\xff"))
+    ok = "ok messages=0 bytes=68"
+    options = "--reserved 0000000000100005 --metadata-id 0"
+    lines = report('-AA"\\.....-000000000', 68, ok, ok) + report(20 * ".", 68, ok, ok, options, "B")
+    return pcap(frames(found.packets)), NAMES + lines + "  still open at the capture's end\n"
+
+
 def other_extension():
     """B has ut_metadata under 9 and another extension under 3, of which A sends a byte."""
     left, right = handshakes()
@@ -336,6 +356,19 @@ def other_extension():
     return pcap(frames(found.packets)), lines + report(
         "-BB0001-000000000000", size, *2 * ["ok messages=2 bytes=%d" % size], side="B"
     ) + "  still open at the capture's end\n"
+
+
+def gap_in_handshake():
+    """A's bytes 17 to 33 aren't in the capture; with B's handshake, and without it."""
+    left, right = handshakes()
+    found = Talk(17).say("A", left)
+    del found.packets[5]
+    alone = pcap(frames(found.packets))
+    guessed = "--reserved 0000000000100005 --metadata-id 0 (guessed: its receiver's handshake isn't there)"
+    lines = NAMES + "  A sent 17 bytes and no whole handshake\n    gap at 17: 17 bytes aren't in the capture\n" + empty_b(guessed)
+    yield pcap(frames(found.say("B", right).packets)), lines + "  still open at the capture's end\n", b"", 0
+    none = "  no BitTorrent handshake: encrypted, another protocol, or its start isn't in the capture\n"
+    yield alone, NAMES[:-1] + none, b"no BitTorrent connection in 10 packets", 3
 
 
 SHORT = "A message that takes back a piece has four bytes after its extended id, and this one has another number"
@@ -432,8 +465,8 @@ def twice():
     B had sent 68 bytes, last: %s
     A had sent 68 bytes, last: %s
 """ % (LINE_B, LINE_A) + NAMES.replace("0", "1", 1) + both + """  still open at the capture's end
-connection 2  A 10.0.0.3:999 > B 10.0.0.4:80  no BitTorrent handshake: encrypted, another protocol, or begun before \
-the capture
+connection 2  A 10.0.0.3:999 > B 10.0.0.4:80  no BitTorrent handshake: encrypted, another protocol, or its start \
+isn't in the capture
 """
 
 
@@ -575,6 +608,42 @@ def open_requests():
         yield name, pcap(frames(packets)), NAMES + lines + "".join(ends if closer == "A" else ends[::-1]) + remark
 
 
+def explained(bits):
+    """Names, captures and lines. A lost segment may explain what else were remarked: the request of a block that comes, the unchoke
+    before a request, and the block before a have. After it its sender says one thing more, so its bytes are known to be missing."""
+    left, right = handshakes(reserved=bits)
+    left, right = left + message(b"\x0f"), right + message(b"\x0e")
+    unchoke, ask = message(b"\x01"), request(0, 0, 1)
+    for name, said, lost, answer in (("request", [("A", left), ("B", right + unchoke)], ("A", ask), ("B", block_of(0, 0))),
+                                     ("unchoke", [("A", left), ("B", right)], ("B", unchoke), ("A", ask)),
+                                     ("block", [("A", left), ("B", right + unchoke), ("A", ask)], ("B", block_of(0, 0)), ("A", have(0)))):
+        found = Talk()
+        for side, stream in said:
+            found.say(side, stream)
+        at = len(found.packets)
+        found.say(*lost).say(lost[0], message()).say(*answer)
+        packets = [it for k, it in enumerate(found.packets) if k != at]
+        known = {"A": "", "B": "", lost[0]: " (up to the gap)"}
+        lines = NAMES
+        for side, peer in (("A", "-AA0001-000000000000"), ("B", "-BB0001-000000000000")):
+            stream = b"".join(it for sender, it in (said if side == lost[0] else [*said, answer]) if sender == side)
+            count, rest = 0, stream[68:]
+            while rest:
+                count, rest = count + 1, rest[4 + int.from_bytes(rest[:4], "big"):]
+            verdict = "ok messages=%d bytes=%d%s" % (count, len(stream), known[side])
+            notes = "    gap at %d: %d bytes aren't in the capture\n" % (len(stream), len(lost[1])) if side == lost[0] else ""
+            lines += report(peer, len(stream), verdict, verdict, "--reserved %s --metadata-id 0" % bits, side, notes)
+        yield name, pcap(frames(packets)), lines + "  still open at the capture's end\n"
+
+
+def one_sided():
+    """Only A's packets: what A acknowledged of B is missing. The last acknowledgement is that of B's FIN."""
+    lines = A_LINES.replace("0000000000100005 --metadata-id 2 --donthave-id 7", UNKNOWN.split("--reserved ")[1].strip().replace("100005", "100004"))
+    lines += "  B sent 0 bytes and no whole handshake\n    gap at 0: 25890 bytes aren't in the capture\n"
+    close = CLOSE[:CLOSE.index("    B had")] + "    A had sent 278 bytes, last: 247 extended 2 25\n"
+    return pcap(frames([it for it in talk() if it.side == "A"])), NAMES + lines + close
+
+
 def late():
     """A closes before B's handshake is whole, and B sends the rest and a message."""
     bits = "0000000000000000"
@@ -666,19 +735,46 @@ def short():
 """ % (handshake_line(SERVING), handshake_line(FETCHING))
 
 
+def damaged():
+    """Files with impossible lengths after a whole connection, and files with the greatest lengths that are possible."""
+    long_record, long_block = (b"fault: capture: a %s file has an impossible length" % it for it in (b"record of a pcap", b"block of a pcapng"))
+    whole, blocks, most = pcap(frames(talk()), since=NOW), pcapng(frames(talk())), 2 ** 24
+    record = lambda size: struct.pack("<4I", NOW, 0, size, 1500)
+    make = lambda file, *parts: holding(File(b"".join((file, *parts))), packets=whole.packets)
+    yield "two files put together", make(whole, whole), long_record, 3
+    yield "a record of 16 MiB", make(whole[:24], record(most), bytes(most), whole[24:]), b"", 0
+    yield "a record of 16 MiB and a byte", make(whole, record(most + 1)), long_record, 3
+    yield "a packet block of 16 MiB", make(blocks, block("<", 6, bytes(20 + most))), b"", 0
+    yield "a packet block of 16 MiB and a byte", make(blocks, struct.pack("<II", 6, 33 + most)), long_block, 3
+    yield "a simple packet block of 16 MiB and a byte", make(blocks, struct.pack("<II", 3, 17 + most)), long_block, 3
+    yield "a longer block without a packet", make(blocks, struct.pack("<II", 5, 2 * most)), b"ends inside a packet", 0
+
+
+def six():
+    """A connection between hosts of IPv6, and how RFC 5952 (4.2 and 5) writes their addresses."""
+    for a, b, written in (("2001:db8:0:0:1:0:0:1", "2001:db8:0:1:1:1:1:1", ("2001:db8::1:0:0:1", "2001:db8:0:1:1:1:1:1")),
+                          ("2001:0:0:1:0:0:0:1", "0:0:0:0:0:ffff:192.0.2.1", ("2001:0:0:1::1", "::ffff:192.0.2.1")),
+                          ("FE80:0:0:0:0A00:20FF:FE00:0", "0:0:0:0:0:0:0:1", ("fe80::a00:20ff:fe00:0", "::1"))):
+        file = pcap(frames(talk(), ip=ipv6, ends=((a, A[1]), (b, B[1]))))
+        yield "IPv6 between %s and %s" % written, file, WHOLE.replace(NAMES, "connection 0  A [%s]:51413 > B [%s]:6881\n" % written)
+
+
 def rows():
     """Words, the capture, standard output, a part of standard error or b"" for none, the exit status, by name."""
     yield from ((name, [], file, WHOLE, b"", 0) for name, file in readings())
     yield "IPv6", [], pcap(frames(talk(), ip=ipv6)), WHOLE6, b"", 0
     option = lambda it, ends: ipv6(it, ends, b"\x06\x01" + bytes(14))
     yield "IPv6 with options", [], pcap(frames(talk(), ip=option)), WHOLE6, b"", 0
-    yield from ((name, [], file, lines, b"", 0) for name, file, lines in gaps())
+    yield from ((name, [], file, lines, b"", 0) for name, file, lines in [*six(), *gaps()])
+    yield from (("a gap in a handshake", [], *row) for row in gap_in_handshake())
     yield "a short snap length", [], pcap(frames(talk()), snap=200), short(), b"", 0
     yield "the first packet lost", [], pcap(frames(without(0))), WHOLE.replace("0.057000", "0.056000"), b"", 0
     whole = pcap(frames(talk()))
     yield "cut inside the last packet", [], holding(File(whole[:-1]), packets=whole.packets[:-1]), WHOLE, b"ends inside a packet", 0
+    yield "one side's packets", [], *one_sided(), b"", 0
     yield "a fault", ["--pieces", "38"], *fault(), b"", 1
     yield "a fault, shown", ["--pieces", "38", "--show"], fault()[0], shown() + fault()[1], b"", 1
+    yield "odd peer ids", [], *odd_peer_ids(), b"", 0
     yield "the id of another extension", [], *other_extension(), b"", 0
     yield "an id of lt_donthave", [], *donthave(), b"", 1
     yield "a piece that is taken back", [], *donthave(**TAKEN_BACK), b"", 0
@@ -698,12 +794,16 @@ def rows():
     yield "requests without an answer", [], *choked(), b"", 0
     yield "a request that is passed over", [], *passed_over(), b"", 0
     yield from (("an open request " + name, [], file, lines, b"", 0) for name, file, lines in open_requests())
+    # with the bit of the Extension Protocol the opening goes on to the end, and without it ends with the handshakes
+    for bits in ("0000000000100005", "0000000000000005"):
+        yield from (("explained by a lost " + name, [], file, lines, b"", 0) for name, file, lines in explained(bits))
     yield from ((name, words, file, lines, b"", status) for name, words, file, lines, status, _ in drops())
     yield "uTP", [], *utp(), b"no BitTorrent connection in 5 packets", 3
     yield "no packet", [], whole[:24], "", b"no BitTorrent connection in 0 packets", 3
     yield "no handshake", [], pcap(frames(Talk().packets)), "", b"no BitTorrent connection in 3 packets", 3
     yield "no capture", [], b"d8:announce", "", b"fault: capture: neither a pcap nor a pcapng file", 3
     yield "nothing", [], b"", "", b"fault: capture: neither a pcap nor a pcapng file", 3
+    yield from ((name, [], file, WHOLE, errors, status) for name, file, errors, status in damaged())
     yield "an impossible block", [], pcapng(frames([]))[:28] + bytes(8), "", b"fault: capture: a block of a pcapng file has an impossible length", 3
     yield "no torrent", ["--torrent", "CAPTURE"], whole, "", b"fault: torrent: ", 3
     yield "wrong words", ["--pieces", "x"], whole, "", b"'--pieces' takes a number", 2

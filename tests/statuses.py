@@ -603,7 +603,8 @@ REPORT_38 = (b'{"connection":0,"a":"10.0.0.1:51413","b":"10.0.0.2:6881","bittorr
              b'"closed":{"side":"B","by":"FIN","time":0.009000,'
              b'"a":{"sent":87,"last":{"verdict":"refused","message":2,"offset":78,"reason":"BadIndex"}},'
              b'"b":{"sent":68,"last":{"offset":0,"item":"handshake","reserved":"0000000000100005",'
-             b'"info_hash":"a9993e364706816aba3e25717850c26c9cd0d89d","peer_id":"2d4242303030312d303030303030303030303030"}}}}\n')
+             b'"info_hash":"a9993e364706816aba3e25717850c26c9cd0d89d","peer_id":"2d4242303030312d303030303030303030303030",'
+             b'"peer_id_text":"-BB0001-000000000000"}}}}\n')
 CUT_IN_PACKET = b"capture: ends inside a packet, which is left out\n"
 
 

@@ -17,7 +17,6 @@ PROGRAM is the built bt_tool, or else the script at the top of the repository.
 Nothing is tested if dist/viewer.html or Chromium isn't there.
 """
 import gzip
-import ipaddress
 import os
 import random
 import re
@@ -77,15 +76,6 @@ def verdict_text(verdict):
     if verdict["ok"]:
         return "ok messages=%(messages)d bytes=%(bytes)d" % verdict
     return "refused message=%(message)d at=%(at)d %(reason)s" % verdict
-
-
-def long_address(text):
-    """[2001:db8::1]:80 as the command writes it, without leaving out zeros."""
-    found = re.fullmatch(r"\[(.*)\]:(\d+)", text)
-    if not found:
-        return text
-    words = ipaddress.ip_address(found.group(1)).exploded.split(":")
-    return "[%s]:%s" % (":".join("%x" % int(word, 16) for word in words), found.group(2))
 
 
 def sentences(page):
@@ -173,7 +163,7 @@ def as_told(page, listed, is_shown=False):
     others = {it["number"]: it for it in listed["facts"]["others"]}
     for number in sorted({**connections, **others}):
         ends = others[number]["ends"] if number in others else connections[number]["names"]
-        head = "connection %d  A %s > B %s" % (number, *map(long_address, ends))
+        head = "connection %d  A %s > B %s" % (number, *ends)
         if number in others:
             lines.append(head + "  no BitTorrent handshake")
             continue
@@ -186,7 +176,7 @@ def as_told(page, listed, is_shown=False):
             lines += side_lines(k, side, closes, told)
         lines += [*closing_lines(it), *remark_lines(page)]
     for it in listed["facts"]["utp"]:
-        lines.append("uTP  %s > %s  %d packets, not read: this is BitTorrent over UDP (BEP 29)" % (*map(long_address, it["ends"]),
+        lines.append("uTP  %s > %s  %d packets, not read: this is BitTorrent over UDP (BEP 29)" % (*it["ends"],
             it["packets"]))
     return "\n".join(lines) + ("\n" if lines else "")
 

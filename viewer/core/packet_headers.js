@@ -128,8 +128,10 @@ export class Headers {
  * @param {DataView} view @param {number} at @param {boolean} isSix
  */
 function addressOf(view, at, isSix) {
-  if (!isSix) return [0, 1, 2, 3].map(k => view.getUint8(at + k)).join('.');
+  const dotted = (/** @type {number} */ from) => [0, 1, 2, 3].map(k => view.getUint8(from + k)).join('.');
+  if (!isSix) return dotted(at);
   const words = Array.from({ length: 8 }, (_, k) => view.getUint16(at + 2 * k));
+  if (words.slice(0, 6).join() === '0,0,0,0,0,65535') return `[::ffff:${dotted(at + 12)}]`;
   let best = 0, from = -1;
   for (let k = 0; k < 8; k++) {
     let n = 0;

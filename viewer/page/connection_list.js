@@ -62,7 +62,7 @@ function othersOf({ others }) {
   return h('details.others', h('summary', plural(others.length, 'other TCP connection')),
     others.slice(0, OTHERS_SHOWN).map((/** @type {any} */ it) =>
       h('div.other', `#${it.number}`, h('span', it.ends.join(' > ')), h('span.dim', bytesText(it.bytes[0] + it.bytes[1])))),
-    h('p.dim', 'No BitTorrent handshake: encrypted, another protocol, or begun before the capture.'));
+    h('p.dim', "No BitTorrent handshake: encrypted, another protocol, or its start isn't in the capture."));
 }
 
 /** @param {any} facts */

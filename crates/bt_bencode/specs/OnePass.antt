@@ -33,11 +33,11 @@ StopsAt offset bytes left = (n : ℕ) × (offset ≡ Some n) × (n + left ≡ le
 abbrev pub StopsValue : ℕ → List ℕ → ℕ → Type 0
 StopsValue room bytes left = (t : Tree) (more : List ℕ) → FitsIn room t → bytes ≡ ben t ++ more → StopsAt (unsorted t) bytes left
 
--- the same of the further values of a list
+-- the first key out of order in the further values of a list is there, likewise
 abbrev pub StopsItems : ℕ → List ℕ → ℕ → Type 0
 StopsItems room bytes left = (ts : Trees) (more : List ℕ) → AllFitIn room ts → bytes ≡ ben_all ts ++ 101 ∷ more → StopsAt (unsorted_all ts) bytes left
 
--- and of the further pairs of a dictionary, which follow a last key
+-- and in the further pairs of a dictionary, which follow a last key
 abbrev pub StopsPairs : ℕ → Option (List ℕ) → List ℕ → ℕ → Type 0
 StopsPairs room last bytes left =
     (ps : Pairs) (more : List ℕ) → PairsFitIn room ps → bytes ≡ ben_pairs ps ++ 101 ∷ more → StopsAt (unsorted_pairs last ps) bytes left

@@ -29,7 +29,7 @@ same_self x = laws.refl x
 other_key : (p k x : Pair) → same_pair p x ≡ true → same_pair k p ≡ false → same_pair k x ≡ false
 other_key p k x same other = subst (λ y. same_pair k y ≡ false) (same_is p x same) other
 
-apart_none : IsDistinct same_pair []
+pub apart_none : IsDistinct same_pair []
 unfolding IsDistinct
 apart_none = tt
 

@@ -1,5 +1,6 @@
 -- The lines on flows, one after another.
-use Rattle.std.proofs.Common.{Result, Ok, Err, OnOk, ◌≡◌, ◌∙◌, ℕ, ◌+◌, ◌≤◌, Bool, List, [], ◌∷◌, ◌++◌, length, take, Some, None, append-nil, refl, sym, ap, arith, zero, suc}
+use Rattle.std.proofs.Common.{Result, Ok, Err, OnOk, ◌≡◌, ◌∙◌, ℕ, ◌+◌, ◌≤◌, Bool, List, [], ◌∷◌, ◌++◌, length, take, Some, None, append-nil}
+use Rattle.std.proofs.Common.{refl, sym, ap, arith, zero, suc}
 use Rattle.std.specs.List.{slice_get, flat_map}
 use Rattle.std.proofs.lemmas.Grind.{flat_map-append}
 use Rattle.bt_utp.specs.declared.flow.Counted.{Counted}
@@ -31,14 +32,17 @@ taken_all : (fs : List Counted) (i : ℕ) → None ≡ slice_get fs i → take (
 taken_all fs i h = ap (λ n. take n fs) (next i) ∙ as_long fs i h
 
 -- one more line, or there is no further flow
-pub more : (json : Bool) (fs : List Counted) (i : ℕ) (f : Counted) (text new : List ℕ) → Some f ≡ slice_get fs i → text ≡ flow_texts json (take i fs) → new ≡ text ++ flow_text json f
+pub more : (json : Bool) (fs : List Counted) (i : ℕ) (f : Counted) (text new : List ℕ) → Some f ≡ slice_get fs i
+    → text ≡ flow_texts json (take i fs) → new ≡ text ++ flow_text json f
     → new ≡ flow_texts json (take (i + 1) fs)
 unfolding flow_texts
 more json fs i f text new at so_far is =
     is ∙ ap (λ l. l ++ flow_text json f) so_far
-    ∙ sym (ap (flat_map (flow_text json)) (taken_more fs i f at) ∙ flat_map-append (flow_text json) (take i fs) (f ∷ []) ∙ ap (λ l. flat_map (flow_text json) (take i fs) ++ l) (append-nil (flow_text json f)))
+    ∙ sym (ap (flat_map (flow_text json)) (taken_more fs i f at) ∙ flat_map-append (flow_text json) (take i fs) (f ∷ [])
+    ∙ ap (λ l. flat_map (flow_text json) (take i fs) ++ l) (append-nil (flow_text json f)))
 
-pub no_more : (json : Bool) (fs : List Counted) (i : ℕ) (text : List ℕ) → None ≡ slice_get fs i → text ≡ flow_texts json (take i fs) → text ≡ flow_texts json (take (i + 1) fs)
+pub no_more : (json : Bool) (fs : List Counted) (i : ℕ) (text : List ℕ) → None ≡ slice_get fs i → text ≡ flow_texts json (take i fs)
+    → text ≡ flow_texts json (take (i + 1) fs)
 no_more json fs i text at so_far = so_far ∙ sym (ap (flow_texts json) (taken_all fs i at))
 
 take_length : (fs : List Counted) (n : ℕ) → length fs ≤ n → take n fs ≡ fs
@@ -58,7 +62,8 @@ pub ok_any : {T E P : Type 0} (r : Result T E) → P → OnOk r P
 ok_any (Ok x) p = p
 ok_any (Err e) p = tt
 
-pub datagrams_more : (packets : List Captured) (p : Captured) → datagrams (packets ++ p ∷ []) ≡ datagrams packets ++ datagrams_in (seen_in p.link p.bytes p.original)
+pub datagrams_more : (packets : List Captured) (p : Captured)
+    → datagrams (packets ++ p ∷ []) ≡ datagrams packets ++ datagrams_in (seen_in p.link p.bytes p.original)
 datagrams_more packets p =
     flat_map-append (λ q. datagrams_in (seen_in q.link q.bytes q.original)) packets (p ∷ [])
     ∙ ap (λ l. datagrams packets ++ l) (append-nil (datagrams_in (seen_in p.link p.bytes p.original)))

@@ -1,5 +1,6 @@
 -- Reports are told one by one.
-use Rattle.std.proofs.Common.{◌≡◌, ◌∙◌, ℕ, Option, Some, None, is_some, ◌+◌, ◌-◌, ◌^◌, min, true, false, Bool, ◌||◌, List, [], ◌∷◌, ◌++◌, length, append-nil, append_assoc, refl, sym, ap, subst, arith, inl, inr, if◌then◌else◌}
+use Rattle.std.proofs.Common.{◌≡◌, ◌∙◌, ℕ, Option, Some, None, is_some, ◌+◌, ◌-◌, ◌^◌, min, true, false, Bool, ◌||◌, List, [], ◌∷◌, ◌++◌, length}
+use Rattle.std.proofs.Common.{append-nil, append_assoc, refl, sym, ap, subst, arith, inl, inr, if◌then◌else◌}
 use Rattle.std.specs.List.{filter, flat_map, list_any}
 use Rattle.std.specs.Io.KnownBytes.{Appends}
 use Rattle.std.proofs.KnownBytes.{Appends-trans}
@@ -17,7 +18,8 @@ use Rattle.bt_talk.specs.Rows.{Shown, shown_texts}
 use Rattle.bt_capture.specs.declared.ending.Form.{Form}
 use Rattle.bt_capture.specs.Forms.{showing_by, showing_in, is_stream, side_of}
 use Rattle.bt_remarks.specs.declared.events.Side.{Side}
-use Rattle.bt_capture.specs.Tellings.{Part, OfReport, OfRows, OfBytes, report_of_part, bytes_of_part, report_by, part_text, AreTexts, text_by, texts, count_torrents, is_one_refused, is_refused, is_told, Tells, IsStopped}
+use Rattle.bt_capture.specs.Tellings.{Part, OfReport, OfRows, OfBytes, report_of_part, report_by, part_text, AreTexts, text_by}
+use Rattle.bt_capture.specs.Tellings.{texts, count_torrents, is_one_refused, is_refused, is_told, Tells, IsStopped}
 
 one : (p : Report → Bool) (x : Report) → length (filter p (x ∷ [])) ≡ (if p x then 1 else 0)
 one p x = elim (cases_Bool (p x)) [ inl e ↦ rw e refl | inr e ↦ rw e refl ]
@@ -30,7 +32,8 @@ pub count_more : (reports : List Report) (r : Report) → count_torrents (report
 count_more reports r =
     let n = length (filter is_told reports) in
     let e : length (filter is_told (reports ++ r ∷ [])) ≡ n + (if is_told r then 1 else 0) =
-    ap length (filter-append is_told reports (r ∷ [])) ∙ length-append (filter is_told reports) (filter is_told (r ∷ [])) ∙ ap (λ (k : ℕ). n + k) (one is_told r) in
+    ap length (filter-append is_told reports (r ∷ [])) ∙ length-append (filter is_told reports) (filter is_told (r ∷ []))
+    ∙ ap (λ (k : ℕ). n + k) (one is_told r) in
     ap (λ (k : ℕ). min k (2 ^ 64 - 1)) e ∙ more (is_told r) n
 
 or_false : (b : Bool) → (b || false) ≡ b
@@ -91,6 +94,11 @@ reports_only form reports text e none i =
     let f : is_stream form ≡ false = ap (λ (s : Option (ℕ × Side)). is_some s) none in i.is ∙ parts_only form i.parts e f ∙ ap (texts form.json) i.reports_are
 
 -- If a stream is told there are only its bytes.
+abbrev bytes_of_part : Part → List ℕ
+bytes_of_part (OfReport r) = []
+bytes_of_part (OfRows rows) = []
+bytes_of_part (OfBytes bytes) = bytes
+
 one_bytes : (form : Form) (x : Part) → is_stream form ≡ true → part_text form x ≡ bytes_of_part x
 one_bytes form (OfReport r) e = ap (λ (b : Bool). if b then [] else text_by form.json r) e
 one_bytes form (OfRows rows) e =
@@ -100,64 +108,52 @@ one_bytes form (OfBytes bytes) e = ap (λ (b : Bool). if b then bytes else []) e
 pub no_rows : (form : Form) (rows : List Shown) → is_stream form ≡ true → shown_texts (showing_by form) rows ≡ []
 no_rows form rows e = one_bytes form (OfRows rows) e
 
-parts_bytes : (form : Form) (parts : List Part) → is_stream form ≡ true → flat_map (part_text form) parts ≡ flat_map bytes_of_part parts
-parts_bytes form [] e = refl
-parts_bytes form (x ∷ xs) e =
-    ap (λ (l : List ℕ). l ++ flat_map (part_text form) xs) (one_bytes form x e) ∙ ap (λ (l : List ℕ). bytes_of_part x ++ l) (parts_bytes form xs e)
-
-pub bytes_only : (form : Form) (reports : List Report) (text : List ℕ) → is_stream form ≡ true → (i : AreTexts form reports text)
-    → text ≡ flat_map bytes_of_part i.parts
-bytes_only form reports text e i = i.is ∙ parts_bytes form i.parts e
-
 -- One more report is told.
-pub told_more : (start now : TargetSeen) (old new : Teller) (reports : List Report) (r : Report) → new.text.items ≡ old.text.items ++ report_by old.form r
-    → new.form ≡ old.form → new.torrents ≡ counted (is_told r) old.torrents → new.is_refused ≡ (old.is_refused || is_refused r) → Tells start now old reports
-    → Tells start now new (reports ++ r ∷ [])
-told_more start now old new reports r text form torrents refused t = record {
-  written = t.written;
-  whole = texts_same old.form new.form (reports ++ r ∷ []) ((t.written ++ old.text.items) ++ report_by old.form r) (t.written ++ new.text.items) form
-      (ap (λ (l : List ℕ). t.written ++ l) text ∙ sym (append_assoc t.written old.text.items (report_by old.form r)))
-      (part_more old.form reports (t.written ++ old.text.items) (OfReport r) t.whole);
-  held = t.held;
-  calm = t.calm;
-  torrents = torrents ∙ ap (counted (is_told r)) t.torrents ∙ sym (count_more reports r);
-  refused = refused ∙ ap (λ (b : Bool). b || is_refused r) t.refused ∙ sym (refused_more reports r);
-}
-
--- Rows are told.
-pub shown_more : (start now : TargetSeen) (old new : Teller) (reports : List Report) (rows : List Shown)
-    → new.text.items ≡ old.text.items ++ shown_texts (showing_by old.form) rows → new.form ≡ old.form → new.torrents ≡ old.torrents
-    → new.is_refused ≡ old.is_refused → Tells start now old reports → Tells start now new reports
-shown_more start now old new reports rows text form torrents refused t = record {
-  written = t.written;
-  whole = texts_same old.form new.form reports ((t.written ++ old.text.items) ++ shown_texts (showing_by old.form) rows) (t.written ++ new.text.items) form
-      (ap (λ (l : List ℕ). t.written ++ l) text ∙ sym (append_assoc t.written old.text.items (shown_texts (showing_by old.form) rows)))
-      (subst (λ (l : List Report). AreTexts old.form l ((t.written ++ old.text.items) ++ shown_texts (showing_by old.form) rows)) (append-nil reports)
-      (part_more old.form reports (t.written ++ old.text.items) (OfRows rows) t.whole));
-  held = t.held;
-  calm = t.calm;
-  torrents = torrents ∙ t.torrents;
-  refused = refused ∙ t.refused;
-}
-
--- Bytes of a stream are told.
-pub bytes_more : (start now : TargetSeen) (old new : Teller) (reports : List Report) (bytes : List ℕ) → is_stream old.form ≡ true
-    → new.text.items ≡ old.text.items ++ bytes → new.form ≡ old.form → new.torrents ≡ old.torrents → new.is_refused ≡ old.is_refused
-    → Tells start now old reports → Tells start now new reports
-bytes_more start now old new reports bytes stream text form torrents refused t =
-    let more : List ℕ = part_text old.form (OfBytes bytes) in
-    let same : more ≡ bytes = one_bytes old.form (OfBytes bytes) stream in
+pub told_more : (start now : TargetSeen) (old new : Teller) (reports : List Report) (written : List ℕ) (r : Report)
+    → new.text.items ≡ old.text.items ++ report_by old.form r → new.form ≡ old.form → new.torrents ≡ counted (is_told r) old.torrents
+    → new.is_refused ≡ (old.is_refused || is_refused r) → Tells start now old reports written → Tells start now new (reports ++ r ∷ []) written
+told_more start now old new reports written r text form torrents refused t =
+    let was : List ℕ = written ++ old.text.items in
+    let more : List ℕ = report_by old.form r in
     record {
-      written = t.written;
-      whole = texts_same old.form new.form reports ((t.written ++ old.text.items) ++ more) (t.written ++ new.text.items) form
-          (ap (λ (l : List ℕ). t.written ++ l) (text ∙ ap (λ (l : List ℕ). old.text.items ++ l) (sym same)) ∙ sym (append_assoc t.written old.text.items more))
-          (subst (λ (l : List Report). AreTexts old.form l ((t.written ++ old.text.items) ++ more)) (append-nil reports)
-          (part_more old.form reports (t.written ++ old.text.items) (OfBytes bytes) t.whole));
+      whole = texts_same old.form new.form (reports ++ r ∷ []) (was ++ more) (written ++ new.text.items) form
+          (ap (λ (l : List ℕ). written ++ l) text ∙ sym (append_assoc written old.text.items more)) (part_more old.form reports was (OfReport r) t.whole);
+      held = t.held;
+      calm = t.calm;
+      torrents = torrents ∙ ap (counted (is_told r)) t.torrents ∙ sym (count_more reports r);
+      refused = refused ∙ ap (λ (b : Bool). b || is_refused r) t.refused ∙ sym (refused_more reports r);
+    }
+
+-- Rows are told, or bytes of a stream.
+part_told : (start now : TargetSeen) (old new : Teller) (reports : List Report) (written : List ℕ) (x : Part) → report_of_part x ≡ []
+    → new.text.items ≡ old.text.items ++ part_text old.form x → new.form ≡ old.form → new.torrents ≡ old.torrents → new.is_refused ≡ old.is_refused
+    → Tells start now old reports written → Tells start now new reports written
+part_told start now old new reports written x none text form torrents refused t =
+    let was : List ℕ = written ++ old.text.items in
+    let more : List ℕ = part_text old.form x in
+    let same : reports ++ report_of_part x ≡ reports = ap (λ (l : List Report). reports ++ l) none ∙ append-nil reports in
+    record {
+      whole = texts_same old.form new.form reports (was ++ more) (written ++ new.text.items) form
+          (ap (λ (l : List ℕ). written ++ l) text ∙ sym (append_assoc written old.text.items more))
+          (subst (λ (l : List Report). AreTexts old.form l (was ++ more)) same (part_more old.form reports was x t.whole));
       held = t.held;
       calm = t.calm;
       torrents = torrents ∙ t.torrents;
       refused = refused ∙ t.refused;
     }
+
+pub shown_more : (start now : TargetSeen) (old new : Teller) (reports : List Report) (written : List ℕ) (rows : List Shown)
+    → new.text.items ≡ old.text.items ++ shown_texts (showing_by old.form) rows → new.form ≡ old.form → new.torrents ≡ old.torrents
+    → new.is_refused ≡ old.is_refused → Tells start now old reports written → Tells start now new reports written
+shown_more start now old new reports written rows text form torrents refused t =
+    part_told start now old new reports written (OfRows rows) refl text form torrents refused t
+
+pub bytes_more : (start now : TargetSeen) (old new : Teller) (reports : List Report) (written bytes : List ℕ) → is_stream old.form ≡ true
+    → new.text.items ≡ old.text.items ++ bytes → new.form ≡ old.form → new.torrents ≡ old.torrents → new.is_refused ≡ old.is_refused
+    → Tells start now old reports written → Tells start now new reports written
+bytes_more start now old new reports written bytes stream text form torrents refused t =
+    let same : part_text old.form (OfBytes bytes) ≡ bytes = one_bytes old.form (OfBytes bytes) stream in
+    part_told start now old new reports written (OfBytes bytes) refl (text ∙ ap (λ (l : List ℕ). old.text.items ++ l) (sym same)) form torrents refused t
 
 -- of a stream's connection
 pub wants_stream : (n : ℕ) (s : Option (ℕ × Side)) → is_some (side_of n s) ≡ true → is_some s ≡ true
@@ -165,30 +161,30 @@ wants_stream n None e = cc
 wants_stream n (Some s) e = refl
 
 -- The text that was kept is written.
-pub all_written : (start now after : TargetSeen) (old new : Teller) (reports : List Report) → Appends now.held after.held old.text.items
-    → after.failed ≡ now.failed → new.text.items ≡ [] → new.form ≡ old.form → new.torrents ≡ old.torrents → new.is_refused ≡ old.is_refused
-    → Tells start now old reports → Tells start after new reports
-all_written start now after old new reports held calm empty form torrents refused t = record {
-  written = t.written ++ old.text.items;
-  whole = texts_same old.form new.form reports (t.written ++ old.text.items) ((t.written ++ old.text.items) ++ new.text.items) form
-      (ap (λ (l : List ℕ). (t.written ++ old.text.items) ++ l) empty ∙ append-nil (t.written ++ old.text.items)) t.whole;
-  held = Appends-trans start.held now.held after.held t.written old.text.items t.held held;
-  calm = calm ∙ t.calm;
-  torrents = torrents ∙ t.torrents;
-  refused = refused ∙ t.refused;
-}
+pub all_written : (start now after : TargetSeen) (old new : Teller) (reports : List Report) (written : List ℕ)
+    → Appends now.held after.held old.text.items → after.failed ≡ now.failed → new.text.items ≡ [] → new.form ≡ old.form → new.torrents ≡ old.torrents
+    → new.is_refused ≡ old.is_refused → Tells start now old reports written → Tells start after new reports (written ++ old.text.items)
+all_written start now after old new reports written held calm empty form torrents refused t =
+    let all : List ℕ = written ++ old.text.items in
+    record {
+      whole = texts_same old.form new.form reports all (all ++ new.text.items) form (ap (λ (l : List ℕ). all ++ l) empty ∙ append-nil all) t.whole;
+      held = Appends-trans start.held now.held after.held written old.text.items t.held held;
+      calm = calm ∙ t.calm;
+      torrents = torrents ∙ t.torrents;
+      refused = refused ∙ t.refused;
+    }
 
--- A front of the text that was kept is written.
-pub front_written : (start now after : TargetSeen) (t : Teller) (reports : List Report) (front rest : List ℕ) → t.text.items ≡ front ++ rest
-    → Appends now.held after.held front → WriteFailed now after → Tells start now t reports → IsStopped t.form start after reports
-front_written start now after teller reports front rest parts held failed t = record {
-  text = t.written ++ teller.text.items;
+-- Only the first part of the text that was kept is written.
+pub front_written : (start now after : TargetSeen) (t : Teller) (reports : List Report) (written front rest : List ℕ) → t.text.items ≡ front ++ rest
+    → Appends now.held after.held front → WriteFailed now after → Tells start now t reports written
+    → IsStopped t.form start after reports (written ++ t.text.items)
+front_written start now after teller reports written front rest parts held failed t = record {
   texts_are = t.whole;
   front = (
-    t.written ++ front,
+    written ++ front,
     rest,
-    ap (λ (l : List ℕ). t.written ++ l) parts ∙ sym (append_assoc t.written front rest),
-    Appends-trans start.held now.held after.held t.written front t.held held,
+    ap (λ (l : List ℕ). written ++ l) parts ∙ sym (append_assoc written front rest),
+    Appends-trans start.held now.held after.held written front t.held held,
   );
   failed = subst (λ (n : ℕ). Grew n after.failed) t.calm failed;
 }

@@ -10,8 +10,13 @@ pub mod Taking
 pub mod Entries
 pub mod Parts
 pub mod Bounds
+pub mod Numbers
+pub mod Wants
+pub mod Streaming
 pub mod Shares
+pub mod SoFar
 pub mod Reported
 pub mod Outcomes
 pub mod Shown
 pub mod Sending
+mod Seeing

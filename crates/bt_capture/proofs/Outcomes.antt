@@ -1,38 +1,44 @@
 -- What is told while a capture is read, and at its end.
-use Rattle.std.proofs.Common.{◌≡◌, ◌∙◌, inl, inr, append_assoc, ℕ, ◌+◌, ◌-◌, ◌^◌, min, List, [], ◌∷◌, ◌++◌, length, append-nil, Option, Some, None, unwrap_or, Result, Ok, Err, refl, sym, ap, subst, arith}
+use Rattle.std.proofs.Common.{◌≡◌, ◌∙◌, inl, inr, ℕ, ◌+◌, ◌-◌, ◌^◌, ◌<◌, min, Bool, true, if◌then◌else◌, List, [], ◌∷◌, ◌++◌, length}
+use Rattle.std.proofs.Common.{append-nil, append_assoc, Option, Some, None, is_some, unwrap_or, Result, Ok, Err, refl, sym, ap, subst, arith}
 use Rattle.std.specs.List.{All}
 use Rattle.std.specs.List.Sorted.{IsPermutation}
-use Rattle.std.proofs.lemmas.List.Sorted.{IsPermutation-sym, length_permutation}
-use Rattle.std.specs.Map.{lookup}
 use Rattle.std.specs.Io.KnownBytes.{Appends, Consumes, Keeps}
-use Rattle.std.proofs.lemmas.List.Elements.{All-nil}
+use Rattle.std.proofs.lemmas.List.Elements.{All-contains, All-nil}
 use Rattle.std.proofs.KnownBytes.{Appends-nil, Appends-trans, Consumes-nil, Consumes-trans, Consumes-kept}
 use Rattle.bt_io.specs.Counts.{Grew}
 use Rattle.bt_io.specs.Seen.{TargetSeen, AppendsPrefix, WriteFailed}
-use Rattle.bt_utp.specs.States.{AreCounted}
-use Rattle.bt_capture.specs.FlowTexts.{datagrams}
 use Rattle.bt_pcap.specs.Formats.{Captured}
 use Rattle.bt_pcap.specs.Steps.{captured}
 use Rattle.bt_pcap.specs.declared.fault.FileFault.{FileFault}
 use Rattle.bt_pcap.specs.declared.fronts.Packet.{Packet}
+use Rattle.bt_remarks.specs.declared.events.Side.{Side}
+use Rattle.bt_told.specs.declared.report.Report.{Report}
+use Rattle.bt_utp.specs.Flows.{flows}
+use Rattle.bt_utp.specs.States.{AreCounted}
 use Rattle.bt_capture.specs.declared.connections.Run.{Run}
+use Rattle.bt_capture.specs.declared.ending.CaptureEnd.{CaptureEnd}
 use Rattle.bt_capture.specs.declared.ending.CaptureFault.{CaptureFault}
 use Rattle.bt_capture.specs.declared.ending.CaptureFault.TheVariants.{File, Read, Write, Memory, Turns}
-use Rattle.bt_capture.specs.declared.pair.Pair.{Pair}
-use Rattle.bt_capture.specs.declared.telling.Teller.{Teller}
-use Rattle.bt_told.specs.declared.report.Report.{Report}
-use Rattle.bt_capture.specs.Arrivals.{arrivals, first_time}
-use Rattle.bt_capture.specs.Following.{Finished, IsFinished, IsShare, IsShared, Follows, Stops, reports_of}
-use Rattle.bt_capture.specs.Readings.{Reading, IsReading, GoesOn, Hands, nothing_read, shown}
-use Rattle.bt_capture.specs.Tables.{Held, IsApart, same_pair}
 use Rattle.bt_capture.specs.declared.ending.Form.{Form}
-use Rattle.bt_capture.specs.Forms.{absent_from}
+use Rattle.bt_capture.specs.declared.pair.Pair.{Pair}
+use Rattle.bt_capture.specs.Arrivals.{arrivals, first_time}
+use Rattle.bt_capture.specs.FlowTexts.{datagrams, flow_texts}
+use Rattle.bt_capture.specs.Following.{Finished, IsFinished, IsSentBy, IsShared, IsStreaming, IsStreamSoFar, Follows, Stops, Streams}
+use Rattle.bt_capture.specs.Following.{reports_of, told_by}
+use Rattle.bt_capture.specs.Forms.{absent_from, is_stream, wanted_by}
+use Rattle.bt_capture.specs.Readings.{Reading, IsReading, GoesOn, Hands, nothing_read, shown}
+use Rattle.bt_capture.specs.Tables.{Held}
 use Rattle.bt_capture.specs.Tellings.{Tells, IsStopped, IsEmpty, AreTexts}
-use Rattle.bt_capture.specs.Runs.{Origin, HasRead, IsTelling, IsLeft, AreOver, AreAllOver, AreWritten, ArePartlyWritten, AfterFault, Adds, utp_lines, IsOfTelling, IsOfReading, IsToldTo}
-use Rattle.bt_capture.proofs.Entries.{apart_moved, lookup_moved}
+use Rattle.bt_capture.specs.Runs.{Origin, HasRead, IsTelling, IsLeft, IsEndOf, AreOver, AreAllOver, AreWritten, ArePartlyWritten, AfterFault, Adds}
+use Rattle.bt_capture.specs.Runs.{IsOfTelling, IsOfReading, IsToldTo, IsOnlyStream, IsStreamTold, StreamsSoFar, utp_lines}
 use Rattle.bt_capture.proofs.Going.{fresh}
 use Rattle.bt_capture.proofs.InOrder.{no_texts}
-use Rattle.bt_capture.proofs.Reported.{follows_moved, follows_same, stops_of}
+use Rattle.bt_capture.proofs.Numbers.{one_if_began}
+use Rattle.bt_capture.proofs.Reported.{follows_flushed, follows_moved, follows_same, follows_so_far, stops_of}
+use Rattle.bt_capture.proofs.SoFar.{so_far_same}
+use Rattle.bt_capture.proofs.Streaming.{find_over, numbered_end, streaming_same, untold_end}
+use Rattle.bt_capture.proofs.Wants.{absent_before, begun_or_absent, wanted_if_asked}
 
 -- ---- what was read
 
@@ -47,13 +53,15 @@ read_packet o left packets given r r' goes i = record {
   reading = subst (λ l. IsReading l (packets ++ given) r') (append-nil i.all) (goes.reads i.all packets i.reading);
 }
 
-pub read_quiet : (o : Origin) (left : Option (List ℕ)) (packets : List Captured) (r r' : Reading) → GoesOn r [] [] r' → HasRead o left packets r → HasRead o left packets r'
+pub read_quiet : (o : Origin) (left : Option (List ℕ)) (packets : List Captured) (r r' : Reading) → GoesOn r [] [] r' → HasRead o left packets r
+    → HasRead o left packets r'
 read_quiet o left packets r r' goes i = subst (λ l. HasRead o left l r') (append-nil packets) (read_packet o left packets [] r r' goes i)
 
 pub hands_none : (r r' : Reading) (x : Result (Option Packet) FileFault) → x ≡ Ok None → Hands r (shown x) r' → GoesOn r [] [] r'
 hands_none r r' x e h = (subst (λ y. Hands r (shown y) r') e h).0
 
-pub hands_some : (r r' : Reading) (x : Result (Option Packet) FileFault) (p : Packet) → x ≡ Ok (Some p) → Hands r (shown x) r' → GoesOn r [] (captured p ∷ []) r'
+pub hands_some : (r r' : Reading) (x : Result (Option Packet) FileFault) (p : Packet) → x ≡ Ok (Some p) → Hands r (shown x) r'
+    → GoesOn r [] (captured p ∷ []) r'
 hands_some r r' x p e h = subst (λ y. Hands r (shown y) r') e h
 
 pub hands_fault : (r r' : Reading) (x : Result (Option Packet) FileFault) (f : FileFault) → x ≡ Err f → Hands r (shown x) r' → GoesOn r [] [] r'
@@ -84,33 +92,31 @@ read_kept o left left' packets r r' same keeps i = record {
 
 pub told_read : (o : Origin) (left left' : Option (List ℕ)) (now : TargetSeen) (es : List (Pair × Held)) (run : Run) (r r' : Reading)
     → ((packets : List Captured) → HasRead o left packets r → HasRead o left' packets r') → IsTelling o left now es run r → IsTelling o left' now es run r'
-told_read o left left' now es run r r' reads i = record { packets = i.packets; read = reads i.packets i.read; terms = i.terms; form = i.form; time = i.time; follows = i.follows; utp = i.utp }
+told_read o left left' now es run r r' reads i = record {
+  packets = i.packets;
+  read = reads i.packets i.read;
+  terms = i.terms;
+  form = i.form;
+  time = i.time;
+  follows = i.follows;
+  utp = i.utp;
+}
 
-pub flushed : (o : Origin) (left : Option (List ℕ)) (now after : TargetSeen) (es : List (Pair × Held)) (old new : Run) (r : Reading) → new.terms ≡ old.terms
-    → new.teller.form ≡ old.teller.form → new.start ≡ old.start → new.lost ≡ old.lost → new.begun ≡ old.begun → new.utp ≡ old.utp
-    → ((reports : List Report) → Tells o.target now old.teller reports → Tells o.target after new.teller reports)
+pub flushed : (o : Origin) (left : Option (List ℕ)) (now after : TargetSeen) (es : List (Pair × Held)) (old new : Run) (r : Reading)
+    → new.terms ≡ old.terms → new.teller.form ≡ old.teller.form → new.start ≡ old.start → new.lost ≡ old.lost → new.begun ≡ old.begun
+    → new.utp ≡ old.utp → IsEmpty new.teller
+    → ((reports : List Report) (written : List ℕ) → Tells o.target now old.teller reports written
+    → Tells o.target after new.teller reports (written ++ old.teller.text.items))
     → IsTelling o left now es old r → IsTelling o left after es new r
-flushed o left now after es old new r terms form begin lost count utp tells i =
-    let known = i.follows.known in
-    record {
-      packets = i.packets;
-      read = i.read;
-      terms = terms ∙ i.terms;
-      form = form ∙ i.form;
-      time = begin ∙ i.time;
-      follows = record {
-        fs = i.follows.fs;
-        begun = count ∙ i.follows.begun;
-        known = record {
-          tells = tells (reports_of i.follows.fs) known.tells;
-          finished = subst (λ x. All (IsFinished x (unwrap_or new.start 0)) i.follows.fs) (sym terms)
-              (subst (λ x. All (IsFinished old.terms (unwrap_or x 0)) i.follows.fs) (sym begin) known.finished);
-          lost = lost ∙ known.lost;
-        };
-        shared = subst (λ x. (k : Pair) → IsShare x (arrivals i.packets) i.follows.fs k (lookup (same_pair k) es)) (sym terms) i.follows.shared;
-      };
-      utp = subst (AreCounted (datagrams i.packets)) (sym utp) i.utp;
-    }
+flushed o left now after es old new r terms form begin lost count utp empty tells i = record {
+  packets = i.packets;
+  read = i.read;
+  terms = terms ∙ i.terms;
+  form = form ∙ i.form;
+  time = begin ∙ i.time;
+  follows = follows_flushed o.target now after (arrivals i.packets) es old new terms begin lost count form empty tells i.follows;
+  utp = subst (AreCounted (datagrams i.packets)) (sym utp) i.utp;
+}
 
 finished_by : (o : Origin) (packets : List Captured) (fs : List Finished) (run : Run) → run.terms ≡ o.terms → run.start ≡ first_time packets
     → All (IsFinished run.terms (unwrap_or run.start 0)) fs → All (IsFinished o.terms (unwrap_or (first_time packets) 0)) fs
@@ -121,47 +127,84 @@ over_by : (o : Origin) (now : TargetSeen) (packets : List Captured) (run : Run) 
     → (s : Stops o.target now (arrivals packets) run) → AreOver o packets s.fs
 over_by o now packets run terms time s = record { finished = finished_by o packets s.fs run terms time s.known.finished; shared = s.shared }
 
+-- What is told of a stream, by what was asked for.
+streams_by : (o : Origin) (packets : List Captured) (fs : List Finished) (es : List (Pair × Held)) (run : Run) (written : List ℕ) → run.terms ≡ o.terms
+    → run.teller.form ≡ o.form → run.start ≡ first_time packets → Streams written fs es run
+    → IsStreaming o.form (told_by written run) o.terms (unwrap_or (first_time packets) 0) run.begun fs es
+streams_by o packets fs es run written terms form time i =
+    let told = told_by written run in
+    streaming_same run.teller.form o.form told told run.terms o.terms (unwrap_or run.start 0) (unwrap_or (first_time packets) 0) run.begun run.begun
+    fs es (sym form) refl (sym terms) (ap (λ x. unwrap_or x 0) (sym time)) refl i
+
+so_far_by : (o : Origin) (packets : List Captured) (fs : List Finished) (run : Run) (written : List ℕ) → run.terms ≡ o.terms → run.teller.form ≡ o.form
+    → run.start ≡ first_time packets
+    → IsStreamSoFar run.teller.form (told_by written run) run.terms (unwrap_or run.start 0) (arrivals packets) fs
+    → StreamsSoFar o packets fs (told_by written run)
+so_far_by o packets fs run written terms form time i =
+    let told = told_by written run in
+    so_far_same run.teller.form o.form told told run.terms o.terms (unwrap_or run.start 0) (unwrap_or (first_time packets) 0) (arrivals packets) fs
+    (sym form) refl (sym terms) (ap (λ x. unwrap_or x 0) (sym time)) i
+
+so_far : (o : Origin) (left : Option (List ℕ)) (now : TargetSeen) (es : List (Pair × Held)) (run : Run) (r : Reading) → (i : IsTelling o left now es run r)
+    → StreamsSoFar o i.packets i.follows.fs (told_by i.follows.written run)
+so_far o left now es run r i =
+    so_far_by o i.packets i.follows.fs run i.follows.written i.terms i.form i.time (follows_so_far o.target now (arrivals i.packets) es run i.follows)
+
 -- no lines follow the reports yet
 no_lines : (o : Origin) (now : TargetSeen) (text : List ℕ) → AppendsPrefix o.target.held now.held text → AppendsPrefix o.target.held now.held (text ++ [])
 no_lines o now text front = subst (AppendsPrefix o.target.held now.held) (sym (append-nil text)) front
 
 pub left_by : (o : Origin) (left : Option (List ℕ)) (now after : TargetSeen) (es : List (Pair × Held)) (run : Run) (r : Reading)
-    → ((reports : List Report) → Tells o.target now run.teller reports → IsStopped run.teller.form o.target after reports) → IsTelling o left now es run r → IsLeft o left after
+    → ((reports : List Report) (written : List ℕ) → Tells o.target now run.teller reports written
+    → IsStopped run.teller.form o.target after reports (written ++ run.teller.text.items))
+    → IsTelling o left now es run r → IsLeft o left after
 left_by o left now after es run r stopped i =
     let s = stops_of o.target now (arrivals i.packets) es run i.follows in
-    let is = subst (λ b. IsStopped b o.target after (reports_of s.fs)) i.form (stopped (reports_of s.fs) s.known.tells) in
+    let fs = i.follows.fs in
+    let text = told_by i.follows.written run in
+    let is = subst (λ b. IsStopped b o.target after (reports_of fs) text) i.form (stopped (reports_of fs) i.follows.written i.follows.known.tells) in
     record {
       packets = i.packets;
       r = r;
       read = i.read;
-      fs = s.fs;
-      over = over_by o now i.packets run i.terms i.time s;
-      text = is.text;
+      fs = fs;
+      over = record {
+        finished = finished_by o i.packets fs run i.terms i.time i.follows.known.finished;
+        shared = λ k. ((i.follows.shared k).taken, (i.follows.shared k).share);
+      };
+      text = text;
       texts_are = is.texts_are;
       lines = [];
       are_lines = inl refl;
-      front = no_lines o after is.text is.front;
+      stream = so_far o left now es run r i;
+      front = no_lines o after text is.front;
       failed = is.failed;
     }
 
 pub given_up : (o : Origin) (left : Option (List ℕ)) (now : TargetSeen) (packets : List Captured) (run : Run) (r : Reading) → HasRead o left packets r
-    → run.terms ≡ o.terms → run.teller.form ≡ o.form → run.start ≡ first_time packets → Stops o.target now (arrivals packets) run → ArePartlyWritten o left now
-given_up o left now packets run r read terms form time s = let t = s.known.tells in record {
-  packets = packets;
-  r = r;
-  read = read;
-  fs = s.fs;
-  over = over_by o now packets run terms time s;
-  text = t.written ++ run.teller.text.items;
-  texts_are = subst (λ f. AreTexts f (reports_of s.fs) (t.written ++ run.teller.text.items)) form t.whole;
-  lines = [];
-  are_lines = inl refl;
-  front = no_lines o now (t.written ++ run.teller.text.items) (t.written, run.teller.text.items, refl, t.held);
-}
+    → run.terms ≡ o.terms → run.teller.form ≡ o.form → run.start ≡ first_time packets → Stops o.target now (arrivals packets) run
+    → ArePartlyWritten o left now
+given_up o left now packets run r read terms form time s =
+    let t = s.known.tells in
+    let text = told_by s.written run in
+    record {
+      packets = packets;
+      r = r;
+      read = read;
+      fs = s.fs;
+      over = over_by o now packets run terms time s;
+      text = text;
+      texts_are = subst (λ f. AreTexts f (reports_of s.fs) text) form t.whole;
+      lines = [];
+      are_lines = inl refl;
+      stream = so_far_by o packets s.fs run s.written terms form time s.so_far;
+      front = no_lines o now text (s.written, run.teller.text.items, refl, t.held);
+    }
 
 pub partly : (o : Origin) (left : Option (List ℕ)) (now : TargetSeen) (es : List (Pair × Held)) (run : Run) (r : Reading) → IsTelling o left now es run r
     → ArePartlyWritten o left now
-partly o left now es run r i = given_up o left now i.packets run r i.read i.terms i.form i.time (stops_of o.target now (arrivals i.packets) es run i.follows)
+partly o left now es run r i =
+    given_up o left now i.packets run r i.read i.terms i.form i.time (stops_of o.target now (arrivals i.packets) es run i.follows)
 
 pub nothing_told : (o : Origin) → ArePartlyWritten o o.left o.target
 nothing_told o = record {
@@ -174,54 +217,73 @@ nothing_told o = record {
   texts_are = no_texts o.form;
   lines = [];
   are_lines = inl refl;
+  stream = record { over = All-nil (IsSentBy o.form [] o.terms 0); left = λ n side asked small none. inl refl };
   front = ([], [], refl, Appends-nil o.target.held);
 }
 
 -- ---- the end
 
-pub texts_written : (start now : TargetSeen) (t : Teller) (reports : List Report) (form : Form) → t.form ≡ form → IsEmpty t → Tells start now t reports
-    → (text : List ℕ) × AreTexts form reports text × Appends start.held now.held text
-texts_written start now t reports form e empty w =
-    let all : w.written ++ t.text.items ≡ w.written = ap (λ (l : List ℕ). w.written ++ l) empty ∙ append-nil w.written in
-    (w.written, subst (λ f. AreTexts f reports w.written) e (subst (λ l. AreTexts t.form reports l) all w.whole), w.held)
+-- All that was told is written.
+all_told : (written : List ℕ) (run : Run) → IsEmpty run.teller → told_by written run ≡ written
+all_told written run empty = ap (λ (l : List ℕ). written ++ l) empty ∙ append-nil written
 
-pub all_over : (o : Origin) (left : Option (List ℕ)) (now : TargetSeen) (run : Run) (r : Reading) → (i : IsTelling o left now [] run r) → AreAllOver o i.packets i.follows.fs
+pub texts_written : (o : Origin) (left : Option (List ℕ)) (now : TargetSeen) (run : Run) (r : Reading) → IsEmpty run.teller
+    → (i : IsTelling o left now [] run r) → AreTexts o.form (reports_of i.follows.fs) i.follows.written
+texts_written o left now run r empty i =
+    let reports = reports_of i.follows.fs in
+    subst (λ f. AreTexts f reports i.follows.written) i.form
+    (subst (λ l. AreTexts run.teller.form reports l) (all_told i.follows.written run empty) i.follows.known.tells.whole)
+
+pub all_over : (o : Origin) (left : Option (List ℕ)) (now : TargetSeen) (run : Run) (r : Reading) → (i : IsTelling o left now [] run r)
+    → AreAllOver o i.packets i.follows.fs
 all_over o left now run r i = record {
   finished = finished_by o i.packets i.follows.fs run i.terms i.time i.follows.known.finished;
+  numbered = numbered_end run.begun i.follows.fs i.follows.begun i.follows.streams.numbered;
   shared = λ k. let s = i.follows.shared k in subst (IsShared k (arrivals i.packets) i.follows.fs) s.is s.share;
 }
 
--- the reports and the lines on uTP, one after the other
-pub whole_written : (o : Origin) (left : Option (List ℕ)) (before now : TargetSeen) (run : Run) (r : Reading) → IsEmpty run.teller → (i : IsTelling o left before [] run r)
-    → Appends before.held now.held (utp_lines run.teller.form i.packets)
-    → (text : List ℕ) × AreTexts o.form (reports_of i.follows.fs) text × Appends o.target.held now.held (text ++ utp_lines o.form i.packets)
-whole_written o left before now run r empty i held =
-    let w = texts_written o.target before run.teller (reports_of i.follows.fs) o.form i.form empty i.follows.known.tells in (
-      w.0,
-      w.1,
-      Appends-trans o.target.held before.held now.held w.0 (utp_lines o.form i.packets) w.2
-          (subst (λ f. Appends before.held now.held (utp_lines f i.packets)) i.form held),
-    )
+pub stream_told : (o : Origin) (left : Option (List ℕ)) (now : TargetSeen) (run : Run) (r : Reading) → IsEmpty run.teller
+    → (i : IsTelling o left now [] run r) → IsStreamTold o i.packets i.follows.fs i.follows.written
+stream_told o left now run r empty i =
+    let fs = i.follows.fs in
+    let written = i.follows.written in
+    let streams = streams_by o i.packets fs [] run written i.terms i.form i.time i.follows.streams in
+    let P : List ℕ → Type 0 = λ l. IsStreamTold o i.packets fs l in
+    let told : P (told_by written run) = record {
+      sent = streams.sent;
+      untold = λ n. untold_end o.form (told_by written run) run.begun (length fs) n i.follows.begun streams.untold;
+    } in
+    subst P (all_told written run empty) told
 
-all_written : (o : Origin) (left : Option (List ℕ)) (before now : TargetSeen) (run : Run) (r : Reading) → IsEmpty run.teller → (i : IsTelling o left before [] run r)
-    → Appends before.held now.held (utp_lines run.teller.form i.packets) → AreWritten o left now
-all_written o left before now run r empty i held = let w = whole_written o left before now run r empty i held in record {
+-- the reports and the lines on uTP, one after the other
+pub whole_written : (o : Origin) (left : Option (List ℕ)) (before now : TargetSeen) (run : Run) (r : Reading) → IsEmpty run.teller
+    → (i : IsTelling o left before [] run r) → Appends before.held now.held (utp_lines run.teller.form i.packets)
+    → Appends o.target.held now.held (i.follows.written ++ utp_lines o.form i.packets)
+whole_written o left before now run r empty i held =
+    Appends-trans o.target.held before.held now.held i.follows.written (utp_lines o.form i.packets) i.follows.known.tells.held
+    (subst (λ f. Appends before.held now.held (utp_lines f i.packets)) i.form held)
+
+all_written : (o : Origin) (left : Option (List ℕ)) (before now : TargetSeen) (run : Run) (r : Reading) → IsEmpty run.teller
+    → (i : IsTelling o left before [] run r) → Appends before.held now.held (utp_lines run.teller.form i.packets) → AreWritten o left now
+all_written o left before now run r empty i held = record {
   packets = i.packets;
   r = r;
   read = i.read;
   fs = i.follows.fs;
   over = all_over o left before run r i;
-  text = w.0;
-  texts_are = w.1;
-  written = w.2;
+  text = i.follows.written;
+  texts_are = texts_written o left before run r empty i;
+  stream = stream_told o left before run r empty i;
+  written = whole_written o left before now run r empty i held;
 }
 
 -- The lines on uTP couldn't be made or written.
-part_written : (o : Origin) (left : Option (List ℕ)) (before now : TargetSeen) (run : Run) (r : Reading) → IsEmpty run.teller → (i : IsTelling o left before [] run r)
-    → AppendsPrefix before.held now.held (utp_lines run.teller.form i.packets) → WriteFailed before now → IsLeft o left now
+part_written : (o : Origin) (left : Option (List ℕ)) (before now : TargetSeen) (run : Run) (r : Reading) → IsEmpty run.teller
+    → (i : IsTelling o left before [] run r) → AppendsPrefix before.held now.held (utp_lines run.teller.form i.packets) → WriteFailed before now
+    → IsLeft o left now
 part_written o left before now run r empty i p failed =
     let known = i.follows.known in
-    let w = texts_written o.target before run.teller (reports_of i.follows.fs) o.form i.form empty known.tells in
+    let written = i.follows.written in
     let q = subst (λ f. AppendsPrefix before.held now.held (utp_lines f i.packets)) i.form p in
     record {
       packets = i.packets;
@@ -232,21 +294,23 @@ part_written o left before now run r empty i p failed =
         finished = finished_by o i.packets i.follows.fs run i.terms i.time known.finished;
         shared = λ k. ((i.follows.shared k).taken, (i.follows.shared k).share);
       };
-      text = w.0;
-      texts_are = w.1;
+      text = written;
+      texts_are = texts_written o left before run r empty i;
       lines = utp_lines o.form i.packets;
       are_lines = inr (all_over o left before run r i, refl);
+      stream = subst (λ l. StreamsSoFar o i.packets i.follows.fs l) (all_told written run empty) (so_far o left before [] run r i);
       front = (
-        w.0 ++ q.0,
+        written ++ q.0,
         q.1,
-        ap (λ l. w.0 ++ l) q.2 ∙ sym (append_assoc w.0 q.0 q.1),
-        Appends-trans o.target.held before.held now.held w.0 q.0 w.2 q.3,
+        ap (λ l. written ++ l) q.2 ∙ sym (append_assoc written q.0 q.1),
+        Appends-trans o.target.held before.held now.held written q.0 known.tells.held q.3,
       );
       failed = subst (λ (n : ℕ). Grew n now.failed) known.tells.calm failed;
     }
 
-pub not_added : (T : Type 0) (f : CaptureFault) (o : Origin) (left : Option (List ℕ)) (before now : TargetSeen) (run : Run) (r : Reading) → IsEmpty run.teller
-    → (i : IsTelling o left before [] run r) → Adds {T = T} (utp_lines run.teller.form i.packets) before now (Err f) → IsToldTo f o left now
+pub not_added : (T : Type 0) (f : CaptureFault) (o : Origin) (left : Option (List ℕ)) (before now : TargetSeen) (run : Run) (r : Reading)
+    → IsEmpty run.teller → (i : IsTelling o left before [] run r) → Adds {T = T} (utp_lines run.teller.form i.packets) before now (Err f)
+    → IsToldTo f o left now
 not_added T Write o left before now run r empty i a = part_written o left before now run r empty i a.0 a.1
 not_added T Memory o left before now run r empty i a = subst (ArePartlyWritten o left) (sym a) (partly o left before [] run r i)
 not_added T (File f) o left before now run r empty i a = absurd a
@@ -254,8 +318,8 @@ not_added T Read o left before now run r empty i a = absurd a
 not_added T Turns o left before now run r empty i a = absurd a
 
 -- The text couldn't be made or written.
-pub told_fault : (f : CaptureFault) (o : Origin) (left : Option (List ℕ)) (now : TargetSeen) (es : List (Pair × Held)) (run : Run) (r : Reading) → IsOfTelling f
-    → AfterFault f o left now es run r → IsToldTo f o left now
+pub told_fault : (f : CaptureFault) (o : Origin) (left : Option (List ℕ)) (now : TargetSeen) (es : List (Pair × Held)) (run : Run) (r : Reading)
+    → IsOfTelling f → AfterFault f o left now es run r → IsToldTo f o left now
 told_fault Write o left now es run r x i = i
 told_fault Memory o left now es run r x i = i
 told_fault (File f) o left now es run r x i = absurd x
@@ -263,8 +327,9 @@ told_fault Read o left now es run r x i = absurd x
 told_fault Turns o left now es run r x i = absurd x
 
 -- The file couldn't be read on.
-pub told_unread : (f : CaptureFault) (o : Origin) (left : Option (List ℕ)) (before now : TargetSeen) (run : Run) (r : Reading) → IsOfReading f → IsEmpty run.teller
-    → (i : IsTelling o left before [] run r) → Appends before.held now.held (utp_lines run.teller.form i.packets) → IsToldTo f o left now
+pub told_unread : (f : CaptureFault) (o : Origin) (left : Option (List ℕ)) (before now : TargetSeen) (run : Run) (r : Reading) → IsOfReading f
+    → IsEmpty run.teller → (i : IsTelling o left before [] run r) → Appends before.held now.held (utp_lines run.teller.form i.packets)
+    → IsToldTo f o left now
 told_unread Write o left before now run r x empty i held = absurd x
 told_unread Memory o left before now run r x empty i held = absurd x
 told_unread (File f) o left before now run r x empty i held = all_written o left before now run r empty i held
@@ -272,8 +337,8 @@ told_unread Read o left before now run r x empty i held = all_written o left bef
 told_unread Turns o left before now run r x empty i held = absurd x
 
 -- A fault of telling leaves no connection.
-pub fault_any : (f : CaptureFault) (o : Origin) (left : Option (List ℕ)) (now : TargetSeen) (es gs : List (Pair × Held)) (run : Run) (r : Reading) → IsOfTelling f
-    → AfterFault f o left now es run r → AfterFault f o left now gs run r
+pub fault_any : (f : CaptureFault) (o : Origin) (left : Option (List ℕ)) (now : TargetSeen) (es gs : List (Pair × Held)) (run : Run) (r : Reading)
+    → IsOfTelling f → AfterFault f o left now es run r → AfterFault f o left now gs run r
 fault_any Write o left now es gs run r x i = i
 fault_any Memory o left now es gs run r x i = i
 fault_any (File f) o left now es gs run r x i = absurd x
@@ -281,27 +346,26 @@ fault_any Read o left now es gs run r x i = absurd x
 fault_any Turns o left now es gs run r x i = absurd x
 
 -- Those that are left are taken out of the table.
-pub told_rest : (o : Origin) (left : Option (List ℕ)) (now : TargetSeen) (old new : Run) (es : List (Pair × Held)) (r : Reading) → IsPermutation old.table es
-    → IsApart es → new ≡ record old { table = new.table } → IsTelling o left now old.table old r → IsTelling o left now es new r
-told_rest o left now old new es r all apart same i =
+pub told_rest : (o : Origin) (left : Option (List ℕ)) (now : TargetSeen) (old new : Run) (es : List (Pair × Held)) (r : Reading)
+    → IsPermutation old.table es → new ≡ record old { table = new.table } → IsTelling o left now old.table old r → IsTelling o left now es new r
+told_rest o left now old new es r all same i =
     let table : List (Pair × Held) = old.table in
-    let was : IsApart table = apart_moved es table (IsPermutation-sym table es all) apart in
     let mid : Run = record old { table = new.table } in
-    let moves = follows_moved o.target now (arrivals i.packets) table es old (lookup_moved table es all was) (length_permutation table es all) i.follows in
     subst (λ x. IsTelling o left now es x r) (sym same) (record {
       packets = i.packets;
       read = i.read;
       terms = i.terms;
       form = i.form;
       time = i.time;
-      follows = follows_same o.target now (arrivals i.packets) es old mid refl refl refl refl refl moves;
+      follows = follows_same o.target now (arrivals i.packets) es old mid refl refl refl refl refl
+          (follows_moved o.target now (arrivals i.packets) table es old all i.follows);
       utp = i.utp;
     })
 
 -- ---- the begin
 
-pub begins : (o : Origin) (run : Run) (r : Reading) → run.terms ≡ o.terms → run.teller.form ≡ o.form → run.start ≡ None → Follows o.target o.target [] run.table run
-    → AreCounted [] run.utp → r ≡ nothing_read → IsTelling o o.left o.target run.table run r
+pub begins : (o : Origin) (run : Run) (r : Reading) → run.terms ≡ o.terms → run.teller.form ≡ o.form → run.start ≡ None
+    → Follows o.target o.target [] run.table run → AreCounted [] run.utp → r ≡ nothing_read → IsTelling o o.left o.target run.table run r
 begins o run r terms form begin follows utp same = record {
   packets = [];
   read = subst (HasRead o o.left []) (sym same) (read_nothing o);
@@ -320,3 +384,32 @@ begun_all begun n e = omega (arith, e)
 pub absent_by : (form form' : Form) (n begun : ℕ) → form' ≡ form → begun ≡ min n (2 ^ 64 - 1) → (o : Option ℕ) → o ≡ absent_from form' begun
     → o ≡ absent_from form (min n (2 ^ 64 - 1))
 absent_by form form' n begun same count o is = is ∙ ap (λ (k : Form). absent_from k begun) same ∙ ap (λ (m : ℕ). absent_from form m) count
+
+-- ---- only a stream
+
+no_utp : (form : Form) (packets : List Captured) → is_stream form ≡ true → utp_lines form packets ≡ []
+no_utp form packets e = ap (λ (b : Bool). if b then [] else flow_texts form.json (flows (datagrams packets))) e
+
+pub stream_only : (o : Origin) (left : Option (List ℕ)) (now : TargetSeen) (end : CaptureEnd) (n : ℕ) (side : Side) → o.form.stream ≡ Some (n, side)
+    → n < 2 ^ 64 - 1 → (i : IsEndOf o left now end) → IsOnlyStream o now end i.packets i.fs n side
+stream_only o left now end n side asked small i =
+    let stream : is_stream o.form ≡ true = ap (λ (s : Option (ℕ × Side)). is_some s) asked in
+    let none : utp_lines o.form i.packets ≡ [] = no_utp o.form i.packets stream in
+    let bytes : i.text ++ utp_lines o.form i.packets ≡ i.text = ap (λ (l : List ℕ). i.text ++ l) none ∙ append-nil i.text in
+    let held = subst (λ l. Appends o.target.held now.held l) bytes i.written in
+    elim (begun_or_absent o.form (length i.fs) n side asked) [
+      | inl lt ↦
+          let all = i.over.numbered n small in
+          let one = one_if_began (length i.fs) n lt in
+          let f = find_over n i.fs (omega (arith, all, one)) in
+          let from = unwrap_or (first_time i.packets) 0 in
+          let below : f.0.number < 2 ^ 64 - 1 = subst (λ m. m < 2 ^ 64 - 1) (sym f.2) small in
+          let wanted : wanted_by o.form f.0.number ≡ Some side =
+          subst (λ m. wanted_by o.form m ≡ Some side) (sym f.2) (wanted_if_asked o.form n side asked) in
+          let sent = All-contains (IsSentBy o.form i.text o.terms from) i.fs f.0 i.stream.sent f.1 in
+          (i.text, held, inr (f.0, f.1, f.2, sent side below wanted))
+      | inr absent ↦
+          let less : absent_from o.form (min (length i.fs) (2 ^ 64 - 1)) ≡ Some n =
+          absent_before o.form (min (length i.fs) (2 ^ 64 - 1)) (length i.fs) n (omega arith) absent in
+          (i.text, held, inl (i.absent ∙ less, i.stream.untold n absent small))
+    ]

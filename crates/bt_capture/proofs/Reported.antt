@@ -1,31 +1,44 @@
 -- One more connection is over.
 use Rattle.bt_talk.specs.declared.terms.Terms.{Terms}
-use Rattle.std.proofs.Common.{◌≡◌, ◌∙◌, ℕ, ◌+◌, ◌-◌, ◌^◌, min, Bool, true, false, List, [], ◌∷◌, ◌++◌, length, append-nil, append_assoc, Option, Some, None, unwrap_or, Result, Ok, Err, OnOk, OnErr, refl, sym, ap, subst, arith, inl, inr}
+use Rattle.std.proofs.Common.{◌≡◌, ◌∙◌, ◌⊎◌, ℕ, ◌+◌, ◌-◌, ◌^◌, ◌<◌, ◌≤◌, min, Bool, true, false, List, [], ◌∷◌, ◌++◌, length, append-nil, append_assoc}
+use Rattle.std.proofs.Common.{Option, Some, None, unwrap_or, Result, Ok, Err, OnOk, OnErr, refl, sym, ap, subst, arith, inl, inr}
 use Rattle.std.specs.List.{All, filter, list_any}
+use Rattle.std.specs.List.Sorted.{IsPermutation}
 use Rattle.std.specs.Map.{lookup, remove_entry}
 use Rattle.std.specs.Option.{option_or}
 use Rattle.std.proofs.lemmas.Bool.{cases_Bool}
-use Rattle.bt_pcap.specs.Formats.{Captured}
 use Rattle.std.proofs.lemmas.Grind.{flat_map-append}
 use Rattle.std.proofs.lemmas.List.{length-append}
-use Rattle.std.proofs.lemmas.List.Elements.{All-append, All-cons, All-head, All-nil, All-tail, filter-append}
+use Rattle.std.proofs.lemmas.List.Elements.{All-cons, All-head, All-nil, All-push, All-tail, filter-append}
+use Rattle.std.proofs.lemmas.List.Sorted.{length_permutation}
 use Rattle.bt_io.specs.Seen.{TargetSeen}
+use Rattle.bt_pcap.specs.Formats.{Captured}
+use Rattle.bt_remarks.specs.declared.events.Side.{Side}
 use Rattle.bt_talk.specs.Pasts.{Past}
-use Rattle.bt_talk.specs.Talks.{IsTalk, is_lost}
+use Rattle.bt_talk.specs.Sent.{IsSent}
+use Rattle.bt_talk.specs.Talks.{IsTalk, is_lost, of_side}
 use Rattle.bt_talk.specs.declared.talk.Talk.{Talk}
 use Rattle.bt_told.specs.declared.report.Report.{Report}
 use Rattle.bt_capture.specs.Arrivals.{Arrival, arrivals, arrivals_of, arrivals_after, has_data, is_between, pair_of, first_time}
-use Rattle.bt_capture.specs.Connections.{IsFirst, IsOpen}
-use Rattle.bt_capture.specs.Following.{Finished, Fate, IsFinished, IsFate, IsKnown, IsShare, IsShared, IsEnded, TellsOn, Follows, Stops, Goes, Holds, taken_between, report_in, reports_of, is_lost_by, count_lost}
-use Rattle.bt_capture.specs.Following.{Reported, Silent, Lost}
-use Rattle.bt_capture.specs.Reportings.{IsReportOf}
-use Rattle.bt_capture.specs.Tables.{Held, same_pair}
-use Rattle.bt_capture.specs.Tellings.{Tells}
+use Rattle.bt_capture.specs.Connections.{IsFirst, IsMade, IsOpen}
+use Rattle.bt_capture.specs.Following.{Finished, Fate, Reported, Silent, Lost, IsFinished, IsFate, IsKnown, IsReported, IsSentBy, IsShared, IsEnded}
+use Rattle.bt_capture.specs.Following.{IsStreaming, IsStreamSoFar, Follows, Stops, Goes, Holds, Shares, Streams, count_lost, count_open, is_lost_by}
+use Rattle.bt_capture.specs.Following.{report_in, reports_of, taken_between, told_by}
+use Rattle.bt_capture.specs.Forms.{is_stream, wanted_by}
+use Rattle.bt_capture.specs.Sending.{HasSent, IsSending}
+use Rattle.bt_capture.specs.Tables.{Held, IsApart, same_pair}
+use Rattle.bt_capture.specs.Tellings.{Says, Tells, TellsOn}
 use Rattle.bt_capture.specs.declared.connections.Run.{Run}
-use Rattle.bt_capture.specs.declared.telling.Teller.{Teller}
+use Rattle.bt_capture.specs.declared.ending.Form.{Form}
 use Rattle.bt_capture.specs.declared.pair.Pair.{Pair}
-use Rattle.bt_capture.proofs.Entries.{lookup_back, same_is, same_self}
-use Rattle.bt_capture.proofs.Shares.{own_of, others_of, over, moved, took, own_none, ready}
+use Rattle.bt_capture.specs.declared.telling.Teller.{Teller}
+use Rattle.bt_capture.proofs.Entries.{apart_moved, apart_none, apart_put, apart_rest, apart_without, lookup_back, lookup_gone, lookup_moved}
+use Rattle.bt_capture.proofs.Entries.{same_is, same_self}
+use Rattle.bt_capture.proofs.Shares.{own_of, others_of, others_on, over, moved, took, own_none, ready, ready_sent, share_same}
+use Rattle.bt_capture.proofs.SoFar.{EndsStream, ended_so_far, held_so_far, open_so_far, so_far_more, so_far_on, so_far_same}
+use Rattle.bt_capture.proofs.Streaming.{AddsFor, alone_open, sending_begun, sending_same, streaming_begun, streaming_moved, streaming_nothing, streaming_out}
+use Rattle.bt_capture.proofs.Streaming.{streaming_over, streaming_same, streaming_started, streaming_took}
+use Rattle.bt_capture.proofs.Wants.{wanted_stream}
 
 pub reports_more : (fs : List Finished) (f : Finished) → reports_of (fs ++ f ∷ []) ≡ reports_of fs ++ report_in f.fate
 reports_more fs f = flat_map-append (λ g. report_in g.fate) fs (f ∷ []) ∙ ap (λ l. reports_of fs ++ l) (append-nil (report_in f.fate))
@@ -40,23 +53,25 @@ pub lost_more : (fs : List Finished) (f : Finished) → is_lost_by f.fate ≡ tr
 lost_more fs f e =
     let test : Finished → Bool = λ g. is_lost_by g.fate in
     let more : length (filter test (fs ++ f ∷ [])) ≡ length (filter test fs) + 1 =
-    ap length (filter-append test fs (f ∷ [])) ∙ length-append (filter test fs) (filter test (f ∷ [])) ∙ ap (λ l. length (filter test fs) + length l) (one_passes test f e) in
+    ap length (filter-append test fs (f ∷ [])) ∙ length-append (filter test fs) (filter test (f ∷ []))
+    ∙ ap (λ l. length (filter test fs) + length l) (one_passes test f e) in
     omega (arith, more)
 
 pub lost_same : (fs : List Finished) (f : Finished) → is_lost_by f.fate ≡ false → count_lost fs ≡ count_lost (fs ++ f ∷ [])
 lost_same fs f e =
     let test : Finished → Bool = λ g. is_lost_by g.fate in
-    ap (λ l. min (length l) (2 ^ 64 - 1)) (sym (append-nil (filter test fs)) ∙ ap (λ l. filter test fs ++ l) (sym (none_passes test f e)) ∙ sym (filter-append test fs (f ∷ [])))
+    ap (λ l. min (length l) (2 ^ 64 - 1))
+    (sym (append-nil (filter test fs)) ∙ ap (λ l. filter test fs ++ l) (sym (none_passes test f e)) ∙ sym (filter-append test fs (f ∷ [])))
 
-known_more : (start now : TargetSeen) (fs : List Finished) (f : Finished) (old new : Run) → new.terms ≡ old.terms → new.start ≡ old.start
-    → Tells start now new.teller (reports_of fs ++ report_in f.fate) → new.lost ≡ count_lost (fs ++ f ∷ [])
-    → IsFinished old.terms (unwrap_or old.start 0) f → IsKnown start now fs old → IsKnown start now (fs ++ f ∷ []) new
-known_more start now fs f old new terms begin tells lost is i =
+known_more : (start now : TargetSeen) (fs : List Finished) (f : Finished) (written : List ℕ) (old new : Run) → new.terms ≡ old.terms
+    → new.start ≡ old.start → Tells start now new.teller (reports_of fs ++ report_in f.fate) written → new.lost ≡ count_lost (fs ++ f ∷ [])
+    → IsFinished old.terms (unwrap_or old.start 0) f → IsKnown start now fs written old → IsKnown start now (fs ++ f ∷ []) written new
+known_more start now fs f written old new terms begin tells lost is i =
     let P : Terms → Type 0 = λ x. All (IsFinished x (unwrap_or new.start 0)) (fs ++ f ∷ []) in
     let Q : Option ℕ → Type 0 = λ x. All (IsFinished old.terms (unwrap_or x 0)) (fs ++ f ∷ []) in
     record {
-      tells = subst (Tells start now new.teller) (sym (reports_more fs f)) tells;
-      finished = subst P (sym terms) (subst Q (sym begin) (All-append (IsFinished old.terms (unwrap_or old.start 0)) fs (f ∷ []) i.finished (All-cons (IsFinished old.terms (unwrap_or old.start 0)) f [] is (All-nil (IsFinished old.terms (unwrap_or old.start 0))))));
+      tells = subst (λ l. Tells start now new.teller l written) (sym (reports_more fs f)) tells;
+      finished = subst P (sym terms) (subst Q (sym begin) (All-push (IsFinished old.terms (unwrap_or old.start 0)) fs f i.finished is));
       lost = lost;
     }
 
@@ -86,106 +101,243 @@ length_out test (e ∷ es) c found = elim (cases_Bool (test e.0)) [
   | inr f ↦ let rest = length_out test es c (rw f at found) in rw f (omega (arith, rest))
 ]
 
+-- What is told of a stream stays.
+told_same : (written : List ℕ) (old new : Run) → new.teller ≡ old.teller → told_by written new ≡ told_by written old
+told_same written old new teller = ap (λ (t : Teller). written ++ t.text.items) teller
+
+streams_same : (written written' : List ℕ) (fs : List Finished) (es : List (Pair × Held)) (old new : Run) → new.terms ≡ old.terms
+    → new.start ≡ old.start → new.teller.form ≡ old.teller.form → new.begun ≡ old.begun → told_by written' new ≡ told_by written old
+    → Streams written fs es old → Streams written' fs es new
+streams_same written written' fs es old new terms begin form count told i =
+    streaming_same old.teller.form new.teller.form (told_by written old) (told_by written' new) old.terms new.terms (unwrap_or old.start 0)
+    (unwrap_or new.start 0) old.begun new.begun fs es form told terms (ap (λ o. unwrap_or o 0) begin) count i
+
+shares_same : (written written' : List ℕ) (came : List Arrival) (fs : List Finished) (old new : Run) (k : Pair) (o : Option Held)
+    → new.terms ≡ old.terms → new.teller.form ≡ old.teller.form → told_by written' new ≡ told_by written old → Shares written came fs old k o
+    → Shares written' came fs new k o
+shares_same written written' came fs old new k o terms form told i =
+    share_same old.teller.form new.teller.form (told_by written old) (told_by written' new) old.terms new.terms came fs k o form told terms i
+
 -- The first of these is over.
-pub follows_over : (start now : TargetSeen) (came : List Arrival) (p : Pair) (c : Held) (es : List (Pair × Held)) (old new : Run)
-    → lookup (same_pair p) es ≡ None → (i : Follows start now came ((p, c) ∷ es) old) → (end : Fate) → new.terms ≡ old.terms → new.start ≡ old.start
-    → Tells start now new.teller (reports_of i.fs ++ report_in end)
-    → new.lost ≡ count_lost (i.fs ++ record { pair = p; taken = (own_of old.terms came i.fs p c es i.shared).taken; fate = end } ∷ [])
-    → new.begun ≡ old.begun → IsFate old.terms (unwrap_or old.start 0) (own_of old.terms came i.fs p c es i.shared).taken end → Follows start now came es new
-follows_over start now came p c es old new absent i end terms begin tells lost count is =
-    let own = own_of old.terms came i.fs p c es i.shared in
-    let f : Finished = record { pair = p; taken = own.taken; fate = end } in
+pub follows_over : (start now : TargetSeen) (came : List Arrival) (p : Pair) (c : Held) (es : List (Pair × Held)) (old new : Run) (end : Fate)
+    → lookup (same_pair p) es ≡ None → new.terms ≡ old.terms → new.start ≡ old.start → new.teller.form ≡ old.teller.form → new.begun ≡ old.begun
+    → (i : Follows start now came ((p, c) ∷ es) old) → (f : Finished) → f.number ≡ c.value.number → f.pair ≡ p → IsShared p came i.fs f.taken
+    → AddsFor old.teller.form c.value.number (told_by i.written old) (told_by i.written new)
+    → Tells start now new.teller (reports_of i.fs ++ report_in f.fate) i.written → new.lost ≡ count_lost (i.fs ++ f ∷ [])
+    → IsFinished old.terms (unwrap_or old.start 0) f → IsSentBy old.teller.form (told_by i.written new) old.terms (unwrap_or old.start 0) f
+    → Follows start now came es new
+follows_over start now came p c es old new end absent terms begin form count i f number ends share adds tells lost is sent =
+    let n = c.value.number in
+    let shown = old.teller.form in
+    let told = told_by i.written old in
+    let told' = told_by i.written new in
+    let from = unwrap_or old.start 0 in
+    let alone : n < 2 ^ 64 - 1 → count_open n es ≡ 0 = alone_open old.begun i.fs p c es i.streams.numbered in
+    let others = others_on shown old.terms came i.fs told told' n p es alone adds (others_of shown old.terms came i.fs told p c es i.shared) in
     record {
       fs = i.fs ++ f ∷ [];
-      known = known_more start now i.fs f old new terms begin tells lost is i.known;
+      written = i.written;
+      known = known_more start now i.fs f i.written old new terms begin tells lost is i.known;
       begun = begun_over new.begun i.fs f (p, c) es (count ∙ i.begun);
-      shared = subst (λ x. (k : Pair) → IsShare x came (i.fs ++ f ∷ []) k (lookup (same_pair k) es)) (sym terms)
-          (over old.terms came i.fs p es own.taken end absent own.share (others_of old.terms came i.fs p c es i.shared));
+      apart = apart_rest (p, c) es i.apart;
+      streams = streaming_same shown new.teller.form told' told' old.terms new.terms from (unwrap_or new.start 0) old.begun new.begun (i.fs ++ f ∷ []) es
+          form refl terms (ap (λ o. unwrap_or o 0) begin) count
+          (streaming_over shown told told' old.terms from old.begun i.fs f p c es number adds sent i.streams);
+      shared = λ k. share_same shown new.teller.form told' told' old.terms new.terms came (i.fs ++ f ∷ []) k (lookup (same_pair k) es) form refl terms
+          (over shown old.terms came i.fs told' p es f ends absent share others k);
     }
 
-pub known_same : (start now : TargetSeen) (fs : List Finished) (old new : Run) → new.terms ≡ old.terms → new.start ≡ old.start → new.lost ≡ old.lost
-    → Tells start now new.teller (reports_of fs) → IsKnown start now fs old → IsKnown start now fs new
-known_same start now fs old new terms begin lost tells i = record {
-  tells = tells;
-  finished = subst (λ x. All (IsFinished x (unwrap_or new.start 0)) fs) (sym terms) (subst (λ x. All (IsFinished old.terms (unwrap_or x 0)) fs) (sym begin) i.finished);
-  lost = lost ∙ i.lost;
-}
+pub known_same : (start now : TargetSeen) (fs : List Finished) (written written' : List ℕ) (old new : Run) → new.terms ≡ old.terms
+    → new.start ≡ old.start → new.lost ≡ old.lost → Tells start now new.teller (reports_of fs) written' → IsKnown start now fs written old
+    → IsKnown start now fs written' new
+known_same start now fs written written' old new terms begin lost tells i =
+    let P : Terms → Type 0 = λ x. All (IsFinished x (unwrap_or new.start 0)) fs in
+    let Q : Option ℕ → Type 0 = λ x. All (IsFinished old.terms (unwrap_or x 0)) fs in
+    record { tells = tells; finished = subst P (sym terms) (subst Q (sym begin) i.finished); lost = lost ∙ i.lost }
 
-pub follows_same : (start now : TargetSeen) (came : List Arrival) (es : List (Pair × Held)) (old new : Run) → new.terms ≡ old.terms → new.start ≡ old.start
-    → new.lost ≡ old.lost → new.teller ≡ old.teller → new.begun ≡ old.begun → Follows start now came es old → Follows start now came es new
-follows_same start now came es old new terms begin lost teller count i = record {
-  fs = i.fs;
-  begun = count ∙ i.begun;
-  known = known_same start now i.fs old new terms begin lost (subst (λ t. Tells start now t (reports_of i.fs)) (sym teller) i.known.tells) i.known;
-  shared = subst (λ x. (k : Pair) → IsShare x came i.fs k (lookup (same_pair k) es)) (sym terms) i.shared;
-}
+known_kept : (start now : TargetSeen) (fs : List Finished) (written : List ℕ) (old new : Run) → new.terms ≡ old.terms → new.start ≡ old.start
+    → new.lost ≡ old.lost → new.teller ≡ old.teller → IsKnown start now fs written old → IsKnown start now fs written new
+known_kept start now fs written old new terms begin lost teller i =
+    known_same start now fs written written old new terms begin lost
+    (subst (λ t. Tells start now t (reports_of fs) written) (sym teller) i.tells) i
+
+pub follows_same : (start now : TargetSeen) (came : List Arrival) (es : List (Pair × Held)) (old new : Run) → new.terms ≡ old.terms
+    → new.start ≡ old.start → new.lost ≡ old.lost → new.teller ≡ old.teller → new.begun ≡ old.begun → Follows start now came es old
+    → Follows start now came es new
+follows_same start now came es old new terms begin lost teller count i =
+    let form = ap (λ (t : Teller). t.form) teller in
+    let told = told_same i.written old new teller in
+    record {
+      fs = i.fs;
+      written = i.written;
+      begun = count ∙ i.begun;
+      apart = i.apart;
+      known = known_kept start now i.fs i.written old new terms begin lost teller i.known;
+      streams = streams_same i.written i.written i.fs es old new terms begin form count told i.streams;
+      shared = λ k. shares_same i.written i.written came i.fs old new k (lookup (same_pair k) es) terms form told (i.shared k);
+    }
 
 pub stops_same : (start now : TargetSeen) (came : List Arrival) (old new : Run) → new.terms ≡ old.terms → new.start ≡ old.start → new.lost ≡ old.lost
     → new.teller ≡ old.teller → Stops start now came old → Stops start now came new
 stops_same start now came old new terms begin lost teller i = record {
   fs = i.fs;
-  known = known_same start now i.fs old new terms begin lost (subst (λ t. Tells start now t (reports_of i.fs)) (sym teller) i.known.tells) i.known;
+  written = i.written;
+  known = known_kept start now i.fs i.written old new terms begin lost teller i.known;
+  so_far = so_far_same old.teller.form new.teller.form (told_by i.written old) (told_by i.written new) old.terms new.terms (unwrap_or old.start 0)
+      (unwrap_or new.start 0) came i.fs (ap (λ (t : Teller). t.form) teller) (told_same i.written old new teller) terms (ap (λ o. unwrap_or o 0) begin)
+      i.so_far;
   shared = i.shared;
 }
 
+pub follows_so_far : (start now : TargetSeen) (came : List Arrival) (es : List (Pair × Held)) (run : Run) → (i : Follows start now came es run)
+    → IsStreamSoFar run.teller.form (told_by i.written run) run.terms (unwrap_or run.start 0) came i.fs
+follows_so_far start now came es run i =
+    open_so_far run.teller.form (told_by i.written run) run.terms (unwrap_or run.start 0) run.begun came i.fs es i.apart i.streams i.shared
+
 pub stops_of : (start now : TargetSeen) (came : List Arrival) (es : List (Pair × Held)) (run : Run) → Follows start now came es run → Stops start now came run
-stops_of start now came es run i = record { fs = i.fs; known = i.known; shared = λ k. ((i.shared k).taken, (i.shared k).share) }
+stops_of start now came es run i = record {
+  fs = i.fs;
+  written = i.written;
+  known = i.known;
+  so_far = follows_so_far start now came es run i;
+  shared = λ k. ((i.shared k).taken, (i.shared k).share);
+}
+
+-- The text that was kept is written.
+pub follows_flushed : (start now after : TargetSeen) (came : List Arrival) (es : List (Pair × Held)) (old new : Run) → new.terms ≡ old.terms
+    → new.start ≡ old.start → new.lost ≡ old.lost → new.begun ≡ old.begun → new.teller.form ≡ old.teller.form → new.teller.text.items ≡ []
+    → ((reports : List Report) (written : List ℕ) → Tells start now old.teller reports written
+    → Tells start after new.teller reports (written ++ old.teller.text.items))
+    → Follows start now came es old → Follows start after came es new
+follows_flushed start now after came es old new terms begin lost count form empty tells i =
+    let written = told_by i.written old in
+    let told : told_by written new ≡ written = ap (λ (l : List ℕ). written ++ l) empty ∙ append-nil written in
+    let P : Terms → Type 0 = λ x. All (IsFinished x (unwrap_or new.start 0)) i.fs in
+    let Q : Option ℕ → Type 0 = λ x. All (IsFinished old.terms (unwrap_or x 0)) i.fs in
+    record {
+      fs = i.fs;
+      written = written;
+      begun = count ∙ i.begun;
+      apart = i.apart;
+      known = record {
+        tells = tells (reports_of i.fs) i.written i.known.tells;
+        finished = subst P (sym terms) (subst Q (sym begin) i.known.finished);
+        lost = lost ∙ i.known.lost;
+      };
+      streams = streams_same i.written written i.fs es old new terms begin form count told i.streams;
+      shared = λ k. shares_same i.written written came i.fs old new k (lookup (same_pair k) es) terms form told (i.shared k);
+    }
+
+-- The first connection's share of the segments.
+abbrev own : (start now : TargetSeen) (came : List Arrival) (p : Pair) (c : Held) (es : List (Pair × Held)) (run : Run)
+    → (i : Follows start now came ((p, c) ∷ es) run) → Shares i.written came i.fs run p (Some c)
+own start now came p c es run i = own_of run.teller.form run.terms came i.fs (told_by i.written run) p c es i.shared
+
+-- It is over without a report.
+unreported : (start now : TargetSeen) (came : List Arrival) (p : Pair) (c : Held) (es : List (Pair × Held)) (old new : Run) (end : Fate)
+    → lookup (same_pair p) es ≡ None → new.terms ≡ old.terms → new.start ≡ old.start → new.teller ≡ old.teller → new.begun ≡ old.begun
+    → report_in end ≡ [] → (i : Follows start now came ((p, c) ∷ es) old)
+    → (f : Finished) → f ≡ record { number = c.value.number; pair = p; taken = (own start now came p c es old i).taken; fate = end }
+    → new.lost ≡ count_lost (i.fs ++ f ∷ []) → IsFinished old.terms (unwrap_or old.start 0) f
+    → IsSentBy old.teller.form (told_by i.written old) old.terms (unwrap_or old.start 0) f → Follows start now came es new
+unreported start now came p c es old new end absent terms begin teller count none i f is lost finished sent =
+    let told = told_same i.written old new teller in
+    let P : List ℕ → Type 0 = λ l. IsSentBy old.teller.form l old.terms (unwrap_or old.start 0) f in
+    let reports : reports_of i.fs ≡ reports_of i.fs ++ report_in f.fate =
+    sym (append-nil (reports_of i.fs)) ∙ ap (λ (l : List Report). reports_of i.fs ++ l) (sym (ap (λ (g : Finished). report_in g.fate) is ∙ none)) in
+    let tells = subst (λ t. Tells start now t (reports_of i.fs) i.written) (sym teller) i.known.tells in
+    follows_over start now came p c es old new end absent terms begin (ap (λ (t : Teller). t.form) teller) count i f (ap (λ (g : Finished). g.number) is)
+    (ap (λ (g : Finished). g.pair) is)
+    (subst (λ (l : List Arrival). IsShared p came i.fs l) (sym (ap (λ (g : Finished). g.taken) is)) (own start now came p c es old i).share)
+    (λ stream w. told) (subst (λ l. Tells start now new.teller l i.written) reports tells) lost finished (subst P (sym told) sent)
 
 -- no byte of it was captured
 pub silent : (start now : TargetSeen) (came : List Arrival) (p : Pair) (c : Held) (es : List (Pair × Held)) (run : Run) → lookup (same_pair p) es ≡ None
     → c.value.has_payload ≡ false → Follows start now came ((p, c) ∷ es) run → Follows start now came es run
 silent start now came p c es run absent none i =
-    let own = own_of run.terms came i.fs p c es i.shared in
-    follows_over start now came p c es run run absent i Silent refl refl (subst (Tells start now run.teller) (sym (append-nil (reports_of i.fs))) i.known.tells)
-    (i.known.lost ∙ lost_same i.fs (record { pair = p; taken = own.taken; fate = Silent }) refl) refl (sym own.is.has_payload ∙ none)
+    let s = own start now came p c es run i in
+    let f : Finished = record { number = c.value.number; pair = p; taken = s.taken; fate = Silent } in
+    unreported start now came p c es run run Silent absent refl refl refl refl refl i f refl (i.known.lost ∙ lost_same i.fs f refl)
+    (sym s.is.0.has_payload ∙ none) (λ side small w. tt)
 
 -- its opening couldn't be ended
-pub lost_one : (start now : TargetSeen) (came : List Arrival) (p : Pair) (c : Held) (es : List (Pair × Held)) (old new : Run) → lookup (same_pair p) es ≡ None
-    → c.value.has_payload ≡ true → new.terms ≡ old.terms → new.start ≡ old.start → new.teller ≡ old.teller → new.lost ≡ min (old.lost + 1) (2 ^ 64 - 1)
-    → new.begun ≡ old.begun → Follows start now came ((p, c) ∷ es) old → Follows start now came es new
+pub lost_one : (start now : TargetSeen) (came : List Arrival) (p : Pair) (c : Held) (es : List (Pair × Held)) (old new : Run)
+    → lookup (same_pair p) es ≡ None → c.value.has_payload ≡ true → new.terms ≡ old.terms → new.start ≡ old.start → new.teller ≡ old.teller
+    → new.lost ≡ min (old.lost + 1) (2 ^ 64 - 1) → new.begun ≡ old.begun → Follows start now came ((p, c) ∷ es) old → Follows start now came es new
 lost_one start now came p c es old new absent some terms begin teller lost count i =
-    let own = own_of old.terms came i.fs p c es i.shared in
-    follows_over start now came p c es old new absent i Lost terms begin
-    (subst (λ t. Tells start now t (reports_of i.fs ++ [])) (sym teller) (subst (Tells start now old.teller) (sym (append-nil (reports_of i.fs))) i.known.tells))
-    (lost ∙ ap (λ n. min (n + 1) (2 ^ 64 - 1)) i.known.lost ∙ lost_more i.fs (record { pair = p; taken = own.taken; fate = Lost }) refl)
-    count (sym own.is.has_payload ∙ some)
+    let s = own start now came p c es old i in
+    let f : Finished = record { number = c.value.number; pair = p; taken = s.taken; fate = Lost } in
+    unreported start now came p c es old new Lost absent terms begin teller count refl i f refl
+    (lost ∙ ap (λ n. min (n + 1) (2 ^ 64 - 1)) i.known.lost ∙ lost_more i.fs f refl) (sym s.is.0.has_payload ∙ some) (λ side small w. tt)
 
--- A report on the connection was told.
-abbrev pub Says : Teller → Teller → ℕ → ℕ → Talk → Type 0
-Says t t' number from talk = (a b : Past) → IsTalk a b talk → (r : Report) × IsReportOf number from a b talk r
-    × ((start now : TargetSeen) (reports : List Report) → Tells start now t reports → Tells start now t' (reports ++ r ∷ []))
+-- What is told after these bytes were appended, if a stream is told.
+appended : (written more : List ℕ) (old new : Run) → new.teller.text.items ≡ old.teller.text.items ++ more → told_by written new ≡ told_by written old ++ more
+appended written more old new text = ap (λ (l : List ℕ). written ++ l) text ∙ sym (append_assoc written old.teller.text.items more)
 
-pub reported : {A E : Type 0} (r : Result A E) (start now : TargetSeen) (came : List Arrival) (p : Pair) (c : Held) (es : List (Pair × Held)) (old new : Run)
-    → lookup (same_pair p) es ≡ None → c.value.has_payload ≡ true → new.terms ≡ old.terms → new.start ≡ old.start → new.lost ≡ old.lost
-    → is_lost c.value.talk ≡ false → (talk : Talk) → ((a b : Past) → IsTalk a b c.value.talk → IsEnded a b c.value.talk talk) → (number : ℕ)
-    → (Q : Type 0) → ((a b : Past) → IsTalk a b c.value.talk → Q) → OnOk r (Q → Says old.teller new.teller number (unwrap_or old.start 0) talk)
-    → OnErr r (Q → TellsOn old.teller new.teller) → new.begun ≡ old.begun → Follows start now came ((p, c) ∷ es) old → Goes start now came es new r
-reported (Ok x) start now came p c es old new absent some terms begin lost there talk ended number Q shown says nothing count i =
-    let own = own_of old.terms came i.fs p c es i.shared in
-    let m = own.is.made there in
-    let e = ended m.a m.b m.made.is in
-    let s = says (shown m.a m.b m.made.is) m.a m.b e.is in
-    follows_over start now came p c es old new absent i (Reported s.0) terms begin (s.2 start now (reports_of i.fs) i.known.tells)
-    (lost ∙ i.known.lost ∙ lost_same i.fs (record { pair = p; taken = own.taken; fate = Reported s.0 }) refl) count (
-      sym own.is.has_payload ∙ some,
-      record {
-        first = m.first;
-        is_first = subst (IsFirst m.first) (append-nil own.taken) m.is_first;
-        a = m.a;
-        b = m.b;
-        last = c.value.talk;
-        made = m.made;
-        talk = talk;
-        ended = e;
-        number = number;
-        is = s.1;
-      },
-    )
-reported (Err x) start now came p c es old new absent some terms begin lost there talk ended number Q shown says nothing count i =
-    let m = (own_of old.terms came i.fs p c es i.shared).is.made there in
+adds_more : (form : Form) (n : ℕ) (told told' more : List ℕ) → (is_stream form ≡ true → told' ≡ told ++ more) → (wanted_by form n ≡ None → more ≡ [])
+    → AddsFor form n told told'
+adds_more form n told told' more is none stream w = is stream ∙ ap (λ (l : List ℕ). told ++ l) (none w) ∙ append-nil told
+
+pub reported : {A E : Type 0} (r : Result A E) (start now : TargetSeen) (came : List Arrival) (p : Pair) (c : Held) (es : List (Pair × Held))
+    (old new : Run) → lookup (same_pair p) es ≡ None → c.value.has_payload ≡ true → new.terms ≡ old.terms → new.start ≡ old.start
+    → new.lost ≡ old.lost → new.teller.form ≡ old.teller.form → new.begun ≡ old.begun → is_lost c.value.talk ≡ false → (talk : Talk)
+    → ((a b : Past) → IsTalk a b c.value.talk → IsEnded a b c.value.talk talk) → (Q : Type 0) → ((a b : Past) → IsTalk a b c.value.talk → Q)
+    → OnOk r (Q → Says old.teller new.teller c.value.number (unwrap_or old.start 0) talk) → OnErr r (Q → TellsOn old.teller new.teller)
+    → (more : List ℕ) → OnOk r (is_stream old.teller.form ≡ true → Q → new.teller.text.items ≡ old.teller.text.items ++ more)
+    → OnErr r (is_stream old.teller.form ≡ true → Q
+    → (new.teller.text.items ≡ old.teller.text.items) ⊎ (new.teller.text.items ≡ old.teller.text.items ++ more))
+    → (wanted_by old.teller.form c.value.number ≡ None → more ≡ []) → EndsStream old.teller.form c.value.number c.value.talk more
+    → Follows start now came ((p, c) ∷ es) old → Goes start now came es new r
+reported (Ok x) start now came p c es old new absent some terms begin lost form count there talk ended Q shown says nothing more text part none ends i =
+    let s = own start now came p c es old i in
+    let n = c.value.number in
+    let m = s.is.0.made there in
+    let q = shown m.a m.b m.made.is in
+    let said = says q in
+    let told = told_by i.written old in
+    let told' = told_by i.written new in
+    let f : Finished = record { number = n; pair = p; taken = s.taken; fate = Reported said.0 } in
+    let is : is_stream old.teller.form ≡ true → told' ≡ told ++ more = λ stream. appended i.written more old new (text stream q) in
+    let from = unwrap_or old.start 0 in
+    let report : (k : IsMade old.terms s.taken [] c.value.talk) → IsReported old.terms from n s.taken said.0 = λ k.
+    let e = ended k.a k.b k.made.is in
+    record {
+      first = k.first;
+      is_first = subst (IsFirst k.first) (append-nil s.taken) k.is_first;
+      a = k.a;
+      b = k.b;
+      last = c.value.talk;
+      made = k.made;
+      talk = talk;
+      ended = e;
+      is = said.1 k.a k.b e.is;
+    } in
+    follows_over start now came p c es old new (Reported said.0) absent terms begin form count i f refl refl s.share
+    (adds_more old.teller.form n told told' more is none) (said.2 start now (reports_of i.fs) i.written i.known.tells)
+    (lost ∙ i.known.lost ∙ lost_same i.fs f refl) (sym s.is.0.has_payload ∙ some, report m)
+    (λ side small w.
+    let h = s.is.1 side small w there in
+    let k = h.0 in
+    let R : List ℕ → Type 0 = λ l. IsSent false (of_side side k.a k.b) l in
+    (report k, subst R (sym (is (wanted_stream old.teller.form n side w))) (ends k.a k.b side told k.made.is w h.1)))
+reported (Err x) start now came p c es old new absent some terms begin lost form count there talk ended Q shown says nothing more text part none ends i =
+    let m = (own start now came p c es old i).is.0.made there in
+    let q = shown m.a m.b m.made.is in
+    let told = told_by i.written old in
+    let told' = told_by i.written new in
+    let from = unwrap_or old.start 0 in
+    let is : is_stream old.teller.form ≡ true → (told' ≡ told) ⊎ (told' ≡ told ++ more) = λ stream. elim (part stream q) [
+      | inl e ↦ inl (ap (λ (l : List ℕ). i.written ++ l) e)
+      | inr e ↦ inr (appended i.written more old new e)
+    ] in
     record {
       fs = i.fs;
-      known = known_same start now i.fs old new terms begin lost (nothing (shown m.a m.b m.made.is) start now (reports_of i.fs) i.known.tells) i.known;
+      written = i.written;
+      known = known_same start now i.fs i.written i.written old new terms begin lost (nothing q start now (reports_of i.fs) i.written i.known.tells) i.known;
+      so_far = so_far_same old.teller.form new.teller.form told' told' old.terms new.terms from (unwrap_or new.start 0) came i.fs form refl terms
+          (ap (λ o. unwrap_or o 0) begin)
+          (ended_so_far old.teller.form told told' more old.terms from old.begun came i.fs p c es absent (apart_rest (p, c) es i.apart) i.streams i.shared is
+          none ends);
       shared = λ k. ((i.shared k).taken, (i.shared k).share);
     }
 
@@ -195,54 +347,111 @@ not_lost true x e stays = let both = stays refl in cc
 
 -- ---- the next segment
 
-pub begun : (start now : TargetSeen) (came : List Arrival) (x : Arrival) (p : Pair) (c : Held) (es : List (Pair × Held)) (old new : Run) → lookup (same_pair p) es ≡ None
-    → new.terms ≡ old.terms → new.start ≡ old.start → new.lost ≡ old.lost → new.teller ≡ old.teller → new.begun ≡ min (old.begun + 1) (2 ^ 64 - 1)
-    → IsOpen old.terms [] (x ∷ []) c.value → Follows start now came es old → Holds start now came x p c es new
-begun start now came x p c es old new absent terms begin lost teller count is i = record {
-  fs = i.fs;
-  known = known_same start now i.fs old new terms begin lost (subst (λ t. Tells start now t (reports_of i.fs)) (sym teller) i.known.tells) i.known;
-  begun = begun_more new.begun old.begun (length i.fs) (length es) count i.begun;
-  taken = [];
-  is = subst (λ y. IsOpen y [] (x ∷ []) c.value) (sym terms) is;
-  share = own_none old.terms came i.fs p es absent i.shared;
-  absent = absent;
-  others = subst (λ y. (k : Pair) → same_pair k p ≡ false → IsShare y came i.fs k (lookup (same_pair k) es)) (sym terms) (λ k e. i.shared k);
-}
+begun_most : (a n : ℕ) → a ≡ min n (2 ^ 64 - 1) → a ≤ 2 ^ 64 - 1
+begun_most a n e = omega (arith, e)
 
-pub held : (start now : TargetSeen) (came : List Arrival) (x : Arrival) (p : Pair) (c : Held) (es : List (Pair × Held)) (run : Run) → lookup (same_pair p) es ≡ None
-    → Follows start now came ((p, c) ∷ es) run → Holds start now came x p c es run
-held start now came x p c es run absent i =
-    let own = own_of run.terms came i.fs p c es i.shared in
+pub begun : (start now : TargetSeen) (came : List Arrival) (x : Arrival) (p : Pair) (c : Held) (es : List (Pair × Held)) (old new : Run)
+    → lookup (same_pair p) es ≡ None → new.terms ≡ old.terms → new.start ≡ old.start → new.lost ≡ old.lost → new.teller ≡ old.teller
+    → new.begun ≡ min (old.begun + 1) (2 ^ 64 - 1) → IsOpen old.terms [] (x ∷ []) c.value → c.value.number ≡ old.begun
+    → ((side : Side) → HasSent side [] old.terms [] (x ∷ []) c.value) → Follows start now came es old → Holds start now came x p c es new
+begun start now came x p c es old new absent terms begin lost teller count is number sent i =
+    let form = ap (λ (t : Teller). t.form) teller in
+    let told = told_by i.written old in
+    let told' = told_by i.written new in
+    let same = told_same i.written old new teller in
+    let from = unwrap_or old.start 0 in
+    let sends = sending_begun old.teller.form told old.terms from old.begun i.fs es x c.value number sent i.streams in
+    let most = begun_most old.begun (length i.fs + length es) i.begun in
     record {
       fs = i.fs;
+      written = i.written;
+      known = known_kept start now i.fs i.written old new terms begin lost teller i.known;
+      begun = begun_more new.begun old.begun (length i.fs) (length es) count i.begun;
+      streams = streaming_same old.teller.form new.teller.form told told' old.terms new.terms from (unwrap_or new.start 0) new.begun new.begun i.fs
+          ((p, c) ∷ es) form same terms (ap (λ o. unwrap_or o 0) begin) refl
+          (streaming_begun old.teller.form told old.terms from old.begun new.begun i.fs p c es number count i.streams most);
+      taken = [];
+      is = subst (λ y. IsOpen y [] (x ∷ []) c.value) (sym terms) is;
+      sends = sending_same old.teller.form new.teller.form told told' old.terms new.terms [] (x ∷ []) c.value form same terms sends;
+      share = own_none old.teller.form old.terms came i.fs told p es absent i.shared;
+      absent = absent;
+      apart = i.apart;
+      others = λ k e. shares_same i.written i.written came i.fs old new k (lookup (same_pair k) es) terms form same (i.shared k);
+    }
+
+pub held : (start now : TargetSeen) (came : List Arrival) (x : Arrival) (p : Pair) (c : Held) (es : List (Pair × Held)) (run : Run)
+    → lookup (same_pair p) es ≡ None → Follows start now came ((p, c) ∷ es) run → Holds start now came x p c es run
+held start now came x p c es run absent i =
+    let s = own start now came p c es run i in
+    record {
+      fs = i.fs;
+      written = i.written;
       known = i.known;
       begun = begun_held run.begun (length i.fs) (p, c) es i.begun;
-      taken = own.taken;
-      is = ready run.terms own.taken x c.value own.is;
-      share = own.share;
+      streams = i.streams;
+      taken = s.taken;
+      is = ready run.terms s.taken x c.value s.is.0;
+      sends = ready_sent run.teller.form (told_by i.written run) run.terms s.taken x c.value s.is.1;
+      share = s.share;
       absent = absent;
-      others = others_of run.terms came i.fs p c es i.shared;
+      apart = apart_rest (p, c) es i.apart;
+      others = others_of run.teller.form run.terms came i.fs (told_by i.written run) p c es i.shared;
     }
 
 -- The connection takes the segment.
-pub follows_took : (start now : TargetSeen) (came : List Arrival) (x : Arrival) (p : Pair) (c c' : Held) (es : List (Pair × Held)) (run : Run) → pair_of x ≡ p
-    → ((taken : List Arrival) → IsOpen run.terms taken (x ∷ []) c.value → IsOpen run.terms (taken ++ x ∷ []) [] c'.value)
-    → Holds start now came x p c es run → Follows start now (came ++ x ∷ []) ((p, c') ∷ es) run
-follows_took start now came x p c c' es run ends takes i = record {
-  fs = i.fs;
-  known = i.known;
-  begun = begun_took run.begun (length i.fs) (p, c') es i.begun;
-  shared = took run.terms came i.fs p c' es i.taken x ends i.share (takes i.taken i.is) i.others;
-}
+pub follows_took : (start now : TargetSeen) (came : List Arrival) (x : Arrival) (p : Pair) (c c' : Held) (es : List (Pair × Held)) (old new : Run)
+    → pair_of x ≡ p → new.terms ≡ old.terms → new.start ≡ old.start → new.lost ≡ old.lost → new.begun ≡ old.begun
+    → new.teller.form ≡ old.teller.form → TellsOn old.teller new.teller → c'.value.number ≡ c.value.number
+    → (i : Holds start now came x p c es old) → IsOpen old.terms (i.taken ++ x ∷ []) [] c'.value
+    → (more : List ℕ) → (is_stream old.teller.form ≡ true → new.teller.text.items ≡ old.teller.text.items ++ more)
+    → (wanted_by old.teller.form c.value.number ≡ None → more ≡ [])
+    → ((side : Side) → wanted_by old.teller.form c.value.number ≡ Some side
+    → HasSent side (told_by i.written old) old.terms i.taken (x ∷ []) c.value
+    → HasSent side (told_by i.written old ++ more) old.terms (i.taken ++ x ∷ []) [] c'.value)
+    → Follows start now (came ++ x ∷ []) ((p, c') ∷ es) new
+follows_took start now came x p c c' es old new ends terms begin lost count form tells number i is more text none sends =
+    let n = c.value.number in
+    let shown = old.teller.form in
+    let told = told_by i.written old in
+    let told' = told_by i.written new in
+    let from = unwrap_or old.start 0 in
+    let same : is_stream shown ≡ true → told' ≡ told ++ more = λ stream. appended i.written more old new (text stream) in
+    let adds = adds_more shown n told told' more same none in
+    let alone : n < 2 ^ 64 - 1 → count_open n es ≡ 0 = alone_open old.begun i.fs p c es i.streams.numbered in
+    let others = others_on shown old.terms came i.fs told told' n p es alone adds i.others in
+    let sent : IsSending shown told' old.terms (i.taken ++ x ∷ []) [] c'.value = λ side small w.
+    let w' : wanted_by shown n ≡ Some side = subst (λ k. wanted_by shown k ≡ Some side) number w in
+    let below : n < 2 ^ 64 - 1 = subst (λ k. k < 2 ^ 64 - 1) number small in
+    let R : List ℕ → Type 0 = λ l. HasSent side l old.terms (i.taken ++ x ∷ []) [] c'.value in
+    subst R (sym (same (wanted_stream shown n side w'))) (sends side w' (i.sends side below w')) in
+    record {
+      fs = i.fs;
+      written = i.written;
+      known = known_same start now i.fs i.written i.written old new terms begin lost (tells start now (reports_of i.fs) i.written i.known.tells) i.known;
+      begun = begun_took new.begun (length i.fs) (p, c') es (count ∙ i.begun);
+      apart = apart_put (p, c') es i.absent i.apart;
+      streams = streaming_same shown new.teller.form told' told' old.terms new.terms from (unwrap_or new.start 0) old.begun new.begun i.fs ((p, c') ∷ es)
+          form refl terms (ap (λ o. unwrap_or o 0) begin) count
+          (streaming_took shown told told' old.terms from old.begun i.fs p c c' es number adds i.streams);
+      shared = λ k. share_same shown new.teller.form told' told' old.terms new.terms (came ++ x ∷ []) i.fs k (lookup (same_pair k) ((p, c') ∷ es)) form
+          refl terms (took shown old.terms came i.fs told' p c' es i.taken x ends i.share is sent others k);
+    }
+
+more_shared : (k : Pair) (came more : List Arrival) (fs : List Finished) (rest : List Arrival) → IsShared k came fs rest
+    → (left : List Arrival) × IsShared k (came ++ more) fs left
+more_shared k came more fs rest share =
+    let test = is_between k in (
+      rest ++ filter test more,
+      filter-append test came more ∙ ap (λ l. l ++ filter test more) share ∙ append_assoc (taken_between k fs) rest (filter test more),
+    )
 
 pub stops_more : (start now : TargetSeen) (came more : List Arrival) (run : Run) → Stops start now came run → Stops start now (came ++ more) run
 stops_more start now came more run i = record {
   fs = i.fs;
+  written = i.written;
   known = i.known;
-  shared = λ k. let s = i.shared k in let test = is_between k in (
-    s.0 ++ filter test more,
-    filter-append test came more ∙ ap (λ l. l ++ filter test more) s.1 ∙ append_assoc (taken_between k i.fs) s.0 (filter test more),
-  );
+  so_far = so_far_more run.teller.form (told_by i.written run) run.terms (unwrap_or run.start 0) came more i.fs i.so_far;
+  shared = λ k. let s = i.shared k in more_shared k came more i.fs s.0 s.1;
 }
 
 -- ---- the first packet
@@ -263,40 +472,55 @@ none_taken (f ∷ fs) none =
 not_both : (b : Bool) → b ≡ false → b ≡ true → ⊥
 not_both b e f = cc
 
-fate_any : (terms : Terms) (from from' : ℕ) (taken : List Arrival) (end : Fate) → taken ≡ [] → IsFate terms from taken end → IsFate terms from' taken end
-fate_any terms from from' taken (Reported r) e i = absurd (not_both (list_any has_data taken) (subst (λ l. list_any has_data l ≡ false) (sym e) refl) i.0)
-fate_any terms from from' taken Silent e i = i
-fate_any terms from from' taken Lost e i = i
+fate_any : (terms : Terms) (from from' number : ℕ) (taken : List Arrival) (end : Fate) → taken ≡ [] → IsFate terms from number taken end
+    → IsFate terms from' number taken end
+fate_any terms from from' number taken (Reported r) e i =
+    absurd (not_both (list_any has_data taken) (subst (λ l. list_any has_data l ≡ false) (sym e) refl) i.0)
+fate_any terms from from' number taken Silent e i = i
+fate_any terms from from' number taken Lost e i = i
 
-all_any : (terms : Terms) (from from' : ℕ) (fs : List Finished) → All (λ f. f.taken ≡ []) fs → All (IsFinished terms from) fs → All (IsFinished terms from') fs
+all_any : (terms : Terms) (from from' : ℕ) (fs : List Finished) → All (λ f. f.taken ≡ []) fs → All (IsFinished terms from) fs
+    → All (IsFinished terms from') fs
 all_any terms from from' [] none i = All-nil (IsFinished terms from')
 all_any terms from from' (f ∷ fs) none i =
     All-cons (IsFinished terms from') f fs
-    (fate_any terms from from' f.taken f.fate (All-head (λ g. g.taken ≡ []) f fs none) (All-head (IsFinished terms from) f fs i))
+    (fate_any terms from from' f.number f.taken f.fate (All-head (λ g. g.taken ≡ []) f fs none) (All-head (IsFinished terms from) f fs i))
     (all_any terms from from' fs (All-tail (λ g. g.taken ≡ []) f fs none) (All-tail (IsFinished terms from) f fs i))
 
 shares_none : (k : Pair) (fs : List Finished) (rest : List Arrival) → IsShared k [] fs rest → taken_between k fs ≡ []
 shares_none k fs rest e = (parts_none (taken_between k fs) rest (sym e)).0
 
-pub started : (start now : TargetSeen) (packets : List Captured) (old new : Run) (time : ℕ) → old.start ≡ first_time packets → new.start ≡ option_or old.start (Some time)
-    → new.terms ≡ old.terms → new.lost ≡ old.lost → new.teller ≡ old.teller → new.table ≡ old.table → new.begun ≡ old.begun
-    → Follows start now (arrivals packets) old.table old → Follows start now (arrivals packets) new.table new
-started start now [] old new time is begin terms lost teller table count i = record {
-  fs = i.fs;
-  begun = count ∙ i.begun ∙ ap (λ (l : List (Pair × Held)). min (length i.fs + length l) (2 ^ 64 - 1)) (sym table);
-  known = record {
-    tells = subst (λ t. Tells start now t (reports_of i.fs)) (sym teller) i.known.tells;
-    finished = subst (λ x. All (IsFinished x (unwrap_or new.start 0)) i.fs) (sym terms)
-        (all_any old.terms (unwrap_or old.start 0) (unwrap_or new.start 0) i.fs
-        (none_taken i.fs (λ k. shares_none k i.fs (i.shared k).taken (i.shared k).share)) i.known.finished);
-    lost = lost ∙ i.known.lost;
-  };
-  shared = subst (λ x. (k : Pair) → IsShare x [] i.fs k (lookup (same_pair k) new.table)) (sym terms)
-      (subst (λ t. (k : Pair) → IsShare old.terms [] i.fs k (lookup (same_pair k) t)) (sym table) i.shared);
-}
+pub started : (start now : TargetSeen) (packets : List Captured) (old new : Run) (time : ℕ) → old.start ≡ first_time packets
+    → new.start ≡ option_or old.start (Some time) → new.terms ≡ old.terms → new.lost ≡ old.lost → new.teller ≡ old.teller → new.table ≡ old.table
+    → new.begun ≡ old.begun → Follows start now (arrivals packets) old.table old → Follows start now (arrivals packets) new.table new
+started start now [] old new time is begin terms lost teller table count i =
+    let none = none_taken i.fs (λ k. shares_none k i.fs (i.shared k).taken (i.shared k).share) in
+    let form = ap (λ (t : Teller). t.form) teller in
+    let told = told_by i.written old in
+    let told' = told_by i.written new in
+    let same = told_same i.written old new teller in
+    let from = unwrap_or old.start 0 in
+    let from' = unwrap_or new.start 0 in
+    let P : List (Pair × Held) → Type 0 = λ l. Follows start now [] l new in
+    let follows : P old.table = record {
+      fs = i.fs;
+      written = i.written;
+      begun = count ∙ i.begun;
+      apart = i.apart;
+      known = record {
+        tells = subst (λ t. Tells start now t (reports_of i.fs) i.written) (sym teller) i.known.tells;
+        finished = subst (λ x. All (IsFinished x from') i.fs) (sym terms) (all_any old.terms from from' i.fs none i.known.finished);
+        lost = lost ∙ i.known.lost;
+      };
+      streams = streaming_same old.teller.form new.teller.form told told' old.terms new.terms from' from' old.begun new.begun i.fs old.table form same terms
+          refl count (streaming_started old.teller.form told old.terms from from' old.begun i.fs old.table none i.streams);
+      shared = λ k. shares_same i.written i.written [] i.fs old new k (lookup (same_pair k) old.table) terms form same (i.shared k);
+    } in
+    subst P (sym table) follows
 started start now (p ∷ ps) old new time is begin terms lost teller table count i =
     let e : new.start ≡ old.start = begin ∙ ap (λ o. option_or o (Some time)) is ∙ sym is in
-    subst (λ t. Follows start now (arrivals (p ∷ ps)) t new) (sym table) (follows_same start now (arrivals (p ∷ ps)) old.table old new terms e lost teller count i)
+    subst (λ t. Follows start now (arrivals (p ∷ ps)) t new) (sym table)
+    (follows_same start now (arrivals (p ∷ ps)) old.table old new terms e lost teller count i)
 
 after_more : (n : ℕ) (packets : List Captured) (p : Captured)
     → arrivals_after n (packets ++ p ∷ []) ≡ arrivals_after n packets ++ arrivals_of (min (n + length packets + 1) (2 ^ 64 - 1)) p
@@ -306,89 +530,96 @@ after_more n [] p =
 after_more n (q ∷ qs) p =
     let first = arrivals_of (min (n + 1) (2 ^ 64 - 1)) q in
     let same : (n + 1) + length qs + 1 ≡ n + length (q ∷ qs) + 1 = omega arith in
-    ap (λ l. first ++ l) (after_more (n + 1) qs p) ∙ sym (append_assoc first (arrivals_after (n + 1) qs) (arrivals_of (min ((n + 1) + length qs + 1) (2 ^ 64 - 1)) p))
+    ap (λ l. first ++ l) (after_more (n + 1) qs p)
+    ∙ sym (append_assoc first (arrivals_after (n + 1) qs) (arrivals_of (min ((n + 1) + length qs + 1) (2 ^ 64 - 1)) p))
     ∙ ap (λ m. (first ++ arrivals_after (n + 1) qs) ++ arrivals_of (min m (2 ^ 64 - 1)) p) same
 
 pub arrivals_more : (packets : List Captured) (p : Captured) (number : ℕ) → number ≡ min (length packets + 1) (2 ^ 64 - 1)
     → arrivals (packets ++ p ∷ []) ≡ arrivals packets ++ arrivals_of number p
 arrivals_more packets p number e =
-    let same : min (0 + length packets + 1) (2 ^ 64 - 1) ≡ number = omega (arith, e) in after_more 0 packets p ∙ ap (λ m. arrivals packets ++ arrivals_of m p) same
-
-pub time_more : (packets : List Captured) (p : Captured) → first_time (packets ++ p ∷ []) ≡ option_or (first_time packets) (Some p.nanos)
-time_more [] p = refl
-time_more (q ∷ qs) p = refl
+    let same : min (0 + length packets + 1) (2 ^ 64 - 1) ≡ number = omega (arith, e) in
+    after_more 0 packets p ∙ ap (λ m. arrivals packets ++ arrivals_of m p) same
 
 -- ---- a connection is taken out
 
-pub follows_out : (start now : TargetSeen) (came : List Arrival) (p : Pair) (c : Held) (es out : List (Pair × Held)) (run : Run) → lookup (same_pair p) es ≡ Some c
-    → out ≡ remove_entry (same_pair p) es → Follows start now came es run → Follows start now came ((p, c) ∷ out) run
-follows_out start now came p c es out run found is i = record {
-  fs = i.fs;
-  known = i.known;
-  begun = begun_out run.begun (length i.fs) (p, c) es out (length_out (same_pair p) es c found ∙ ap (λ (l : List (Pair × Held)). length l + 1) (sym is)) i.begun;
-  shared = subst (λ l. (k : Pair) → IsShare run.terms came i.fs k (lookup (same_pair k) ((p, c) ∷ l))) (sym is)
-      (moved run.terms came i.fs es ((p, c) ∷ remove_entry (same_pair p) es) (lookup_back p c es found) i.shared);
-}
+pub follows_out : (start now : TargetSeen) (came : List Arrival) (p : Pair) (c : Held) (es out : List (Pair × Held)) (run : Run)
+    → lookup (same_pair p) es ≡ Some c → out ≡ remove_entry (same_pair p) es → Follows start now came es run → Follows start now came ((p, c) ∷ out) run
+follows_out start now came p c es out run found is i =
+    let form = run.teller.form in
+    let told = told_by i.written run in
+    let gone = remove_entry (same_pair p) es in
+    let longer = length_out (same_pair p) es c found ∙ ap (λ (l : List (Pair × Held)). length l + 1) (sym is) in
+    record {
+      fs = i.fs;
+      written = i.written;
+      known = i.known;
+      begun = begun_out run.begun (length i.fs) (p, c) es out longer i.begun;
+      apart = subst (λ (l : List (Pair × Held)). IsApart ((p, c) ∷ l)) (sym is) (apart_put (p, c) gone (lookup_gone p es i.apart) (apart_without p es i.apart));
+      streams = subst (λ l. Streams i.written i.fs ((p, c) ∷ l) run) (sym is)
+          (streaming_out form told run.terms (unwrap_or run.start 0) run.begun i.fs (same_pair p) p c es found i.streams);
+      shared = subst (λ l. (k : Pair) → Shares i.written came i.fs run k (lookup (same_pair k) ((p, c) ∷ l))) (sym is)
+          (moved form run.terms came i.fs told es ((p, c) ∷ gone) (lookup_back p c es found) i.shared);
+    }
 
-pub follows_moved : (start now : TargetSeen) (came : List Arrival) (es gs : List (Pair × Held)) (run : Run) → ((k : Pair) → lookup (same_pair k) gs ≡ lookup (same_pair k) es)
-    → length gs ≡ length es → Follows start now came es run → Follows start now came gs run
-follows_moved start now came es gs run same long i = record {
-  fs = i.fs;
-  known = i.known;
-  begun = i.begun ∙ ap (λ n. min (length i.fs + n) (2 ^ 64 - 1)) (sym long);
-  shared = moved run.terms came i.fs es gs same i.shared;
-}
+-- They are in another order.
+pub follows_moved : (start now : TargetSeen) (came : List Arrival) (es gs : List (Pair × Held)) (run : Run) → IsPermutation es gs
+    → Follows start now came es run → Follows start now came gs run
+follows_moved start now came es gs run moves i =
+    let form = run.teller.form in
+    let told = told_by i.written run in
+    record {
+      fs = i.fs;
+      written = i.written;
+      known = i.known;
+      begun = i.begun ∙ ap (λ n. min (length i.fs + n) (2 ^ 64 - 1)) (sym (length_permutation es gs moves));
+      apart = apart_moved es gs moves i.apart;
+      streams = streaming_moved form told run.terms (unwrap_or run.start 0) run.begun i.fs es gs moves i.streams;
+      shared = moved form run.terms came i.fs told es gs (lookup_moved es gs moves i.apart) i.shared;
+    }
 
-pub holds_same : (start now : TargetSeen) (came : List Arrival) (x : Arrival) (p : Pair) (c : Held) (es : List (Pair × Held)) (old new : Run) → new.terms ≡ old.terms
-    → new.start ≡ old.start → new.lost ≡ old.lost → new.teller ≡ old.teller → new.begun ≡ old.begun → Holds start now came x p c es old
-    → Holds start now came x p c es new
-holds_same start now came x p c es old new terms begin lost teller count i = record {
-  fs = i.fs;
-  begun = count ∙ i.begun;
-  known = known_same start now i.fs old new terms begin lost (subst (λ t. Tells start now t (reports_of i.fs)) (sym teller) i.known.tells) i.known;
-  taken = i.taken;
-  is = subst (λ y. IsOpen y i.taken (x ∷ []) c.value) (sym terms) i.is;
-  share = i.share;
-  absent = i.absent;
-  others = subst (λ y. (k : Pair) → same_pair k p ≡ false → IsShare y came i.fs k (lookup (same_pair k) es)) (sym terms) i.others;
-}
-
--- The connection is given up.
-pub holds_stop : (start now : TargetSeen) (came : List Arrival) (x : Arrival) (p : Pair) (c : Held) (es : List (Pair × Held)) (run : Run)
-    → Holds start now came x p c es run → Stops start now came run
-holds_stop start now came x p c es run i = record {
-  fs = i.fs;
-  known = i.known;
-  shared = λ k.
-      elim (cases_Bool (same_pair k p)) [
-        | inl t ↦ subst (λ q. (rest : List Arrival) × IsShared q came i.fs rest) (sym (same_is k p t)) (i.taken, i.share)
-        | inr e ↦ let s = i.others k e in (s.taken, s.share)
-      ];
-}
+-- The connection of the segment x is given up.
+pub holds_stop : (start now : TargetSeen) (came : List Arrival) (x : Arrival) (p : Pair) (c : Held) (es : List (Pair × Held)) (old new : Run)
+    → pair_of x ≡ p → new.terms ≡ old.terms → new.start ≡ old.start → new.lost ≡ old.lost → new.teller.form ≡ old.teller.form
+    → TellsOn old.teller new.teller → (is_stream old.teller.form ≡ true → new.teller.text.items ≡ old.teller.text.items)
+    → Holds start now came x p c es old → Stops start now (came ++ x ∷ []) new
+holds_stop start now came x p c es old new ends terms begin lost form tells kept i =
+    let shown = old.teller.form in
+    let told = told_by i.written old in
+    let told' = told_by i.written new in
+    let from = unwrap_or old.start 0 in
+    let is : is_stream shown ≡ true → told' ≡ told = λ stream. ap (λ (l : List ℕ). i.written ++ l) (kept stream) in
+    let so_far = held_so_far shown told old.terms from old.begun came x i.fs p c es i.taken ends i.absent i.apart i.streams i.share i.sends i.others in
+    record {
+      fs = i.fs;
+      written = i.written;
+      known = known_same start now i.fs i.written i.written old new terms begin lost (tells start now (reports_of i.fs) i.written i.known.tells) i.known;
+      so_far = so_far_same shown new.teller.form told' told' old.terms new.terms from (unwrap_or new.start 0) (came ++ x ∷ []) i.fs form refl terms
+          (ap (λ o. unwrap_or o 0) begin) (so_far_on shown told told' old.terms from (came ++ x ∷ []) i.fs is so_far);
+      shared = λ k.
+          let rest : (rest : List Arrival) × IsShared k came i.fs rest = elim (cases_Bool (same_pair k p)) [
+            | inl t ↦ subst (λ q. (rest : List Arrival) × IsShared q came i.fs rest) (sym (same_is k p t)) (i.taken, i.share)
+            | inr e ↦ let s = i.others k e in (s.taken, s.share)
+          ] in
+          more_shared k came (x ∷ []) i.fs rest.0 rest.1;
+    }
 
 pub follows_table : (start now : TargetSeen) (came : List Arrival) (p : Pair) (c : Held) (es gs : List (Pair × Held)) (run : Run) → gs ≡ es
     → Follows start now came ((p, c) ∷ es) run → Follows start now came ((p, c) ∷ gs) run
 follows_table start now came p c es gs run e i = subst (λ l. Follows start now came ((p, c) ∷ l) run) (sym e) i
 
--- Rows were told.
-pub holds_told : (start now : TargetSeen) (came : List Arrival) (x : Arrival) (p : Pair) (c : Held) (es : List (Pair × Held)) (old new : Run) → new.terms ≡ old.terms
-    → new.start ≡ old.start → new.lost ≡ old.lost → new.begun ≡ old.begun → TellsOn old.teller new.teller → Holds start now came x p c es old
-    → Holds start now came x p c es new
-holds_told start now came x p c es old new terms begin lost count tells i = record {
-  fs = i.fs;
-  begun = count ∙ i.begun;
-  known = known_same start now i.fs old new terms begin lost (tells start now (reports_of i.fs) i.known.tells) i.known;
-  taken = i.taken;
-  is = subst (λ y. IsOpen y i.taken (x ∷ []) c.value) (sym terms) i.is;
-  share = i.share;
-  absent = i.absent;
-  others = subst (λ y. (k : Pair) → same_pair k p ≡ false → IsShare y came i.fs k (lookup (same_pair k) es)) (sym terms) i.others;
-}
-
-pub follows_nothing : (start : TargetSeen) (run : Run) → Tells start start run.teller [] → run.lost ≡ 0 → run.begun ≡ 0 → run.table ≡ [] → Follows start start [] run.table run
-follows_nothing start run tells lost count none = record {
-  fs = [];
-  begun = count ∙ ap (λ (l : List (Pair × Held)). min (length {A = Finished} [] + length l) (2 ^ 64 - 1)) (sym none);
-  known = record { tells = tells; finished = All-nil (IsFinished run.terms (unwrap_or run.start 0)); lost = lost };
-  shared = λ k. subst (λ (l : List (Pair × Held)). IsShare run.terms [] [] k (lookup (same_pair k) l)) (sym none) (record { taken = []; is = refl; share = refl });
-}
+pub follows_nothing : (start : TargetSeen) (run : Run) → Tells start start run.teller [] [] → run.teller.text.items ≡ [] → run.lost ≡ 0 → run.begun ≡ 0
+    → run.table ≡ [] → Follows start start [] run.table run
+follows_nothing start run tells empty lost count none =
+    let from = unwrap_or run.start 0 in
+    let P : List (Pair × Held) → Type 0 = λ l. Follows start start [] l run in
+    let Q : ℕ → Type 0 = λ n. IsStreaming run.teller.form (told_by [] run) run.terms from n [] [] in
+    let follows : P [] = record {
+      fs = [];
+      written = [];
+      begun = count;
+      apart = apart_none;
+      known = record { tells = tells; finished = All-nil (IsFinished run.terms from); lost = lost };
+      streams = subst Q (sym count) (streaming_nothing run.teller.form (told_by [] run) run.terms from empty);
+      shared = λ k. record { taken = []; is = refl; share = refl };
+    } in
+    subst P (sym none) follows

@@ -1,5 +1,5 @@
 -- The bytes of a stream that are handed out.
-use Rattle.std.proofs.Common.{◌≡◌, ℕ, Bool, true, false, List, [], Option, Some, None, is_some, if◌then◌else◌, refl, sym, ap, subst}
+use Rattle.std.proofs.Common.{◌≡◌, ℕ, Bool, true, false, [], Option, Some, None, is_some, if◌then◌else◌, refl, sym, ap, subst}
 use Rattle.bt_remarks.specs.declared.events.Side.{Side}
 use Rattle.bt_talk.specs.declared.room.Room.{Room}
 use Rattle.bt_talk.specs.Pasts.{Past}

@@ -1,20 +1,24 @@
 -- Each segment belongs to one connection.
 use Rattle.bt_talk.specs.declared.terms.Terms.{Terms}
-use Rattle.std.proofs.Common.{◌≡◌, ◌∙◌, Bool, true, false, List, [], ◌∷◌, ◌++◌, append-nil, append_assoc, Some, None, refl, sym, ap, subst, inl, inr}
+use Rattle.std.proofs.Common.{◌≡◌, ◌∙◌, ℕ, ◌-◌, ◌^◌, ◌<◌, Bool, true, false, List, [], ◌∷◌, ◌++◌, append-nil, append_assoc, Option, Some, None}
+use Rattle.std.proofs.Common.{refl, sym, ap, subst, inl, inr}
 use Rattle.std.specs.List.{filter, flat_map}
-use Rattle.std.specs.Map.{lookup, remove_entry}
+use Rattle.std.specs.Map.{lookup}
 use Rattle.std.proofs.lemmas.Bool.{cases_Bool}
 use Rattle.std.proofs.lemmas.Grind.{flat_map-append}
 use Rattle.std.proofs.lemmas.List.Elements.{filter-append}
 use Rattle.bt_capture.specs.Arrivals.{Arrival, pair_of, is_between}
 use Rattle.bt_capture.specs.Connections.{IsFirst, IsOpen}
-use Rattle.bt_capture.specs.Following.{Finished, Fate, IsShared, IsShare, taken_between}
+use Rattle.bt_capture.specs.Following.{Finished, IsLeft, IsShared, IsShare, count_open, taken_between}
+use Rattle.bt_capture.specs.Sending.{IsSending}
 use Rattle.bt_capture.specs.Tables.{Held, same_pair}
 use Rattle.bt_capture.specs.declared.connection.Connection.{Connection}
+use Rattle.bt_capture.specs.declared.ending.Form.{Form}
 use Rattle.bt_capture.specs.declared.pair.Pair.{Pair}
-use Rattle.bt_capture.proofs.Entries.{same_is, same_self, lookup_other}
+use Rattle.bt_capture.proofs.Entries.{same_is, same_self}
+use Rattle.bt_capture.proofs.Streaming.{AddsFor, other_open, sending_on}
 
-filter_and : {X : Type 0} (p : X → Bool) (xs : List X) (x : X) → p x ≡ true → filter p (xs ++ x ∷ []) ≡ filter p xs ++ x ∷ []
+pub filter_and : {X : Type 0} (p : X → Bool) (xs : List X) (x : X) → p x ≡ true → filter p (xs ++ x ∷ []) ≡ filter p xs ++ x ∷ []
 filter_and p xs x e = filter-append p xs (x ∷ []) ∙ ap (λ l. filter p xs ++ l) (rw e refl)
 
 filter_less : {X : Type 0} (p : X → Bool) (xs : List X) (x : X) → p x ≡ false → filter p (xs ++ x ∷ []) ≡ filter p xs
@@ -29,43 +33,66 @@ taken_and k fs f e =
 taken_less : (k : Pair) (fs : List Finished) (f : Finished) → same_pair k f.pair ≡ false → taken_between k (fs ++ f ∷ []) ≡ taken_between k fs
 taken_less k fs f e = let test : Finished → Bool = λ g. same_pair k g.pair in ap (flat_map (λ g. g.taken)) (filter_less test fs f e)
 
-module _ (terms : Terms) (came : List Arrival) (fs : List Finished) where
-  abbrev pub Others : Pair → List (Pair × Held) → Type 0
-  Others p es = (k : Pair) → same_pair k p ≡ false → IsShare terms came fs k (lookup (same_pair k) es)
+module _ (form : Form) (terms : Terms) (came : List Arrival) (fs : List Finished) where
+  abbrev pub Others : List ℕ → Pair → List (Pair × Held) → Type 0
+  Others told p es = (k : Pair) → same_pair k p ≡ false → IsShare form told terms came fs k (lookup (same_pair k) es)
 
-  abbrev pub Shares : List (Pair × Held) → Type 0
-  Shares es = (k : Pair) → IsShare terms came fs k (lookup (same_pair k) es)
+  abbrev pub AllShares : List ℕ → List (Pair × Held) → Type 0
+  AllShares told es = (k : Pair) → IsShare form told terms came fs k (lookup (same_pair k) es)
 
-  pub others_of : (p : Pair) (c : Held) (es : List (Pair × Held)) → Shares ((p, c) ∷ es) → Others p es
-  others_of p c es i k e = rw e at (i k)
+  -- What was told for another connection is as it was.
+  left_on : (told told' : List ℕ) (taken : List Arrival) (n : ℕ) (o : Option Held)
+      → ((c : Held) → o ≡ Some c → c.value.number < 2 ^ 64 - 1 → c.value.number ≡ n → ⊥) → AddsFor form n told told'
+      → IsLeft form told terms taken o → IsLeft form told' terms taken o
+  left_on told told' taken n None other adds i = i
+  left_on told told' taken n (Some c) other adds i =
+      (i.0, sending_on form told told' terms taken [] c.value n (other c refl) adds i.1)
 
-  pub own_of : (p : Pair) (c : Held) (es : List (Pair × Held)) → Shares ((p, c) ∷ es) → IsShare terms came fs p (Some c)
-  own_of p c es i = rw (same_self p) at (i p)
+  share_on : (told told' : List ℕ) (n : ℕ) (k : Pair) (es : List (Pair × Held)) → (n < 2 ^ 64 - 1 → count_open n es ≡ 0) → AddsFor form n told told'
+      → IsShare form told terms came fs k (lookup (same_pair k) es) → IsShare form told' terms came fs k (lookup (same_pair k) es)
+  share_on told told' n k es none adds s =
+      let other : (c : Held) → lookup (same_pair k) es ≡ Some c → c.value.number < 2 ^ 64 - 1 → c.value.number ≡ n → ⊥ = λ c found small same.
+      other_open (same_pair k) es c n found (none (subst (λ m. m < 2 ^ 64 - 1) same small)) same in
+      record { taken = s.taken; is = left_on told told' s.taken n (lookup (same_pair k) es) other adds s.is; share = s.share }
+
+  pub others_on : (told told' : List ℕ) (n : ℕ) (p : Pair) (es : List (Pair × Held)) → (n < 2 ^ 64 - 1 → count_open n es ≡ 0)
+      → AddsFor form n told told' → Others told p es → Others told' p es
+  others_on told told' n p es none adds others k e = share_on told told' n k es none adds (others k e)
+
+  pub others_of : (told : List ℕ) (p : Pair) (c : Held) (es : List (Pair × Held)) → AllShares told ((p, c) ∷ es) → Others told p es
+  others_of told p c es i k e = rw e at (i k)
+
+  pub own_of : (told : List ℕ) (p : Pair) (c : Held) (es : List (Pair × Held)) → AllShares told ((p, c) ∷ es) → IsShare form told terms came fs p (Some c)
+  own_of told p c es i = rw (same_self p) at (i p)
 
   -- The connection is over.
-  pub over : (p : Pair) (es : List (Pair × Held)) (taken : List Arrival) (fate : Fate) → lookup (same_pair p) es ≡ None → IsShared p came fs taken → Others p es
-      → (k : Pair) → IsShare terms came (fs ++ record { pair = p; taken = taken; fate = fate } ∷ []) k (lookup (same_pair k) es)
-  over p es taken fate absent share others k =
-      let f : Finished = record { pair = p; taken = taken; fate = fate } in
-      let P : Pair → Type 0 = λ q. IsShare terms came (fs ++ f ∷ []) q (lookup (same_pair q) es) in
+  pub over : (told : List ℕ) (p : Pair) (es : List (Pair × Held)) (f : Finished) → f.pair ≡ p → lookup (same_pair p) es ≡ None
+      → IsShared p came fs f.taken → Others told p es → (k : Pair) → IsShare form told terms came (fs ++ f ∷ []) k (lookup (same_pair k) es)
+  over told p es f ends absent share others k =
+      let P : Pair → Type 0 = λ q. IsShare form told terms came (fs ++ f ∷ []) q (lookup (same_pair q) es) in
+      let own : same_pair p f.pair ≡ true = subst (λ q. same_pair p q ≡ true) (sym ends) (same_self p) in
       elim (cases_Bool (same_pair k p)) [
         | inl t ↦ subst P (sym (same_is k p t)) (record {
           taken = [];
           is = rw absent refl;
-          share = share ∙ sym (taken_and p fs f (same_self p)) ∙ sym (append-nil (taken_between p (fs ++ f ∷ [])));
+          share = share ∙ sym (taken_and p fs f own) ∙ sym (append-nil (taken_between p (fs ++ f ∷ [])));
         })
-        | inr e ↦ let s = others k e in record { taken = s.taken; is = s.is; share = s.share ∙ ap (λ l. l ++ s.taken) (sym (taken_less k fs f e)) }
+        | inr e ↦
+            let s = others k e in
+            let apart : same_pair k f.pair ≡ false = subst (λ q. same_pair k q ≡ false) (sym ends) e in
+            record { taken = s.taken; is = s.is; share = s.share ∙ ap (λ l. l ++ s.taken) (sym (taken_less k fs f apart)) }
       ]
 
   -- The connection takes one segment more.
-  pub took : (p : Pair) (c : Held) (es : List (Pair × Held)) (taken : List Arrival) (x : Arrival) → pair_of x ≡ p → IsShared p came fs taken
-      → IsOpen terms (taken ++ x ∷ []) [] c.value → Others p es → (k : Pair) → IsShare terms (came ++ x ∷ []) fs k (lookup (same_pair k) ((p, c) ∷ es))
-  took p c es taken x ends share now others k =
-      let P : Pair → Type 0 = λ q. IsShare terms (came ++ x ∷ []) fs q (lookup (same_pair q) ((p, c) ∷ es)) in
+  pub took : (told : List ℕ) (p : Pair) (c : Held) (es : List (Pair × Held)) (taken : List Arrival) (x : Arrival) → pair_of x ≡ p
+      → IsShared p came fs taken → IsOpen terms (taken ++ x ∷ []) [] c.value → IsSending form told terms (taken ++ x ∷ []) [] c.value
+      → Others told p es → (k : Pair) → IsShare form told terms (came ++ x ∷ []) fs k (lookup (same_pair k) ((p, c) ∷ es))
+  took told p c es taken x ends share now sends others k =
+      let P : Pair → Type 0 = λ q. IsShare form told terms (came ++ x ∷ []) fs q (lookup (same_pair q) ((p, c) ∷ es)) in
       elim (cases_Bool (same_pair k p)) [
         | inl t ↦ subst P (sym (same_is k p t)) (record {
           taken = taken ++ x ∷ [];
-          is = rw (same_self p) now;
+          is = rw (same_self p) (now, sends);
           share = filter_and (is_between p) came x (subst (λ q. same_pair p q ≡ true) (sym ends) (same_self p)) ∙ ap (λ l. l ++ x ∷ []) share
               ∙ append_assoc (taken_between p fs) taken (x ∷ []);
         })
@@ -77,15 +104,20 @@ module _ (terms : Terms) (came : List Arrival) (fs : List Finished) where
       ]
 
   -- Another order, or what was taken out is put back.
-  pub moved : (es gs : List (Pair × Held)) → ((k : Pair) → lookup (same_pair k) gs ≡ lookup (same_pair k) es) → Shares es → Shares gs
-  moved es gs same i k = subst (λ o. IsShare terms came fs k o) (sym (same k)) (i k)
+  pub moved : (told : List ℕ) (es gs : List (Pair × Held)) → ((k : Pair) → lookup (same_pair k) gs ≡ lookup (same_pair k) es) → AllShares told es
+      → AllShares told gs
+  moved told es gs same i k = subst (λ o. IsShare form told terms came fs k o) (sym (same k)) (i k)
 
-  pub others_left : (p : Pair) (es : List (Pair × Held)) → Shares es → Others p (remove_entry (same_pair p) es)
-  others_left p es i k e = subst (λ o. IsShare terms came fs k o) (sym (lookup_other p k es e)) (i k)
-
-  pub own_none : (p : Pair) (es : List (Pair × Held)) → lookup (same_pair p) es ≡ None → Shares es → IsShared p came fs []
-  own_none p es absent i = let s : IsShare terms came fs p None = subst (λ o. IsShare terms came fs p o) absent (i p) in
+  pub own_none : (told : List ℕ) (p : Pair) (es : List (Pair × Held)) → lookup (same_pair p) es ≡ None → AllShares told es → IsShared p came fs []
+  own_none told p es absent i =
+      let s : IsShare form told terms came fs p None = subst (λ o. IsShare form told terms came fs p o) absent (i p) in
       s.share ∙ ap (λ l. taken_between p fs ++ l) s.is
+
+pub share_same : (form form' : Form) (told told' : List ℕ) (terms terms' : Terms) (came : List Arrival) (fs : List Finished) (k : Pair) (o : Option Held)
+    → form' ≡ form → told' ≡ told → terms' ≡ terms → IsShare form told terms came fs k o → IsShare form' told' terms' came fs k o
+share_same form form' told told' terms terms' came fs k o a b c i =
+    subst (λ x. IsShare x told' terms' came fs k o) (sym a) (subst (λ x. IsShare form x terms' came fs k o) (sym b)
+    (subst (λ x. IsShare form told x came fs k o) (sym c) i))
 
 -- A connection that has begun may take one segment more.
 first_more : (taken : List Arrival) (x : Arrival) (s : _) → IsFirst s (taken ++ []) → IsFirst s (taken ++ x ∷ [])
@@ -97,3 +129,10 @@ ready terms taken x c i = record {
   has_payload = i.has_payload;
   made = λ there. let m = i.made there in record { first = m.first; is_first = first_more taken x m.first m.is_first; a = m.a; b = m.b; made = m.made };
 }
+
+pub ready_sent : (form : Form) (told : List ℕ) (terms : Terms) (taken : List Arrival) (x : Arrival) (c : Connection)
+    → IsSending form told terms taken [] c → IsSending form told terms taken (x ∷ []) c
+ready_sent form told terms taken x c i side small w there =
+    let s = i side small w there in
+    let m = s.0 in
+    (record { first = m.first; is_first = first_more taken x m.first m.is_first; a = m.a; b = m.b; made = m.made }, s.1)

@@ -27,12 +27,14 @@ read_none w buffer new bytes old is same =
     e ∙ is
 
 -- a packet is handed out of the buffer
-pub handed : (w new : Walk) (bytes buffer : List ℕ) (n : ℕ) (old : Reading) (r : Result (Option Captured) FileFault) → bytes ≡ buffer → walk_state w buffer n ≡ old
+pub handed : (w new : Walk) (bytes buffer : List ℕ) (n : ℕ) (old : Reading) (r : Result (Option Captured) FileFault)
+    → bytes ≡ buffer → walk_state w buffer n ≡ old
     → Hands (walk_state w bytes n) r (walk_state new bytes n) → Hands old r (walk_state new buffer n)
 handed w new bytes buffer n old r e is h =
     subst (λ s. Hands s r (walk_state new buffer n)) is (subst (λ b. Hands (walk_state w b n) r (walk_state new b n)) e h)
 
-pub repeated : {A : Type 0} (w new : Walk) (bytes buffer : List ℕ) (n : ℕ) (old : Reading) (r : Result A FileFault) → bytes ≡ buffer → walk_state w buffer n ≡ old
+pub repeated : {A : Type 0} (w new : Walk) (bytes buffer : List ℕ) (n : ℕ) (old : Reading) (r : Result A FileFault)
+    → bytes ≡ buffer → walk_state w buffer n ≡ old
     → Repeats (walk_state w bytes n) r (walk_state new bytes n) → Repeats old r (walk_state new buffer n)
 repeated w new bytes buffer n old r e is h =
     subst (λ s. Repeats s r (walk_state new buffer n)) is (subst (λ b. Repeats (walk_state w b n) r (walk_state new b n)) e h)

@@ -42,11 +42,14 @@ pass_at_item len old new p le = omega arith
 
 -- an item is taken
 pub item_taken : (bytes : List ℕ) (w : Walk) (file : CaptureFile) (p : Option Captured) (used skip count : ℕ) → w.skip ≡ 0
-    → Adds (format_of w.file) (drop w.at bytes) p used skip (format_of file) → (w.packets ≤ most → count ≡ min (w.packets + length (option_to_list p)) most) → (total : ℕ)
-    → GoesOn (walk_state w bytes total) [] (option_to_list p) (record { format = format_of file; skip = skip; held = drop (w.at + used) bytes; bytes = total; packets = count })
+    → Adds (format_of w.file) (drop w.at bytes) p used skip (format_of file)
+    → (w.packets ≤ most → count ≡ min (w.packets + length (option_to_list p)) most) → (total : ℕ)
+    → GoesOn (walk_state w bytes total) [] (option_to_list p)
+    (record { format = format_of file; skip = skip; held = drop (w.at + used) bytes; bytes = total; packets = count })
 item_taken bytes w file p used skip count none adds more total =
     let from = walk_state w bytes total in
-    let P : List ℕ → Type 0 = λ h. GoesOn from [] (option_to_list p) (record { format = format_of file; skip = skip; held = h; bytes = total; packets = count }) in
+    let P : List ℕ → Type 0 = λ h.
+    GoesOn from [] (option_to_list p) (record { format = format_of file; skip = skip; held = h; bytes = total; packets = count }) in
     subst P (drop-drop used w.at bytes) (takes from p used skip count (format_of file) none adds more)
 
 -- more bytes are needed

@@ -1,23 +1,28 @@
 -- The connections of a capture: those that are over, and those that aren't.
 use Rattle.bt_talk.specs.declared.terms.Terms.{Terms}
-use Rattle.std.specs.Prelude.{◌≡◌, ℕ, ◌+◌, ◌-◌, ◌^◌, min, Bool, true, false, List, [], ◌∷◌, ◌++◌, length, Option, Some, None, unwrap_or, Result, Ok, Err}
-use Rattle.std.specs.List.{All, filter, flat_map, list_any}
+use Rattle.std.specs.Prelude.{◌≡◌, ◌⊎◌, ◌==◌, ℕ, ◌+◌, ◌-◌, ◌^◌, ◌<◌, min, nat_lt, Bool, true, false, if◌then◌else◌, List, [], ◌∷◌, ◌++◌, length}
+use Rattle.std.specs.Prelude.{Option, Some, None, unwrap_or, Result, Ok, Err}
+use Rattle.std.specs.List.{All, count_by, filter, flat_map, list_any}
 use Rattle.std.specs.Map.{lookup}
 use Rattle.bt_io.specs.Seen.{TargetSeen}
 use Rattle.bt_packet.specs.declared.tcp.Segment.{Segment}
 use Rattle.bt_talk.specs.Pasts.{Past}
 use Rattle.bt_remarks.specs.declared.events.Side.{Side}
-use Rattle.bt_talk.specs.Talks.{IsTalk, ends_of, flow_of, terms_of, is_in_opening}
+use Rattle.bt_talk.specs.Sent.{IsSent}
+use Rattle.bt_talk.specs.Talks.{IsTalk, ends_of, flow_of, terms_of, is_in_opening, is_lost, of_side}
 use Rattle.bt_talk.specs.declared.talk.Talk.{Talk}
 use Rattle.bt_told.specs.declared.report.Report.{Report}
 use Rattle.bt_capture.specs.Arrivals.{Arrival, is_between, has_data}
-use Rattle.bt_capture.specs.Connections.{IsFirst, IsMadeOf, IsOpen}
+use Rattle.bt_capture.specs.Connections.{IsFirst, IsMade, IsMadeOf, IsOpen}
+use Rattle.bt_capture.specs.Forms.{absent_from, wanted_by}
 use Rattle.bt_capture.specs.Reportings.{IsReportOf}
-use Rattle.bt_capture.specs.Tables.{Held, same_pair}
+use Rattle.bt_capture.specs.Sending.{IsSending}
+use Rattle.bt_capture.specs.Tables.{Held, IsApart, same_pair}
 use Rattle.bt_capture.specs.Tellings.{Tells}
+use Rattle.bt_capture.specs.declared.connection.Connection.{Connection}
 use Rattle.bt_capture.specs.declared.connections.Run.{Run}
+use Rattle.bt_capture.specs.declared.ending.Form.{Form}
 use Rattle.bt_capture.specs.declared.pair.Pair.{Pair}
-use Rattle.bt_capture.specs.declared.telling.Teller.{Teller}
 
 -- ---- connections that are over
 
@@ -27,8 +32,9 @@ pub data Fate : Type 0 where
   Silent : Fate
   Lost : Fate
 
--- a connection that is over: its ends, the segments that it took, and what became of it
+-- a connection that is over: its number, its ends, the segments that it took, and what became of it
 pub record Finished : Type 0 where
+  pub number : ℕ
   pub pair : Pair
   pub taken : List Arrival
   pub fate : Fate
@@ -41,8 +47,8 @@ pub record IsEnded (a b : Past) (t t' : Talk) : Type 0 where
   pub terms : terms_of t' ≡ terms_of t
   pub over : is_in_opening t' ≡ false
 
--- The report says what was captured of both sides by these segments. The capture starts at the time `from`.
-pub record IsReported (terms : Terms) (from : ℕ) (taken : List Arrival) (r : Report) : Type 0 where
+-- The report on the connection with this number says what was captured of both sides by these segments. The capture starts at the time `from`.
+pub record IsReported (terms : Terms) (from number : ℕ) (taken : List Arrival) (r : Report) : Type 0 where
   pub first : Segment
   pub is_first : IsFirst first taken
   pub a : Past
@@ -51,16 +57,15 @@ pub record IsReported (terms : Terms) (from : ℕ) (taken : List Arrival) (r : R
   pub made : IsMadeOf terms first taken a b last
   pub talk : Talk
   pub ended : IsEnded a b last talk
-  pub number : ℕ
   pub is : IsReportOf number from a b talk r
 
-abbrev pub IsFate : Terms → ℕ → List Arrival → Fate → Type 0
-IsFate terms from taken (Reported r) = (list_any has_data taken ≡ true) × IsReported terms from taken r
-IsFate terms from taken Silent = list_any has_data taken ≡ false
-IsFate terms from taken Lost = list_any has_data taken ≡ true
+abbrev pub IsFate : Terms → (from number : ℕ) → List Arrival → Fate → Type 0
+IsFate terms from number taken (Reported r) = (list_any has_data taken ≡ true) × IsReported terms from number taken r
+IsFate terms from number taken Silent = list_any has_data taken ≡ false
+IsFate terms from number taken Lost = list_any has_data taken ≡ true
 
 abbrev pub IsFinished : Terms → ℕ → Finished → Type 0
-IsFinished terms from f = IsFate terms from f.taken f.fate
+IsFinished terms from f = IsFate terms from f.number f.taken f.fate
 
 abbrev pub report_in : Fate → List Report
 report_in (Reported r) = r ∷ []
@@ -80,6 +85,40 @@ is_lost_by Lost = true
 abbrev pub count_lost : List Finished → ℕ
 count_lost fs = min (length (filter (λ f. is_lost_by f.fate) fs)) (2 ^ 64 - 1)
 
+-- ---- their numbers
+
+abbrev pub count_over : ℕ → List Finished → ℕ
+count_over n fs = count_by (λ f. f.number == n) fs
+
+abbrev pub count_open : ℕ → List (Pair × Held) → ℕ
+count_open n es = count_by (λ e. e.1.value.number == n) es
+
+-- Connections are numbered from 0 on: so many have begun, and of these each has a number of its own. From 2 ^ 64 - 1 on all have that one.
+abbrev pub AreNumbered : ℕ → List Finished → List (Pair × Held) → Type 0
+AreNumbered begun fs es = (n : ℕ) → n < 2 ^ 64 - 1 → count_over n fs + count_open n es ≡ (if nat_lt n begun then 1 else 0)
+
+-- ---- the stream that is told
+
+-- These are all bytes of the side's stream, from its handshake on, or from its first byte if none started in the opening: the stream of which
+-- the report tells. Nothing is said of a connection without a report.
+abbrev pub IsStreamBy : Side → List ℕ → Terms → (from number : ℕ) → List Arrival → Fate → Type 0
+IsStreamBy side bytes terms from number taken (Reported r) = (i : IsReported terms from number taken r) × IsSent false (of_side side i.a i.b) bytes
+IsStreamBy side bytes terms from number taken Silent = Unit {0}
+IsStreamBy side bytes terms from number taken Lost = Unit {0}
+
+abbrev pub IsStreamOf : Side → List ℕ → Terms → ℕ → Finished → Type 0
+IsStreamOf side bytes terms from f = IsStreamBy side bytes terms from f.number f.taken f.fate
+
+-- If it is the stream of this connection that is told, what was told is that stream.
+abbrev pub IsSentBy : Form → List ℕ → Terms → ℕ → Finished → Type 0
+IsSentBy form told terms from f = (side : Side) → f.number < 2 ^ 64 - 1 → wanted_by form f.number ≡ Some side → IsStreamOf side told terms from f
+
+-- These connections are over, and these aren't; so many have begun. If a stream is told this is what was told of it.
+pub record IsStreaming (form : Form) (told : List ℕ) (terms : Terms) (from begun : ℕ) (fs : List Finished) (es : List (Pair × Held)) : Type 0 where
+  pub numbered : AreNumbered begun fs es
+  pub sent : All (IsSentBy form told terms from) fs
+  pub untold : (n : ℕ) → absent_from form begun ≡ Some n → n < 2 ^ 64 - 1 → told ≡ []
+
 -- ---- whose segments
 
 -- the segments that connections between two ends took, in order
@@ -90,40 +129,72 @@ taken_between k fs = flat_map (λ f. f.taken) (filter (λ f. same_pair k f.pair)
 abbrev pub IsShared : Pair → List Arrival → List Finished → List Arrival → Type 0
 IsShared k arrivals fs rest = filter (is_between k) arrivals ≡ taken_between k fs ++ rest
 
--- The connection that isn't over took these; or there is none.
-abbrev pub IsLeft : Terms → List Arrival → Option Held → Type 0
-IsLeft terms taken (Some c) = IsOpen terms taken [] c.value
-IsLeft terms taken None = taken ≡ []
+-- The connection that isn't over took these, and if its stream is told this is what was told of it; or there is none.
+abbrev pub IsLeft : Form → List ℕ → Terms → List Arrival → Option Held → Type 0
+IsLeft form told terms taken (Some c) = IsOpen terms taken [] c.value × IsSending form told terms taken [] c.value
+IsLeft form told terms taken None = taken ≡ []
 
 -- Each segment between two ends was taken by a connection that is over, or by the one that isn't.
-pub record IsShare (terms : Terms) (arrivals : List Arrival) (fs : List Finished) (k : Pair) (left : Option Held) : Type 0 where
+pub record IsShare (form : Form) (told : List ℕ) (terms : Terms) (arrivals : List Arrival) (fs : List Finished) (k : Pair) (left : Option Held) : Type 0 where
   pub taken : List Arrival
-  pub is : IsLeft terms taken left
+  pub is : IsLeft form told terms taken left
   pub share : IsShared k arrivals fs taken
 
--- The same reports are told.
-abbrev pub TellsOn : Teller → Teller → Type 0
-TellsOn t t' = (start now : TargetSeen) (reports : List Report) → Tells start now t reports → Tells start now t' reports
+-- ---- what was handed out so far
+
+-- A connection with this number isn't over: it took the first of these segments between its ends, and these bytes of its side's stream were handed
+-- out, if memory didn't run out with it.
+pub record IsSentSoFar (terms : Terms) (arrivals : List Arrival) (fs : List Finished) (n : ℕ) (side : Side) (bytes : List ℕ) : Type 0 where
+  pub pair : Pair
+  pub taken : List Arrival
+  pub more : List Arrival
+  pub share : IsShared pair arrivals fs (taken ++ more)
+  pub connection : Connection
+  pub number : connection.number ≡ n
+  pub opening : Bool
+  pub sent : is_lost connection.talk ≡ false → (m : IsMade terms taken more connection.talk) × IsSent opening (of_side side m.a m.b) bytes
+
+-- If a stream is told, this is that of a connection that is over, or what was handed out so far of one that isn't; or nothing.
+pub record IsStreamSoFar (form : Form) (told : List ℕ) (terms : Terms) (from : ℕ) (arrivals : List Arrival) (fs : List Finished) : Type 0 where
+  pub over : All (IsSentBy form told terms from) fs
+  pub left : (n : ℕ) (side : Side) → form.stream ≡ Some (n, side) → n < 2 ^ 64 - 1 → count_over n fs ≡ 0
+      → (told ≡ []) ⊎ IsSentSoFar terms arrivals fs n side told
 
 -- ---- while a capture is read
 
+-- what is written, and what is kept
+abbrev pub told_by : List ℕ → Run → List ℕ
+told_by written run = written ++ run.teller.text.items
+
 -- The connections that are over are told.
-pub record IsKnown (start now : TargetSeen) (fs : List Finished) (run : Run) : Type 0 where
-  pub tells : Tells start now run.teller (reports_of fs)
+pub record IsKnown (start now : TargetSeen) (fs : List Finished) (written : List ℕ) (run : Run) : Type 0 where
+  pub tells : Tells start now run.teller (reports_of fs) written
   pub finished : All (IsFinished run.terms (unwrap_or run.start 0)) fs
   pub lost : run.lost ≡ count_lost fs
 
--- These segments were taken. These connections aren't over, and the others are told. All of them have begun.
+-- the stream that is told, or none
+abbrev pub Streams : List ℕ → List Finished → List (Pair × Held) → Run → Type 0
+Streams written fs es run = IsStreaming run.teller.form (told_by written run) run.terms (unwrap_or run.start 0) run.begun fs es
+
+abbrev pub Shares : List ℕ → List Arrival → List Finished → Run → Pair → Option Held → Type 0
+Shares written arrivals fs run k left = IsShare run.teller.form (told_by written run) run.terms arrivals fs k left
+
+-- These segments were taken. These connections, no two of the same ends, aren't over, and the others are told. All of them have begun.
 pub record Follows (start now : TargetSeen) (arrivals : List Arrival) (es : List (Pair × Held)) (run : Run) : Type 0 where
   pub fs : List Finished
-  pub known : IsKnown start now fs run
+  pub written : List ℕ
+  pub known : IsKnown start now fs written run
   pub begun : run.begun ≡ min (length fs + length es) (2 ^ 64 - 1)
-  pub shared : (k : Pair) → IsShare run.terms arrivals fs k (lookup (same_pair k) es)
+  pub apart : IsApart es
+  pub streams : Streams written fs es run
+  pub shared : (k : Pair) → Shares written arrivals fs run k (lookup (same_pair k) es)
 
 -- These segments came. Connections are over and told, the others are given up.
 pub record Stops (start now : TargetSeen) (arrivals : List Arrival) (run : Run) : Type 0 where
   pub fs : List Finished
-  pub known : IsKnown start now fs run
+  pub written : List ℕ
+  pub known : IsKnown start now fs written run
+  pub so_far : IsStreamSoFar run.teller.form (told_by written run) run.terms (unwrap_or run.start 0) arrivals fs
   pub shared : (k : Pair) → (rest : List Arrival) × IsShared k arrivals fs rest
 
 -- after a step
@@ -134,13 +205,17 @@ Goes start now arrivals es run (Err e) = Stops start now arrivals run
 -- The next segment x is of this connection, which is not in the table.
 pub record Holds (start now : TargetSeen) (arrivals : List Arrival) (x : Arrival) (p : Pair) (c : Held) (es : List (Pair × Held)) (run : Run) : Type 0 where
   pub fs : List Finished
-  pub known : IsKnown start now fs run
+  pub written : List ℕ
+  pub known : IsKnown start now fs written run
   pub begun : run.begun ≡ min (length fs + (length es + 1)) (2 ^ 64 - 1)
+  pub streams : Streams written fs ((p, c) ∷ es) run
   pub taken : List Arrival
   pub is : IsOpen run.terms taken (x ∷ []) c.value
+  pub sends : IsSending run.teller.form (told_by written run) run.terms taken (x ∷ []) c.value
   pub share : IsShared p arrivals fs taken
   pub absent : lookup (same_pair p) es ≡ None
-  pub others : (k : Pair) → same_pair k p ≡ false → IsShare run.terms arrivals fs k (lookup (same_pair k) es)
+  pub apart : IsApart es
+  pub others : (k : Pair) → same_pair k p ≡ false → Shares written arrivals fs run k (lookup (same_pair k) es)
 
 -- The connection of the next segment x was found or begun; or memory ran out.
 abbrev pub Finds : {E : Type 0} → TargetSeen → TargetSeen → List Arrival → Arrival → Pair → List (Pair × Held) → Run → Result Held E → Type 0

@@ -81,7 +81,10 @@ pub record IsJudgedOf (side : Side) (a b : Past) (t : Talk) (j : Judged) : Type 
     free_message = j.free_message;
     bep_message = j.bep_message;
   }))
-  pub receiver : IsReceiverNow (is_in_opening t) (terms_of t) (of_side side a b) (of_side (other side) a b) (Some (record { own = j.receiver; is_guessed = j.is_guessed }))
+  pub receiver : IsReceiverNow (is_in_opening t) (terms_of t) (of_side side a b) (of_side (other side) a b) (Some (record {
+    own = j.receiver;
+    is_guessed = j.is_guessed;
+  }))
 
 abbrev pub IsSenderOf : Side → Past → Past → Talk → Sender → Type 0
 IsSenderOf side a b t (Unknown sent) = (sent ≡ length (of_side side a b).out) × IsUnjudged side a b t

@@ -1,10 +1,12 @@
 -- What was told of a capture.
 use Rattle.bt_talk.specs.declared.terms.Terms.{Terms}
-use Rattle.std.specs.Prelude.{◌≡◌, ◌⊎◌, ℕ, ◌-◌, ◌^◌, ◌++◌, min, Bool, true, false, List, [], length, Option, unwrap_or, Result, Ok, Err, if◌then◌else◌}
-use Rattle.std.specs.List.{All}
+use Rattle.std.specs.Prelude.{◌≡◌, ◌⊎◌, ℕ, ◌-◌, ◌^◌, ◌<◌, ◌++◌, min, Bool, true, false, List, [], length, Option, Some, unwrap_or}
+use Rattle.std.specs.Prelude.{Result, Ok, Err, if◌then◌else◌}
+use Rattle.std.specs.List.{All, Contains}
 use Rattle.std.specs.Io.KnownBytes.{Appends, Consumes}
 use Rattle.bt_io.specs.Seen.{SourceSeen, TargetSeen, AppendsPrefix, WriteFailed}
 use Rattle.bt_pcap.specs.Formats.{Captured}
+use Rattle.bt_remarks.specs.declared.events.Side.{Side}
 use Rattle.bt_capture.specs.declared.connections.Run.{Run}
 use Rattle.bt_capture.specs.declared.ending.CaptureEnd.{CaptureEnd}
 use Rattle.bt_capture.specs.declared.ending.CaptureFault.{CaptureFault}
@@ -16,7 +18,7 @@ use Rattle.bt_capture.specs.declared.packets.FileEnd.TheVariants.{Whole, Cut}
 use Rattle.bt_capture.specs.declared.pair.Pair.{Pair}
 use Rattle.bt_capture.specs.Arrivals.{Arrival, arrivals, first_time}
 use Rattle.bt_capture.specs.Ends.{IsEnded}
-use Rattle.bt_capture.specs.Following.{Finished, IsFinished, IsShared, Follows, reports_of, count_lost}
+use Rattle.bt_capture.specs.Following.{Finished, IsFinished, IsSentBy, IsShared, IsStreamOf, IsStreamSoFar, AreNumbered, Follows, reports_of, count_lost}
 use Rattle.bt_capture.specs.Readings.{Reading, IsReading}
 use Rattle.bt_capture.specs.Tables.{Held}
 use Rattle.bt_utp.specs.Flows.{flows}
@@ -36,7 +38,12 @@ pub record Origin : Type 0 where
   pub target : TargetSeen
 
 abbrev pub origin : CaptureJob → SourceSeen → TargetSeen → Origin
-origin job source target = record { terms = job.terms; form = record { show = job.show; json = job.json; stream = job.stream }; left = source.left; target = target }
+origin job source target = record {
+  terms = job.terms;
+  form = record { show = job.show; json = job.json; stream = job.stream };
+  left = source.left;
+  target = target;
+}
 
 -- These packets were read from the source, all of them since the begin. Now it has these bytes left.
 pub record HasRead (o : Origin) (left : Option (List ℕ)) (packets : List Captured) (r : Reading) : Type 0 where
@@ -63,10 +70,17 @@ pub record AreOver (o : Origin) (packets : List Captured) (fs : List Finished) :
   pub finished : All (IsFinished o.terms (unwrap_or (first_time packets) 0)) fs
   pub shared : (k : Pair) → (rest : List Arrival) × IsShared k (arrivals packets) fs rest
 
--- All connections are over: each segment of the packets was taken by one of them.
+-- All connections are over: each segment of the packets was taken by one of them, and each has its number.
 pub record AreAllOver (o : Origin) (packets : List Captured) (fs : List Finished) : Type 0 where
   pub finished : All (IsFinished o.terms (unwrap_or (first_time packets) 0)) fs
+  pub numbered : AreNumbered (length fs) fs []
   pub shared : (k : Pair) → IsShared k (arrivals packets) fs []
+
+-- If a stream is told, the text is that of the asked side of the connection with the asked number, if there is a report on that. It is empty
+-- if no connection has the number.
+pub record IsStreamTold (o : Origin) (packets : List Captured) (fs : List Finished) (text : List ℕ) : Type 0 where
+  pub sent : All (IsSentBy o.form text o.terms (unwrap_or (first_time packets) 0)) fs
+  pub untold : (n : ℕ) → absent_from o.form (length fs) ≡ Some n → n < 2 ^ 64 - 1 → text ≡ []
 
 abbrev pub is_cut_by : FileEnd → Bool
 is_cut_by Whole = false
@@ -81,7 +95,7 @@ abbrev pub utp_lines : Form → List Captured → List ℕ
 utp_lines form packets = utp_text form (datagrams packets)
 
 -- The file was read to its end. What was written are the texts of the reports on all its connections, in order, with rows between them, and
--- after them the lines on uTP. The reports add up to this.
+-- after them the lines on uTP; or the stream of one side of a connection. The reports add up to this.
 pub record IsEndOf (o : Origin) (left : Option (List ℕ)) (now : TargetSeen) (end : CaptureEnd) : Type 0 where
   pub packets : List Captured
   pub r : Reading
@@ -94,12 +108,19 @@ pub record IsEndOf (o : Origin) (left : Option (List ℕ)) (now : TargetSeen) (e
   pub over : AreAllOver o packets fs
   pub text : List ℕ
   pub texts_are : AreTexts o.form (reports_of fs) text
+  pub stream : IsStreamTold o packets fs text
   pub written : Appends o.target.held now.held (text ++ utp_lines o.form packets)
   pub calm : now.failed ≡ o.target.failed
   pub torrents : end.torrents ≡ count_torrents (reports_of fs)
   pub refused : end.is_refused ≡ is_one_refused (reports_of fs)
   pub lost : end.lost ≡ count_lost fs
   pub absent : end.absent ≡ absent_from o.form (min (length fs) (2 ^ 64 - 1))
+
+-- No connection has the number, and nothing is written. Or one has it: it has no report, or the side's stream is written, and nothing else.
+abbrev pub IsOnlyStream : (o : Origin) → TargetSeen → CaptureEnd → List Captured → List Finished → ℕ → Side → Type 0
+IsOnlyStream o now end packets fs n side = (bytes : List ℕ) × Appends o.target.held now.held bytes
+    × (((end.absent ≡ Some n) × (bytes ≡ []))
+    ⊎ ((f : Finished) × Contains fs f × (f.number ≡ n) × IsStreamOf side bytes o.terms (unwrap_or (first_time packets) 0) f))
 
 -- The texts of the reports on all connections of what was read are written, and the lines on uTP.
 pub record AreWritten (o : Origin) (left : Option (List ℕ)) (now : TargetSeen) : Type 0 where
@@ -110,13 +131,18 @@ pub record AreWritten (o : Origin) (left : Option (List ℕ)) (now : TargetSeen)
   pub over : AreAllOver o packets fs
   pub text : List ℕ
   pub texts_are : AreTexts o.form (reports_of fs) text
+  pub stream : IsStreamTold o packets fs text
   pub written : Appends o.target.held now.held (text ++ utp_lines o.form packets)
+
+abbrev pub StreamsSoFar : Origin → List Captured → List Finished → List ℕ → Type 0
+StreamsSoFar o packets fs text = IsStreamSoFar o.form text o.terms (unwrap_or (first_time packets) 0) (arrivals packets) fs
 
 -- There are no lines on uTP as long as a connection may be left.
 abbrev pub AreLines : Origin → List Captured → List Finished → List ℕ → Type 0
 AreLines o packets fs lines = (lines ≡ []) ⊎ (AreAllOver o packets fs × (lines ≡ utp_lines o.form packets))
 
--- The first part of the texts of reports on connections of what was read, and of the lines on uTP after all of them, is written.
+-- The first part of the texts of reports on connections of what was read, and of the lines on uTP after all of them, is written. If a stream is
+-- told it is the first part of that.
 pub record ArePartlyWritten (o : Origin) (left : Option (List ℕ)) (now : TargetSeen) : Type 0 where
   pub packets : List Captured
   pub r : Reading
@@ -127,9 +153,11 @@ pub record ArePartlyWritten (o : Origin) (left : Option (List ℕ)) (now : Targe
   pub texts_are : AreTexts o.form (reports_of fs) text
   pub lines : List ℕ
   pub are_lines : AreLines o packets fs lines
+  pub stream : StreamsSoFar o packets fs text
   pub front : AppendsPrefix o.target.held now.held (text ++ lines)
 
--- A write failed: the first part of the texts is written, or all of them and the first part of the lines on uTP.
+-- A write failed: the first part of the texts is written, or all of them and the first part of the lines on uTP. If a stream is told it is
+-- the first part of that.
 pub record IsLeft (o : Origin) (left : Option (List ℕ)) (now : TargetSeen) : Type 0 where
   pub packets : List Captured
   pub r : Reading
@@ -140,6 +168,7 @@ pub record IsLeft (o : Origin) (left : Option (List ℕ)) (now : TargetSeen) : T
   pub texts_are : AreTexts o.form (reports_of fs) text
   pub lines : List ℕ
   pub are_lines : AreLines o packets fs lines
+  pub stream : StreamsSoFar o packets fs text
   pub front : AppendsPrefix o.target.held now.held (text ++ lines)
   pub failed : WriteFailed o.target now
 

@@ -1,18 +1,25 @@
 -- The bytes of a connection's side that are handed out, by the segments that the connection took.
 use Rattle.bt_talk.specs.declared.terms.Terms.{Terms}
-use Rattle.std.specs.Prelude.{◌≡◌, ◌⊎◌, ℕ, ◌+◌, ◌-◌, ◌^◌, min, false, List, [], ◌++◌}
+use Rattle.std.specs.Prelude.{◌≡◌, ◌⊎◌, ℕ, ◌+◌, ◌-◌, ◌^◌, ◌<◌, min, false, List, [], ◌++◌, Some}
 use Rattle.bt_remarks.specs.declared.events.Side.{Side}
 use Rattle.bt_talk.specs.Sent.{IsSent}
 use Rattle.bt_talk.specs.Talks.{is_in_opening, is_lost, of_side}
 use Rattle.bt_capture.specs.Arrivals.{Arrival}
 use Rattle.bt_capture.specs.Connections.{IsMade}
 use Rattle.bt_capture.specs.declared.connection.Connection.{Connection}
+use Rattle.bt_capture.specs.Forms.{wanted_by}
 use Rattle.bt_capture.specs.declared.connections.Run.{Run}
+use Rattle.bt_capture.specs.declared.ending.Form.{Form}
 
 -- The connection took these segments, and these bytes of the side were handed out, if memory didn't run out.
 abbrev pub HasSent : Side → List ℕ → Terms → (taken more : List Arrival) → Connection → Type 0
 HasSent side sent terms taken more c =
     is_lost c.talk ≡ false → (m : IsMade terms taken more c.talk) × IsSent (is_in_opening c.talk) (of_side side m.a m.b) sent
+
+-- If the stream of this connection is told, what was told is what was handed out of it. A number below 2 ^ 64 - 1 is of one connection only.
+abbrev pub IsSending : Form → List ℕ → Terms → (taken more : List Arrival) → Connection → Type 0
+IsSending form told terms taken more c =
+    (side : Side) → c.number < 2 ^ 64 - 1 → wanted_by form c.number ≡ Some side → HasSent side told terms taken more c
 
 -- The connection is over: it took these segments, and these are all bytes of the side's stream from its handshake on, or from its first byte
 -- if none started in the opening.

@@ -7,12 +7,16 @@ use Rattle.bt_told.specs.Findings.{finding_of}
 use Rattle.bt_told.specs.Objects.{report_object}
 use Rattle.bt_told.specs.Reports.{report_text}
 use Rattle.bt_talk.specs.Rows.{Shown, shown_texts}
+use Rattle.bt_talk.specs.Pasts.{Past}
+use Rattle.bt_talk.specs.Talks.{IsTalk}
+use Rattle.bt_talk.specs.declared.talk.Talk.{Talk}
 use Rattle.bt_told.specs.declared.finding.Finding.{Finding}
 use Rattle.bt_told.specs.declared.finding.Finding.TheVariants as finding
 use Rattle.bt_told.specs.declared.report.Report.{Report}
 use Rattle.bt_capture.specs.declared.ending.Form.{Form}
 use Rattle.bt_capture.specs.declared.telling.Teller.{Teller}
 use Rattle.bt_capture.specs.Forms.{showing_by, is_stream}
+use Rattle.bt_capture.specs.Reportings.{IsReportOf}
 
 -- ---- a report on a connection
 
@@ -57,11 +61,6 @@ report_of_part (OfReport r) = r ∷ []
 report_of_part (OfRows rows) = []
 report_of_part (OfBytes bytes) = []
 
-abbrev pub bytes_of_part : Part → List ℕ
-bytes_of_part (OfReport r) = []
-bytes_of_part (OfRows rows) = []
-bytes_of_part (OfBytes bytes) = bytes
-
 -- A report has no text if only a stream is told.
 abbrev pub report_by : Form → Report → List ℕ
 report_by form r = if is_stream form then [] else text_by form.json r
@@ -86,9 +85,9 @@ count_torrents reports = min (length (filter is_told reports)) (2 ^ 64 - 1)
 abbrev pub is_one_refused : List Report → Bool
 is_one_refused reports = list_any is_refused reports
 
--- These reports were told, and what they add up to is known. Their texts are written, and those of rows, except for what is kept.
-pub record Tells (start now : TargetSeen) (t : Teller) (reports : List Report) : Type 0 where
-  pub written : List ℕ
+-- These reports were told, and what they add up to is known. These bytes are written: with what is kept they are the texts of the reports,
+-- and of rows, or a stream's bytes.
+pub record Tells (start now : TargetSeen) (t : Teller) (reports : List Report) (written : List ℕ) : Type 0 where
   pub whole : AreTexts t.form reports (written ++ t.text.items)
   pub held : Appends start.held now.held written
   pub calm : now.failed ≡ start.failed
@@ -96,11 +95,20 @@ pub record Tells (start now : TargetSeen) (t : Teller) (reports : List Report) :
   pub refused : t.is_refused ≡ is_one_refused reports
 
 -- A write failed: the first part of the texts is written.
-pub record IsStopped (form : Form) (start now : TargetSeen) (reports : List Report) : Type 0 where
-  pub text : List ℕ
+pub record IsStopped (form : Form) (start now : TargetSeen) (reports : List Report) (text : List ℕ) : Type 0 where
   pub texts_are : AreTexts form reports text
   pub front : AppendsPrefix start.held now.held text
   pub failed : WriteFailed start now
+
+-- The same reports are told, and the same bytes are written.
+abbrev pub TellsOn : Teller → Teller → Type 0
+TellsOn t t' = (start now : TargetSeen) (reports : List Report) (written : List ℕ) → Tells start now t reports written → Tells start now t' reports written
+
+-- One report more is told: on the connection with this number, in a capture that starts at this time. The same bytes are written.
+abbrev pub Says : Teller → Teller → (number from : ℕ) → Talk → Type 0
+Says t t' number from talk =
+    (r : Report) × ((a b : Past) → IsTalk a b talk → IsReportOf number from a b talk r)
+    × ((start now : TargetSeen) (reports : List Report) (written : List ℕ) → Tells start now t reports written → Tells start now t' (reports ++ r ∷ []) written)
 
 -- All is written.
 abbrev pub IsEmpty : Teller → Type 0

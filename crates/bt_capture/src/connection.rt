@@ -1,13 +1,15 @@
 //! A connection of a capture, with its number.
 ghost use Rattle.bt_talk.specs.declared.terms.Terms.{Terms};
-ghost use Rattle.std.specs.Prelude.{◌≡◌, ◌<◌, ◌^◌, ◌++◌, ◌∷◌, List, [], Option, Some, ℕ};
+ghost use Rattle.std.specs.Prelude.{false, ◌≡◌, ◌<◌, ◌^◌, ◌++◌, ◌∷◌, List, [], Option, Some, ℕ};
 ghost use Rattle.bt_talk.specs.declared.closing.When.{When};
 ghost use Rattle.bt_capture.specs.Arrivals.{Arrival, arrived, has_data};
 ghost use Rattle.bt_remarks.specs.declared.events.Side.{Side};
 ghost use Rattle.bt_talk.specs.Rooms.{rows_in, sent_in, showing_in, wanted_in};
 ghost use Rattle.bt_capture.specs.Sending.{HasSent};
 ghost use Rattle.bt_capture.specs.Connections.{IsOpen};
-ghost use Rattle.bt_capture.specs.Shown.{HasRows};
+ghost use Rattle.bt_capture.specs.Shown.{AreOfSegment, HasRows};
+ghost use Rattle.bt_talk.specs.Pasts.{Past};
+ghost use Rattle.bt_talk.specs.Talks.{IsTalk, is_lost};
 
 use bt_packet::Segment;
 use bt_talk::{Room, Talk, Terms, When};
@@ -67,6 +69,8 @@ impl Connection {
             → IsOpen terms (taken ++ a ∷ []) [] self.new }
         ensures rows { (terms : Terms) (taken : List Arrival) → IsOpen terms taken (arrived segment.now when ∷ []) self.old
             → (rows_in room.old).text.items ≡ [] → HasRows (showing_in room.old) room.new }
+        ensures shows { (a b : Past) → IsTalk a b self.old.talk → is_lost self.new.talk ≡ false → (rows_in room.old).text.items ≡ []
+            → AreOfSegment (rows_in room.old).heading segment.now when a b self.old.talk self.new.talk (rows_in room.new) }
         ensures sent { (terms : Terms) (taken : List Arrival) (side : Side) (sent : List ℕ) → let a = arrived segment.now when in wanted_in room.old ≡ Some side
             → HasSent side sent terms taken (a ∷ []) self.old → HasSent side (sent ++ sent_in room.new) terms (taken ++ a ∷ []) [] self.new }
         ensures number { self.new.number ≡ self.old.number }

@@ -1,5 +1,5 @@
 //! The connections of a capture, and the reports of those that are over.
-ghost use Rattle.std.specs.Prelude.{◌≡◌, ◌∷◌, ◌++◌, [], ◌+◌, ◌-◌, ◌^◌, ◌<◌, ◌≤◌, min, ℕ, List, length, false, true, None, Some, IfOk, OnOk};
+ghost use Rattle.std.specs.Prelude.{◌≡◌, ◌∷◌, ◌++◌, [], ◌+◌, ◌-◌, ◌^◌, ◌<◌, ◌≤◌, min, ℕ, List, length, false, true, None, Some, unwrap_or, IfOk, OnOk, OnErr};
 ghost use Rattle.std.specs.Map.{lookup};
 ghost use Rattle.std.specs.List.Sorted.{IsPermutation};
 ghost use Rattle.bt_io.specs.Seen.{TargetSeen};
@@ -11,18 +11,22 @@ ghost use Rattle.bt_packet.specs.declared.utp.Utp.{Utp};
 ghost use Rattle.bt_capture.specs.FlowTexts.{datagrams, datagrams_in};
 ghost use Rattle.bt_capture.specs.Connections.{IsOpen};
 ghost use Rattle.bt_remarks.specs.declared.events.Side.{Side};
-ghost use Rattle.bt_talk.specs.Rooms.{rows_in};
-ghost use Rattle.bt_talk.specs.Talks.{is_lost};
+ghost use Rattle.bt_talk.specs.Pasts.{Past};
+ghost use Rattle.bt_talk.specs.Rooms.{heading_by, rows_in};
+ghost use Rattle.bt_talk.specs.Talks.{IsTalk, is_lost};
+ghost use Rattle.bt_capture.specs.Shown.{AreOfSegment};
 ghost use Rattle.bt_capture.specs.Sending.{HasSent, IsSentOff};
-ghost use Rattle.bt_capture.specs.Forms.{absent_from, handed, is_stream, wanted_by};
+ghost use Rattle.bt_capture.specs.Forms.{absent_from, handed, is_stream, showing_by, wanted_by};
 ghost use Rattle.bt_capture.specs.Bounds.{IsBounded, IsCounted};
-ghost use Rattle.bt_capture.specs.Following.{Follows, Goes, Finds, TellsOn};
+ghost use Rattle.bt_capture.specs.Following.{Follows, Goes, Finds};
+ghost use Rattle.bt_capture.specs.Tellings.{TellsOn};
 ghost use Rattle.bt_capture.specs.Runs.{utp_text};
 ghost use Rattle.bt_capture.specs.Sights.{seen};
 ghost use Rattle.bt_capture.specs.Tables.{Held, same_pair, IsApart};
 ghost use Rattle.bt_capture.specs.declared.pair.Pair.{Pair};
 
 use crate::connection::Connection;
+use crate::ended::Ended;
 use crate::ending::Form;
 use crate::pair::Pair;
 use crate::sight::{Sight, sight_of};
@@ -57,6 +61,8 @@ pub struct Run {
     table: Table,
     /// About how many bytes of memory those in the table take.
     bytes: u64,
+    /// Those that have ended.
+    ended: Ended,
     /// How many connections have begun.
     begun: u64,
     pub teller: Teller,
@@ -91,6 +97,7 @@ impl Run {
             start: None,
             table: Table::new(alloc, keys)?,
             bytes: 0,
+            ended: Ended::new(alloc),
             begun: 0,
             teller: Teller::new(alloc, form),
             utp: UtpFlows::new(alloc),
@@ -286,6 +293,7 @@ impl Run {
     /// `AllocError` when out of memory. The rows aren't told then.
     fn give(
         &mut self,
+        pair: Pair,
         connection: &mut Connection,
         segment: &Segment,
         when: When,
@@ -294,20 +302,76 @@ impl Run {
             → IsOpen terms (taken ++ a ∷ []) [] connection.new }
         ensures tells { (terms : Terms) (taken : List Arrival) → IsOpen terms taken (arrived segment.now when ∷ []) connection.old
             → TellsOn self.old.teller self.new.teller }
-        ensures text { OnOk result (self.new.teller.text.items ≡ (self.old.teller.text.items ++ (rows_in self.new.room).text.items) ++ handed self.old.teller.form connection.new.number self.new.room) }
+        ensures text { OnOk result (self.new.teller.text.items ≡ (self.old.teller.text.items ++ (rows_in self.new.room).text.items)
+            ++ handed self.old.teller.form connection.new.number self.new.room) }
+        ensures told { OnOk result ((terms : Terms) (taken : List Arrival) → IsOpen terms taken (arrived segment.now when ∷ []) connection.old
+            → is_stream self.old.teller.form ≡ true
+            → self.new.teller.text.items ≡ self.old.teller.text.items ++ handed self.old.teller.form connection.new.number self.new.room) }
+        ensures kept { OnErr result ((terms : Terms) (taken : List Arrival) → IsOpen terms taken (arrived segment.now when ∷ []) connection.old
+            → is_stream self.old.teller.form ≡ true → self.new.teller.text.items ≡ self.old.teller.text.items) }
+        ensures shows { (a b : Past) → IsTalk a b connection.old.talk → is_lost connection.new.talk ≡ false
+            → AreOfSegment (heading_by (showing_by self.old.teller.form) connection.old.number (unwrap_or self.old.start 0)) segment.now when a b
+            connection.old.talk connection.new.talk (rows_in self.new.room) }
         ensures number { connection.new.number ≡ connection.old.number }
         ensures sent { (terms : Terms) (taken : List Arrival) (side : Side) (sent : List ℕ) → let a = arrived segment.now when in
             wanted_by self.old.teller.form connection.old.number ≡ Some side → HasSent side sent terms taken (a ∷ []) connection.old
             → HasSent side (sent ++ handed self.old.teller.form connection.new.number self.new.room) terms (taken ++ a ∷ []) [] connection.new }
         ensures form { self.new.teller.form ≡ self.old.teller.form }
-        ensures rest { self.new ≡ record self.old { teller = self.new.teller; room = self.new.room } }
+        ensures rest { self.new ≡ record self.old { teller = self.new.teller; room = self.new.room; ended = self.new.ended } }
     {
         let from = self.start.unwrap_or(0);
         let wanted = self.teller.wanted(connection.number);
         self.room
             .turn_to(self.teller.showing(), connection.number, from, wanted);
+        let had_ended = connection.talk.has_ended();
         connection.take(segment, when, &mut self.room);
+        let has_ended = connection.talk.has_ended();
+        self.ended.note_end(pair, had_ended, has_ended, when.nanos);
         self.teller.show(connection.number, &self.room)
+    }
+
+    /// Ends the connection of these ends, if there is one.
+    fn end(&mut self, pair: Pair) -> Result<(), AllocError>
+        ensures goes { (start now : TargetSeen) (came : List Arrival) → Follows start now came self.old.table self.old
+            → Goes start now came self.new.table self.new result }
+        ensures bounded { IsBounded self.old → IsBounded self.new }
+        ensures terms { self.new.terms ≡ self.old.terms }
+        ensures form { self.new.teller.form ≡ self.old.teller.form }
+        ensures start { self.new.start ≡ self.old.start }
+        ensures utp { self.new.utp ≡ self.old.utp }
+    {
+        match self.table.take_out(pair) {
+            Some(connection) => {
+                self.bytes = self.bytes.saturating_sub(connection.size());
+                self.report(connection)
+            }
+            None => Ok(()),
+        }
+    }
+
+    /// Ends a connection that is over at this time, if there is one.
+    ///
+    /// With each packet one is looked at of those that have ended.
+    fn end_quiet(&mut self, nanos: u64) -> Result<(), AllocError>
+        ensures goes { (start now : TargetSeen) (came : List Arrival) → Follows start now came self.old.table self.old
+            → Goes start now came self.new.table self.new result }
+        ensures bounded { IsBounded self.old → IsBounded self.new }
+        ensures terms { self.new.terms ≡ self.old.terms }
+        ensures form { self.new.teller.form ≡ self.old.teller.form }
+        ensures start { self.new.start ≡ self.old.start }
+        ensures utp { self.new.utp ≡ self.old.utp }
+    {
+        let Some(pair) = self.ended.take_due(nanos) else {
+            return Ok(());
+        };
+        match self.table.is_over(pair, nanos) {
+            Some(true) => self.end(pair),
+            Some(false) => {
+                self.ended.note(pair, nanos);
+                Ok(())
+            }
+            None => Ok(()),
+        }
     }
 
     /// Takes a segment.
@@ -323,7 +387,7 @@ impl Run {
         let pair = Pair::of(segment.source, segment.target);
         match self.connection_of(pair, segment, when) {
             Ok(mut connection) => {
-                match self.give(&mut connection, segment, when) {
+                match self.give(pair, &mut connection, segment, when) {
                     Ok(()) => self.put(pair, connection),
                     Err(error) => Err(error),
                 }
@@ -377,14 +441,18 @@ impl Run {
         ensures terms { self.new.terms ≡ self.old.terms }
         ensures form { self.new.teller.form ≡ self.old.teller.form }
         ensures start { (packets : List Captured) → self.old.start ≡ first_time packets → self.new.start ≡ first_time (packets ++ captured packet.now ∷ []) }
-        ensures utp { OnOk result ((packets : List Captured) → AreCounted (datagrams packets) self.old.utp → AreCounted (datagrams (packets ++ captured packet.now ∷ [])) self.new.utp) }
+        ensures utp { OnOk result ((packets : List Captured) → AreCounted (datagrams packets) self.old.utp
+            → AreCounted (datagrams (packets ++ captured packet.now ∷ [])) self.new.utp) }
     {
         self.start = self.start.or(Some(packet.nanos));
         let when = When {
             nanos: packet.nanos,
             packet: number,
         };
-        self.take_sight(&sight_of(packet), when)
+        match self.take_sight(&sight_of(packet), when) {
+            Ok(()) => self.end_quiet(packet.nanos),
+            Err(error) => Err(error),
+        }
     }
 
     /// Takes out the connections that aren't over, in the order of their numbers.

@@ -1,17 +1,23 @@
 //! Theorems on what is told of a capture.
-ghost use Rattle.std.specs.Prelude.{◌≡◌, ℕ, List, None, false, true};
-ghost use Rattle.std.specs.List.{flat_map};
+ghost use Rattle.std.specs.Prelude.{◌≡◌, ◌<◌, ◌-◌, ◌^◌, ℕ, List, Option, Some, None, false};
+ghost use Rattle.bt_io.specs.Seen.{TargetSeen};
+ghost use Rattle.bt_remarks.specs.declared.events.Side.{Side};
 ghost use Rattle.bt_told.specs.declared.report.Report.{Report};
+ghost use Rattle.bt_capture.specs.declared.ending.CaptureEnd.{CaptureEnd};
 ghost use Rattle.bt_capture.specs.declared.ending.Form.{Form};
-ghost use Rattle.bt_capture.specs.Forms.{is_stream};
-ghost use Rattle.bt_capture.specs.Tellings.{AreTexts, bytes_of_part, texts};
+ghost use Rattle.bt_capture.specs.Runs.{IsEndOf, IsOnlyStream, Origin};
+ghost use Rattle.bt_capture.specs.Tellings.{AreTexts, texts};
 
 /// If neither rows nor a stream are told, what is told are the texts of the reports, in order, and nothing else.
 pub fn only_reports()
-    ensures { (form : Form) (reports : List Report) (text : List ℕ) → form.show ≡ false → form.stream ≡ None → AreTexts form reports text → text ≡ texts form.json reports }
+    ensures { (form : Form) (reports : List Report) (text : List ℕ) → form.show ≡ false → form.stream ≡ None → AreTexts form reports text
+        → text ≡ texts form.json reports }
 {}
 
-/// If a stream is told, what is told are its bytes, as they were handed out, and nothing else.
-pub fn only_bytes()
-    ensures { (form : Form) (reports : List Report) (text : List ℕ) → is_stream form ≡ true → (i : AreTexts form reports text) → text ≡ flat_map bytes_of_part i.parts }
+/// If a stream is asked for and the file was read to its end, nothing is written if no connection has the number. Otherwise one has it, and
+/// if there is a report on that, the stream of its side is written, and nothing else. It begins with the handshake, or with the first byte if no
+/// handshake started in the opening, and ends at the first gap.
+pub fn only_stream()
+    ensures { (o : Origin) (left : Option (List ℕ)) (now : TargetSeen) (end : CaptureEnd) (n : ℕ) (side : Side) → o.form.stream ≡ Some (n, side)
+        → n < 2 ^ 64 - 1 → (i : IsEndOf o left now end) → IsOnlyStream o now end i.packets i.fs n side }
 {}

@@ -4,6 +4,7 @@
 mod buffer;
 mod connection;
 mod connections;
+mod ended;
 mod ending;
 mod fault;
 pub mod laws;

@@ -4,7 +4,8 @@ ghost use Rattle.bt_intro.specs.Hellos.{IsStartOf};
 ghost use Rattle.bt_talk.specs.Pasts.{Past};
 ghost use Rattle.bt_talk.specs.Talks.{IsTalk, closing_of};
 ghost use Rattle.bt_told.specs.Names.{title_text};
-ghost use Rattle.bt_capture.specs.Reportings.{IsReportOf, IsSenderOf, IsDirectionOf, IsBodyOf, HasBegun, offset_gap, shifted as shifted_by, title_by, means_by, IsBeforeOf, IsClosedBy, AreRemarksOf};
+ghost use Rattle.bt_capture.specs.Reportings.{IsReportOf, IsSenderOf, IsDirectionOf, IsBodyOf, HasBegun, IsBeforeOf, IsClosedBy, AreRemarksOf};
+ghost use Rattle.bt_capture.specs.Reportings.{offset_gap, shifted as shifted_by, title_by, means_by};
 
 use bt_intro::Receiver;
 use bt_remarks::Side;

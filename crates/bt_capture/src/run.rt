@@ -1,5 +1,5 @@
 //! What `capture` does: from a source of a capture file to a target of the reports on its connections.
-ghost use Rattle.std.specs.Prelude.{◌≡◌, ◌<◌, ℕ, List, [], ◌∷◌, length, Option, None, Ok, OnOk, IfOk, IfErr, IfSome, false};
+ghost use Rattle.std.specs.Prelude.{◌≡◌, ◌⊎◌, ◌<◌, ℕ, List, [], ◌∷◌, length, Option, None, Ok, OnOk, IfOk, IfErr, IfSome, false};
 ghost use Rattle.std.specs.Map.{lookup};
 ghost use Rattle.bt_io.specs.Seen.{TargetSeen};
 ghost use Rattle.bt_packet.specs.declared.utp.Utp.{Utp};
@@ -7,8 +7,10 @@ ghost use Rattle.bt_utp.specs.States.{AreCounted};
 ghost use Rattle.bt_capture.specs.Ends.{IsEnded};
 ghost use Rattle.bt_capture.specs.Readings.{Reading};
 ghost use Rattle.bt_capture.specs.Tables.{Held, same_pair};
+ghost use Rattle.bt_capture.specs.Sees.{HasSeenAll, HasSeenMore, HasSeenTurn, IsNoRead};
 ghost use Rattle.bt_capture.specs.Tellings.{IsEmpty};
-ghost use Rattle.bt_capture.specs.Runs.{Adds, Origin, done, origin, IsTelling, IsOfTelling, IsOfReading, IsAfter, IsTold, IsEndOf, is_cut_by, utp_lines, utp_text};
+ghost use Rattle.bt_capture.specs.Runs.{Adds, Origin, done, origin, IsTelling, IsOfTelling, IsOfReading, IsAfter, IsTold, IsEndOf};
+ghost use Rattle.bt_capture.specs.Runs.{is_cut_by, utp_lines, utp_text};
 ghost use Rattle.bt_capture.specs.declared.connections.Run.{Run};
 ghost use Rattle.bt_capture.specs.declared.pair.Pair.{Pair};
 
@@ -55,6 +57,7 @@ fn step(run: &mut Run, packets: &mut Packets) -> Result<bool, CaptureFault>
     ensures after { (o : Origin) (left : Option (List ℕ)) (now : TargetSeen) → IsTelling o left now run.old.table run.old packets.old
         → IsAfter o left now run.new.table run.new packets.new result }
     ensures few { result ≡ Ok false → length packets.new.held < 1048604 }
+    ensures fault { IfErr result IsNoRead }
 {
     let number = packets.packets().saturating_add(1);
     match packets.take() {
@@ -77,26 +80,29 @@ fn read_more<R: Source, W: Target>(
     requires { length packets.old.held < 1048604 }
     ensures after { (o : Origin) → IsTelling o (R.seen reader.old).left (W.seen writer.old) run.old.table run.old packets.old
         → IsAfter o (R.seen reader.new).left (W.seen writer.new) run.new.table run.new packets.new result }
+    ensures seen { HasSeenMore result (R.seen reader.old) (R.seen reader.new) }
 {
     match write(run, writer) {
         Ok(()) => {}
         Err(fault) => return Err(fault),
     }
     match packets.read(reader) {
-        Ok(count) => Ok(count > 0),
+        Ok(0) => Ok(false),
+        Ok(_) => Ok(true),
         Err(ReadFault::Failed) => Err(CaptureFault::Read),
         Err(ReadFault::Memory) => Err(CaptureFault::Memory),
     }
 }
 
 /// Tells how the file ended, which was read to its end.
-fn ended(packets: &Packets) -> Result<Option<FileEnd>, CaptureFault>
+fn ended(packets: &Packets) -> Result<FileEnd, CaptureFault>
     ensures after { (o : Origin) (left : Option (List ℕ)) (now : TargetSeen) (es : List (Pair × Held)) (run : Run) → IsTelling o left now es run packets.now
         → IsAfter o left now es run packets.now result }
-    ensures ended { IfOk result (λ end. IfSome end (λ e. IsEnded packets.now (Ok e))) }
+    ensures ended { IfOk result (λ e. IsEnded packets.now (Ok e)) }
+    ensures fault { IfErr result IsNoRead }
 {
     match packets.ended() {
-        Ok(end) => Ok(Some(end)),
+        Ok(end) => Ok(end),
         Err(fault) => Err(CaptureFault::File(fault)),
     }
 }
@@ -111,6 +117,7 @@ fn turn<R: Source, W: Target>(
     ensures after { (o : Origin) → IsTelling o (R.seen reader.old).left (W.seen writer.old) run.old.table run.old packets.old
         → IsAfter o (R.seen reader.new).left (W.seen writer.new) run.new.table run.new packets.new result }
     ensures ended { IfOk result (λ end. IfSome end (λ e. IsEnded packets.new (Ok e))) }
+    ensures seen { HasSeenTurn result (R.seen reader.old) (R.seen reader.new) }
 {
     match step(run, packets) {
         Ok(true) => match write_if_full(run, writer) {
@@ -119,7 +126,10 @@ fn turn<R: Source, W: Target>(
         },
         Ok(false) => match read_more(run, packets, reader, writer) {
             Ok(true) => Ok(None),
-            Ok(false) => ended(packets),
+            Ok(false) => match ended(packets) {
+                Ok(end) => Ok(Some(end)),
+                Err(fault) => Err(fault),
+            },
             Err(fault) => Err(fault),
         },
         Err(fault) => Err(fault),
@@ -136,6 +146,7 @@ fn read_all<R: Source, W: Target>(
     ensures after { (o : Origin) → IsTelling o (R.seen reader.old).left (W.seen writer.old) run.old.table run.old packets.old
         → IsAfter o (R.seen reader.new).left (W.seen writer.new) run.new.table run.new packets.new result }
     ensures ended { IfOk result (λ e. IsEnded packets.new (Ok e)) }
+    ensures seen { HasSeenAll result (R.seen reader.old) (R.seen reader.new) }
 {
     for _turn in 0..u64::MAX {
         match turn(run, packets, reader, writer) {
@@ -184,8 +195,9 @@ fn finish<W: Target>(run: &mut Run, writer: &mut W) -> Result<(), CaptureFault>
 
 /// Writes the lines on packets of uTP, after all reports. There are none if only a stream is told.
 fn write_utp<W: Target>(run: &Run, writer: &mut W) -> Result<(), CaptureFault>
-    ensures { (ds : List Utp) → AreCounted ds run.now.utp
+    ensures added { (ds : List Utp) → AreCounted ds run.now.utp
         → Adds (utp_text run.now.teller.form ds) (W.seen writer.old) (W.seen writer.new) result }
+    ensures fault { IfErr result IsOfTelling }
 {
     let Ok(lines) = run.utp_lines() else {
         return Err(CaptureFault::Memory);
@@ -229,8 +241,9 @@ fn end_whole<W: Target>(
     end: FileEnd,
     writer: &mut W,
 ) -> Result<CaptureEnd, CaptureFault>
-    ensures { (o : Origin) (left : Option (List ℕ)) → IsTelling o left (W.seen writer.old) run.old.table run.old packets.now → IsEnded packets.now (Ok end)
+    ensures told { (o : Origin) (left : Option (List ℕ)) → IsTelling o left (W.seen writer.old) run.old.table run.old packets.now → IsEnded packets.now (Ok end)
         → IsTold o left (W.seen writer.new) result }
+    ensures fault { IfErr result IsOfTelling }
 {
     match finish(run, writer) {
         Ok(()) => match write_utp(run, writer) {
@@ -248,8 +261,10 @@ fn end_unread<W: Target>(
     writer: &mut W,
 ) -> Result<CaptureEnd, CaptureFault>
     requires { IsOfReading fault }
-    ensures { (o : Origin) (left : Option (List ℕ)) (r : Reading) → IsTelling o left (W.seen writer.old) run.old.table run.old r
+    ensures told { (o : Origin) (left : Option (List ℕ)) (r : Reading) → IsTelling o left (W.seen writer.old) run.old.table run.old r
         → IsTold o left (W.seen writer.new) result }
+    ensures fault { IfErr result (λ f. (f ≡ fault) ⊎ IsOfTelling f) }
+    ensures never { IfOk result (λ end. ⊥) }
 {
     match finish(run, writer) {
         Ok(()) => match write_utp(run, writer) {
@@ -267,8 +282,9 @@ fn tell_all<R: Source, W: Target>(
     reader: &mut R,
     writer: &mut W,
 ) -> Result<CaptureEnd, CaptureFault>
-    ensures { (o : Origin) → IsTelling o (R.seen reader.old).left (W.seen writer.old) run.old.table run.old packets.old
+    ensures told { (o : Origin) → IsTelling o (R.seen reader.old).left (W.seen writer.old) run.old.table run.old packets.old
         → IsTold o (R.seen reader.new).left (W.seen writer.new) result }
+    ensures seen { HasSeenAll result (R.seen reader.old) (R.seen reader.new) }
 {
     match read_all(run, packets, reader, writer) {
         Ok(end) => end_whole(run, packets, end, writer),
@@ -304,6 +320,7 @@ pub fn run_capture<R: Source, W: Target>(
     job: &CaptureJob,
 ) -> Result<CaptureEnd, CaptureFault>
     ensures told { IsTold (origin job.now (R.seen reader.old) (W.seen writer.old)) (R.seen reader.new).left (W.seen writer.new) result }
+    ensures seen { HasSeenAll result (R.seen reader.old) (R.seen reader.new) }
 {
     let form = Form {
         show: job.show,

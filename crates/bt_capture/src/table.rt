@@ -151,6 +151,21 @@ impl Table {
         }
     }
 
+    /// Tells whether the connection of these ends, if it has ended, is over at this time.
+    pub fn is_over(&self, pair: Pair, nanos: u64) -> Option<bool> {
+        let found = match &self.last {
+            Some((last, connection)) if *last == pair => Some(connection),
+            _ => match self.others.peek(&pair) {
+                Some(connection) => Some(connection),
+                None => self.silent.peek(&pair),
+            },
+        };
+        match found {
+            Some(connection) if connection.talk.has_ended() => Some(connection.talk.is_over(nanos)),
+            _ => None,
+        }
+    }
+
     /// Puts a connection into the table, which has none of the same ends.
     ///
     /// # Errors

@@ -1,12 +1,9 @@
 //! The text of reports and rows, or their JSON objects, or a stream's bytes, which are written in large pieces.
-ghost use Rattle.std.specs.Prelude.{◌≡◌, ◌∷◌, ◌++◌, [], ℕ, List, OnOk, OnErr, true};
+ghost use Rattle.std.specs.Prelude.{◌≡◌, ◌⊎◌, ◌∷◌, ◌++◌, [], ℕ, List, OnOk, OnErr, true};
 ghost use Rattle.bt_io.specs.Counts.{counted as counted_by};
 ghost use Rattle.bt_io.specs.Seen.{TargetSeen, WriteFailed};
 ghost use Rattle.bt_told.specs.declared.report.Report.{Report};
-ghost use Rattle.bt_talk.specs.Pasts.{Past};
-ghost use Rattle.bt_talk.specs.Talks.{IsTalk};
 ghost use Rattle.bt_capture.specs.Forms.{handed, is_stream, showing_by, wanted_by};
-ghost use Rattle.bt_capture.specs.Reportings.{IsReportOf};
 ghost use Rattle.bt_capture.specs.Shown.{HasRows};
 ghost use Rattle.bt_talk.specs.Rooms.{rows_in};
 ghost use Rattle.bt_capture.specs.Tellings.{is_told_with, is_refused_with, report_by, text_by};
@@ -90,11 +87,12 @@ pub struct Teller {
 }
 
 impl Teller {
-    ghost use Rattle.bt_capture.specs.Tellings.{Tells, IsStopped, count_torrents, is_one_refused, IsEmpty};
+    ghost use Rattle.bt_capture.specs.Tellings.{Tells, TellsOn, Says, IsStopped, count_torrents, is_one_refused, IsEmpty};
 
     /// Starts with no report.
     pub fn new(alloc: Global, form: Form) -> Teller
-        ensures tells { (start : TargetSeen) → Tells start start result [] }
+        ensures tells { (start : TargetSeen) → Tells start start result [] [] }
+        ensures empty { IsEmpty result }
         ensures form { result.form ≡ form }
     {
         Teller {
@@ -110,11 +108,11 @@ impl Teller {
     /// # Errors
     /// `AllocError` when out of memory. The report isn't told then.
     pub fn tell(&mut self, report: &Report) -> Result<(), AllocError>
-        ensures told { OnOk result ((start now : TargetSeen) (reports : List Report) → Tells start now self.old reports
-            → Tells start now self.new (reports ++ report.now ∷ [])) }
-        ensures same { OnErr result ((start now : TargetSeen) (reports : List Report) → Tells start now self.old reports
-            → Tells start now self.new reports) }
+        ensures told { OnOk result ((start now : TargetSeen) (reports : List Report) (written : List ℕ) → Tells start now self.old reports written
+            → Tells start now self.new (reports ++ report.now ∷ []) written) }
+        ensures same { OnErr result (TellsOn self.old self.new) }
         ensures text { OnOk result (self.new.text.items ≡ self.old.text.items ++ report_by self.old.form report.now) }
+        ensures kept { OnErr result (self.new.text.items ≡ self.old.text.items) }
         ensures form { self.new.form ≡ self.old.form }
     {
         put_in(self.form, report, &mut self.text)?;
@@ -140,9 +138,9 @@ impl Teller {
 
     /// Tells the rows that a room has.
     fn show_rows(&mut self, room: &Room) -> Result<(), AllocError>
-        ensures told { HasRows (showing_by self.old.form) room.now → (start now : TargetSeen) (reports : List Report) → Tells start now self.old reports
-            → Tells start now self.new reports }
+        ensures told { HasRows (showing_by self.old.form) room.now → TellsOn self.old self.new }
         ensures text { OnOk result (self.new.text.items ≡ self.old.text.items ++ (rows_in room.now).text.items) }
+        ensures kept { OnErr result (self.new.text.items ≡ self.old.text.items) }
         ensures form { self.new.form ≡ self.old.form }
     {
         self.text.extend_from_slice(room.rows())?;
@@ -151,8 +149,9 @@ impl Teller {
 
     /// Tells the bytes that a room has, if they are of the stream that is told. It is turned to the connection with this number.
     fn hand_out(&mut self, number: u64, room: &Room) -> Result<(), AllocError>
-        ensures told { (start now : TargetSeen) (reports : List Report) → Tells start now self.old reports → Tells start now self.new reports }
+        ensures told { TellsOn self.old self.new }
         ensures text { OnOk result (self.new.text.items ≡ self.old.text.items ++ handed self.old.form number room.now) }
+        ensures kept { OnErr result (self.new.text.items ≡ self.old.text.items) }
         ensures form { self.new.form ≡ self.old.form }
     {
         if self.form.wanted(number).is_none() {
@@ -168,9 +167,9 @@ impl Teller {
     /// # Errors
     /// `AllocError` when out of memory. Bytes aren't told then.
     pub fn show(&mut self, number: u64, room: &Room) -> Result<(), AllocError>
-        ensures told { HasRows (showing_by self.old.form) room.now → (start now : TargetSeen) (reports : List Report) → Tells start now self.old reports
-            → Tells start now self.new reports }
+        ensures told { HasRows (showing_by self.old.form) room.now → TellsOn self.old self.new }
         ensures text { OnOk result (self.new.text.items ≡ (self.old.text.items ++ (rows_in room.now).text.items) ++ handed self.old.form number room.now) }
+        ensures kept { OnErr result (is_stream self.old.form ≡ true → HasRows (showing_by self.old.form) room.now → self.new.text.items ≡ self.old.text.items) }
         ensures form { self.new.form ≡ self.old.form }
     {
         match self.show_rows(room) {
@@ -181,11 +180,10 @@ impl Teller {
 
     /// Tells the report on a connection, whose number and rows the room has, in a capture that starts at this time.
     fn report_on(&mut self, talk: &Talk, number: u64, from: u64) -> Result<(), AllocError>
-        ensures told { OnOk result ((a b : Past) → IsTalk a b talk.now → (r : Report) × IsReportOf number from a b talk.now r
-            × ((start now : TargetSeen) (reports : List Report) → Tells start now self.old reports → Tells start now self.new (reports ++ r ∷ []))) }
-        ensures same { OnErr result ((start now : TargetSeen) (reports : List Report) → Tells start now self.old reports
-            → Tells start now self.new reports) }
+        ensures told { OnOk result (Says self.old self.new number from talk.now) }
+        ensures same { OnErr result (TellsOn self.old self.new) }
         ensures text { OnOk result (is_stream self.old.form ≡ true → self.new.text.items ≡ self.old.text.items) }
+        ensures kept { OnErr result (self.new.text.items ≡ self.old.text.items) }
         ensures form { self.new.form ≡ self.old.form }
     {
         let ends = talk.ends();
@@ -214,13 +212,12 @@ impl Teller {
         from: u64,
         room: &mut Room,
     ) -> Result<(), AllocError>
-        ensures told { OnOk result (HasRows (showing_by self.old.form) room.old → (a b : Past) → IsTalk a b talk.now
-            → (r : Report) × IsReportOf number from a b talk.now r
-            × ((start now : TargetSeen) (reports : List Report) → Tells start now self.old reports → Tells start now self.new (reports ++ r ∷ []))) }
-        ensures same { OnErr result (HasRows (showing_by self.old.form) room.old → (start now : TargetSeen) (reports : List Report)
-            → Tells start now self.old reports → Tells start now self.new reports) }
+        ensures told { OnOk result (HasRows (showing_by self.old.form) room.old → Says self.old self.new number from talk.now) }
+        ensures same { OnErr result (HasRows (showing_by self.old.form) room.old → TellsOn self.old self.new) }
         ensures text { OnOk result (is_stream self.old.form ≡ true → HasRows (showing_by self.old.form) room.old
             → self.new.text.items ≡ self.old.text.items ++ handed self.old.form number room.old) }
+        ensures part { OnErr result (is_stream self.old.form ≡ true → HasRows (showing_by self.old.form) room.old
+            → (self.new.text.items ≡ self.old.text.items) ⊎ (self.new.text.items ≡ self.old.text.items ++ handed self.old.form number room.old)) }
         ensures form { self.new.form ≡ self.old.form }
     {
         self.hand_out(number, room)?;
@@ -240,11 +237,13 @@ impl Teller {
     /// # Errors
     /// `WriteFault` if a write failed, or took no byte. The first part of the text may be written then.
     pub fn flush<W: Target>(&mut self, writer: &mut W) -> Result<(), WriteFault>
-        ensures written { OnOk result ((start : TargetSeen) (reports : List Report) → Tells start (W.seen writer.old) self.old reports
-            → Tells start (W.seen writer.new) self.new reports) }
+        ensures written { OnOk result ((start : TargetSeen) (reports : List Report) (written : List ℕ)
+            → Tells start (W.seen writer.old) self.old reports written
+            → Tells start (W.seen writer.new) self.new reports (written ++ self.old.text.items)) }
         ensures empty { OnOk result (IsEmpty self.new) }
-        ensures stopped { OnErr result ((start : TargetSeen) (reports : List Report) → Tells start (W.seen writer.old) self.old reports
-            → IsStopped self.old.form start (W.seen writer.new) reports) }
+        ensures stopped { OnErr result ((start : TargetSeen) (reports : List Report) (written : List ℕ)
+            → Tells start (W.seen writer.old) self.old reports written
+            → IsStopped self.old.form start (W.seen writer.new) reports (written ++ self.old.text.items)) }
         ensures failed { OnErr result (WriteFailed (W.seen writer.old) (W.seen writer.new)) }
         ensures form { self.new.form ≡ self.old.form }
     {
@@ -259,14 +258,16 @@ impl Teller {
 
     /// Returns how many reports are on BitTorrent connections, at most 2^64 - 1.
     pub fn torrents(&self) -> u64
-        ensures { (start now : TargetSeen) (reports : List Report) → Tells start now self.now reports → result ≡ count_torrents reports }
+        ensures { (start now : TargetSeen) (reports : List Report) (written : List ℕ) → Tells start now self.now reports written
+            → result ≡ count_torrents reports }
     {
         self.torrents
     }
 
     /// Tells whether a direction of a report is refused under the lenient rules.
     pub fn is_refused(&self) -> bool
-        ensures { (start now : TargetSeen) (reports : List Report) → Tells start now self.now reports → result ≡ is_one_refused reports }
+        ensures { (start now : TargetSeen) (reports : List Report) (written : List ℕ) → Tells start now self.now reports written
+            → result ≡ is_one_refused reports }
     {
         self.is_refused
     }

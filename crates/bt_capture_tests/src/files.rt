@@ -161,21 +161,35 @@ fn notes_interfaces(rt: HostRuntime) {
     assert!(rt; reader.step(PACKET_64) == Ok(Step::Passed { used: 32, skip: 0 }));
 }
 
-/// A record longer than what is kept.
+/// Records longer than what is kept, of 2 MiB and of 16 MiB, which is the most.
 #[test]
 fn skips_the_rest(rt: HostRuntime) -> Result<(), AllocError> {
-    let mut reader = CaptureFile::new();
-    let mut file = Vec::from_slice(rt.alloc(), b"\0\0\0\0\0\0\0\0\0\0\x20\0\0\0\x20\0")?;
-    file.resize(NEED, 7)?;
-    let bytes = file.as_slice();
-    assert!(rt; reader.step(LITTLE_RECORDS) == Ok(Step::Passed { used: 24, skip: 0 }));
-    assert!(rt; reader.step(bytes.get(..NEED - 1).unwrap_or(&[])) == Ok(Step::More));
-    match reader.step(bytes) {
-        Ok(Step::Packet { packet, used, skip }) => {
-            assert!(rt; packet.bytes.len() == KEEP && packet.length == 0x20_0000);
-            assert!(rt; used == NEED && skip == 1_048_564);
+    let rows: [(&[u8], u32, u64); 2] = [
+        (
+            b"\0\0\0\0\0\0\0\0\0\0\x20\0\0\0\x20\0",
+            0x20_0000,
+            1_048_564,
+        ),
+        (
+            b"\0\0\0\0\0\0\0\0\0\0\0\x01\0\0\0\x01",
+            0x100_0000,
+            15_728_628,
+        ),
+    ];
+    for (record, size, left) in rows {
+        let mut reader = CaptureFile::new();
+        let mut file = Vec::from_slice(rt.alloc(), record)?;
+        file.resize(NEED, 7)?;
+        let bytes = file.as_slice();
+        assert!(rt; reader.step(LITTLE_RECORDS) == Ok(Step::Passed { used: 24, skip: 0 }));
+        assert!(rt; reader.step(bytes.get(..NEED - 1).unwrap_or(&[])) == Ok(Step::More));
+        match reader.step(bytes) {
+            Ok(Step::Packet { packet, used, skip }) => {
+                assert!(rt; packet.bytes.len() == KEEP && packet.length == size);
+                assert!(rt; used == NEED && skip == left);
+            }
+            _ => panic!(rt; "no packet"),
         }
-        _ => panic!(rt; "no packet"),
     }
     Ok(())
 }
@@ -183,7 +197,7 @@ fn skips_the_rest(rt: HostRuntime) -> Result<(), AllocError> {
 /// Each fault, which stays when the bytes are given again, and its text.
 #[test]
 fn finds_faults(rt: HostRuntime) -> Result<(), AllocError> {
-    let rows: [(&[u8], &[u8], FileFault, &str); 6] = [
+    let rows: [(&[u8], &[u8], FileFault, &str); 9] = [
         (
             b"",
             b"\xd4\xc3\xb2\xa2",
@@ -219,6 +233,24 @@ fn finds_faults(rt: HostRuntime) -> Result<(), AllocError> {
             b"\x06\0\0\0\x1f\0\0\0",
             FileFault::TooShort,
             "a block of a pcapng file is too short",
+        ),
+        (
+            SECTION,
+            b"\x06\0\0\0\x21\0\0\x01",
+            FileFault::Length,
+            "a block of a pcapng file has an impossible length",
+        ),
+        (
+            SECTION,
+            b"\x03\0\0\0\x11\0\0\x01",
+            FileFault::Length,
+            "a block of a pcapng file has an impossible length",
+        ),
+        (
+            LITTLE_RECORDS,
+            b"\x01\0\0\0\x02\0\0\0\x01\0\0\x01\x05\0\0\0",
+            FileFault::RecordLength,
+            "a record of a pcap file has an impossible length",
         ),
     ];
     for (first, bytes, fault, text) in rows {

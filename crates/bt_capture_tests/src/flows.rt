@@ -118,12 +118,35 @@ fn differs(rt: HostRuntime) -> Result<(), Fail> {
     Ok(())
 }
 
-/// A segment 17 MiB ahead: the gap is final, and later places are noted.
+/// The bytes that come next are given back, and only those of a filled gap are appended.
+#[test]
+fn next_bytes(rt: HostRuntime) -> Result<(), Fail> {
+    let mut flow = Flow::new(rt.alloc());
+    let mut later = Vec::new(rt.alloc());
+    let rows: [(u32, &[u8], &[u8], &[u8]); 5] = [
+        (100, b"ab", b"ab", b""),
+        (105, b"fg", b"", b""),
+        (101, b"bcde", b"cde", b"fg"),
+        (105, b"f", b"", b"fg"),
+        (106, b"ghi", b"hi", b"fg"),
+    ];
+    for (sequence, payload, fresh, filled) in &rows {
+        assert_eq!(rt;
+            flow.take_next(&data(*sequence, payload), &mut later)?,
+            *fresh
+        );
+        assert_eq!(rt; later.as_slice(), *filled);
+    }
+    assert_eq!(rt; flow.next(), 9);
+    Ok(())
+}
+
+/// A segment that ends a byte more than 15 MiB past the next place: the gap is final, and later places are noted.
 #[test]
 fn gives_up(rt: HostRuntime) -> Result<(), Fail> {
     let mut flow = Flow::new(rt.alloc());
     let mut out = Vec::new(rt.alloc());
-    let given: [(u32, &[u8]); 3] = [(0, b"ab"), (17_825_794, b"far"), (2, b"cd")];
+    let given: [(u32, &[u8]); 3] = [(0, b"ab"), (15_728_640, b"far"), (2, b"cd")];
     take_all(&mut flow, given.as_slice(), &mut out)?;
     assert_eq!(rt; out.as_slice(), b"ab".as_slice());
     assert_eq!(rt; flow.is_lost(), true);
@@ -134,10 +157,10 @@ fn gives_up(rt: HostRuntime) -> Result<(), Fail> {
         gaps.first,
         Some(Gap {
             place: 4,
-            length: 17_825_790
+            length: 15_728_636
         })
     );
     assert_eq!(rt; gaps.count, 1);
-    assert_eq!(rt; gaps.sum, 17_825_790);
+    assert_eq!(rt; gaps.sum, 15_728_636);
     Ok(())
 }

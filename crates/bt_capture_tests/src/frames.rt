@@ -1,5 +1,5 @@
 //! Frames of each link type, and what they carry. All values are by hand.
-use bt_packet::{Segment, put_address, segment_of, utp_of};
+use bt_packet::{Address, Host, Segment, put_address, segment_of, utp_of};
 use std::alloc::{AllocError, Global};
 
 /// Two addresses of Ethernet.
@@ -108,7 +108,7 @@ const SEGMENTS: &[Row] = &[
             b"\0\0",
         ],
         wire: 87,
-        said: b"[2001:db8:0:0:0:0:0:1]:6881 [fe80:0:0:0:0:0:a00:20ff]:80 16909060 168496141 fa abc 3",
+        said: b"[2001:db8::1]:6881 [fe80::a00:20ff]:80 16909060 168496141 fa abc 3",
     },
     // Linux cooked captures, loopback and raw IP
     Row {
@@ -306,6 +306,41 @@ fn said(alloc: Global, segment: &Segment) -> Result<Vec<u8>, AllocError> {
     out.extend_from_slice(segment.payload)?;
     out.extend_from_slice(format!(in alloc; " {}", segment.length)?.as_bytes())?;
     Ok(out)
+}
+
+/// Addresses of IPv6 as RFC 5952 writes them.
+#[test]
+fn writes_addresses(rt: HostRuntime) -> Result<(), AllocError> {
+    let rows: [(&[u8; 16], &[u8]); 6] = [
+        (
+            b"\x20\x01\x0d\xb8\0\0\0\0\0\x01\0\0\0\0\0\x01",
+            b"[2001:db8::1:0:0:1]:80",
+        ),
+        (
+            b"\x20\x01\x0d\xb8\0\0\0\x01\0\x01\0\x01\0\x01\0\x01",
+            b"[2001:db8:0:1:1:1:1:1]:80",
+        ),
+        (
+            b"\x20\x01\0\0\0\0\0\x01\0\0\0\0\0\0\0\x01",
+            b"[2001:0:0:1::1]:80",
+        ),
+        (b"\xfe\x80\0\0\0\0\0\0\0\0\0\0\0\0\0\0", b"[fe80::]:80"),
+        (b"\0\0\0\0\0\0\0\0\0\0\0\0\0\0\0\0", b"[::]:80"),
+        (
+            b"\0\0\0\0\0\0\0\0\0\0\xff\xff\xc0\0\x02\x01",
+            b"[::ffff:192.0.2.1]:80",
+        ),
+    ];
+    for (host, wanted) in rows {
+        let mut out = Vec::new(rt.alloc());
+        let address = Address {
+            host: Host::V6(*host),
+            port: 80,
+        };
+        put_address(&address, &mut out)?;
+        assert_eq!(rt; out.as_slice(), wanted);
+    }
+    Ok(())
 }
 
 #[test]

@@ -11,7 +11,7 @@ use bt_told::{
     Body, Deed, Direction, Report, Title, Told, Words, put_report_object, put_row_object,
     put_utp_object,
 };
-use bt_wire::{MessageView, Reason};
+use bt_wire::{Handshake, MessageView, Reason, Reserved};
 use std::test::Fail;
 
 fn object_of(rt: &HostRuntime, report: &Report) -> Result<Vec<u8>, Fail> {
@@ -139,6 +139,38 @@ fn rows(rt: HostRuntime) -> Result<(), Fail> {
 {\"connection\":0,\"time\":12.000000,\"packet\":4,\"side\":\"A\",\"offset\":87,\"gap\":1000}
 {\"connection\":0,\"time\":123.000000,\"packet\":4,\"side\":\"B\",\"offset\":68,\"closed\":\"RST\"}
 {\"connection\":12,\"time\":1234.000001,\"packet\":4,\"side\":\"B\",\"offset\":107,\"item\":\"request\",\"index\":1,\"begin\":0,\"length\":1,\"remarks\":[\"choked\",\"again\"]}
+";
+    assert_eq!(rt; out.as_slice(), wanted.as_slice());
+    Ok(())
+}
+
+/// The row of a handshake with this peer id, as an object.
+fn hello_row(rt: &HostRuntime, peer_id: &[u8; 20]) -> Result<Vec<u8>, Fail> {
+    let words = Words::Handshake(Handshake {
+        reserved: Reserved(0x100005),
+        info_hash: *b"abcdefghijklmnopqrst",
+        peer_id: *peer_id,
+    });
+    let mut out = Vec::new(rt.alloc());
+    let deed = Deed::Item(words);
+    put_row_object(4, &row(3_000_000, Side::A, 0, deed), &mut out)?;
+    Ok(out)
+}
+
+/// Of peer ids that are UTF-8 and need escapes, and of one that isn't.
+#[test]
+fn handshakes(rt: HostRuntime) -> Result<(), Fail> {
+    let mut out = hello_row(&rt, b"-A\"\\\x08\x0c\n\r\t\x1f\xc3\xa4\x7f-abcdef")?;
+    let other = hello_row(&rt, b"-BB0001-\xff00000000000")?;
+    out.extend_from_slice(other.as_slice())?;
+    let wanted = b"\
+{\"connection\":0,\"time\":0.003000,\"packet\":4,\"side\":\"A\",\"offset\":0,\"item\":\"handshake\",\
+\"reserved\":\"0000000000100005\",\
+\"info_hash\":\"6162636465666768696a6b6c6d6e6f7071727374\",\"peer_id\":\"2d41225c080c0a0d091fc3a47f2d616263646566\",\
+\"peer_id_text\":\"-A\\\"\\\\\\b\\f\\n\\r\\t\\u001f\xc3\xa4\x7f-abcdef\"}
+{\"connection\":0,\"time\":0.003000,\"packet\":4,\"side\":\"A\",\"offset\":0,\"item\":\"handshake\",\
+\"reserved\":\"0000000000100005\",\
+\"info_hash\":\"6162636465666768696a6b6c6d6e6f7071727374\",\"peer_id\":\"2d4242303030312dff3030303030303030303030\",\"peer_id_text\":null}
 ";
     assert_eq!(rt; out.as_slice(), wanted.as_slice());
     Ok(())

@@ -611,7 +611,7 @@ fn why_by_the_message(rt: HostRuntime) -> Result<(), Fail> {
 fn not_bittorrent(rt: HostRuntime) -> Result<(), Fail> {
     let out = text_of(&rt, &report(Body::NotBitTorrent))?;
     let wanted =
-        b"connection 0  A 10.0.0.1:51413 > B 10.0.0.2:6881  no BitTorrent handshake: encrypted, another protocol, or begun before the capture\n";
+        b"connection 0  A 10.0.0.1:51413 > B 10.0.0.2:6881  no BitTorrent handshake: encrypted, another protocol, or its start isn't in the capture\n";
     assert_eq!(rt; out.as_slice(), wanted.as_slice());
     Ok(())
 }

@@ -6,7 +6,7 @@ use Rattle.bt_text.specs.Lines.{fault_line}
 use Rattle.bt_run.specs.Endings.{fault_status, fault_words}
 use Rattle.bt_run.specs.Runs.{IsSaid}
 use Rattle.bt_pcap.specs.declared.fault.FileFault.{FileFault}
-use Rattle.bt_pcap.specs.declared.fault.FileFault.TheVariants.{NoCapture, ByteOrder, Length, TooShort}
+use Rattle.bt_pcap.specs.declared.fault.FileFault.TheVariants.{NoCapture, ByteOrder, Length, TooShort, RecordLength}
 use Rattle.bt_capture.specs.declared.ending.CaptureEnd.{CaptureEnd}
 use Rattle.bt_capture.specs.declared.ending.CaptureFault.{CaptureFault}
 use Rattle.bt_capture.specs.declared.ending.CaptureFault.TheVariants.{File, Read, Write, Memory, Turns}
@@ -58,6 +58,7 @@ file_words NoCapture = codes "fault: capture: neither a pcap nor a pcapng file\n
 file_words ByteOrder = codes "fault: capture: a section of a pcapng file has an unknown byte order\n"
 file_words Length = codes "fault: capture: a block of a pcapng file has an impossible length\n"
 file_words TooShort = codes "fault: capture: a block of a pcapng file is too short\n"
+file_words RecordLength = codes "fault: capture: a record of a pcap file has an impossible length\n"
 
 -- The input's name comes before what is wrong with it.
 abbrev pub capture_fault_words : Bool → List ℕ → CaptureFault → List ℕ

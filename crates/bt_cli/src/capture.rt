@@ -222,6 +222,8 @@ fn file_line(fault: FileFault) -> &'static [u8]
             b"fault: capture: a section of a pcapng file has an unknown byte order\n",
         FileFault::Length => b"fault: capture: a block of a pcapng file has an impossible length\n",
         FileFault::TooShort => b"fault: capture: a block of a pcapng file is too short\n",
+        FileFault::RecordLength =>
+            b"fault: capture: a record of a pcap file has an impossible length\n",
     }
 }
 

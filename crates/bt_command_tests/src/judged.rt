@@ -1,7 +1,7 @@
 //! Streams that come in pieces, judged by both rule sets at once.
 use bt_ext::{Registered, Rules};
 use bt_feed::{Sink, SinkFault, View};
-use bt_judge::{Judge, Verdicts};
+use bt_judge::{Judge, JudgeFault, Verdicts};
 use bt_text::ended::Ended;
 use bt_wire::{Own, Reason, Refusal, Reserved};
 use std::alloc::{AllocError, Global};
@@ -175,7 +175,7 @@ const ROWS: &[Row] = &[
 ];
 
 /// Gives a judge a stream in pieces of `size` bytes, up to its end or a fault of the sink.
-fn take(judge: &mut Judge, stream: &[u8], size: usize, sink: &mut Kept) -> Result<(), SinkFault> {
+fn take(judge: &mut Judge, stream: &[u8], size: usize, sink: &mut Kept) -> Result<(), JudgeFault> {
     for piece in stream.chunks(size.max(1)) {
         judge.take(piece, sink)?;
     }
@@ -223,19 +223,19 @@ fn parts_of_a_handshake(rt: HostRuntime) -> Result<(), Fail> {
         });
         let verdicts = judge.ended();
         assert!(rt; verdicts.free == inside && verdicts.bep == inside, "{at}");
-        assert_eq!(rt; judge.free.refusal(), None);
+        assert_eq!(rt; judge.refusal(), None);
         assert_eq!(rt; take(&mut judge, &[*byte], 1, &mut sink), Ok(()));
     }
     assert_eq!(rt; sink.calls, 1);
     Ok(())
 }
 
-/// A refusal stands from its byte on.
+/// A refusal by the strict rules stands from its byte on; then there is a parser for each rule set.
 #[test]
 fn standing(rt: HostRuntime) -> Result<(), Fail> {
     let mut judge = new_judge(rt.alloc())?;
     let mut sink = sink_of(rt.alloc(), None);
-    let late = Some(Refusal {
+    let late = Ended::Refused(Refusal {
         message: 2,
         at: 81,
         reason: Reason::Late,
@@ -250,10 +250,11 @@ fn standing(rt: HostRuntime) -> Result<(), Fail> {
         ),
         Ok(())
     );
-    assert_eq!(rt; judge.bep.refusal(), None);
+    assert_eq!(rt; judge.parsers(), 1);
     assert_eq!(rt; take(&mut judge, b"\x05", 5, &mut sink), Ok(()));
-    assert_eq!(rt; judge.bep.refusal(), late);
-    assert_eq!(rt; judge.free.refusal(), None);
+    assert_eq!(rt; judge.parsers(), 2);
+    assert_eq!(rt; judge.ended().bep, late);
+    assert_eq!(rt; judge.refusal(), None);
     Ok(())
 }
 
@@ -264,7 +265,7 @@ fn a_fault(rt: HostRuntime) -> Result<(), Fail> {
     let mut sink = sink_of(rt.alloc(), Some(2));
     assert_eq!(rt; take(&mut judge, HAND, 7, &mut sink), Ok(()));
     let taken = take(&mut judge, b"\0\0\0\0\0\0\0\0", 7, &mut sink);
-    assert_eq!(rt; taken, Err(SinkFault::Write));
+    assert_eq!(rt; taken, Err(JudgeFault::Sink(SinkFault::Write)));
     assert_eq!(rt; sink.calls, 2);
     Ok(())
 }

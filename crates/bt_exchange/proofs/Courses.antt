@@ -4,10 +4,9 @@ use Rattle.std.proofs.lemmas.List.{append-nil, append_assoc, take-append-drop}
 use Rattle.bt_wire.specs.declared.item.Item.{Item}
 use Rattle.bt_wire.specs.declared.item.Refusal.{Refusal}
 use Rattle.bt_feed.specs.Answers.{after}
-use Rattle.bt_feed.specs.Feeds.{taken}
-use Rattle.bt_feed.specs.Stages.{start_of, limit_of, IsItem, Comes}
-use Rattle.bt_feed.proofs.Coming.{item_comes}
-use Rattle.bt_feed.proofs.Moving.{fed_none, fed_both}
+use Rattle.bt_feed.specs.Feeds.{taken, pushed}
+use Rattle.bt_feed.specs.Stages.{start_of, limit_of, IsItem}
+use Rattle.bt_feed.proofs.Moving.{fed_none, fed_both, fed_push, fed_take}
 use Rattle.bt_end.specs.Ends.{EndState, react, spelled}
 use Rattle.bt_end.specs.Events.{event_of}
 use Rattle.bt_end.specs.Halves.{HalfState, with_feed, reacted, received, without_sent}
@@ -69,10 +68,7 @@ course_heard a piece n e =
     subst P (sym e) (
       record {
         items = [];
-        fed = record {
-          comes = λ later v k. let R : List ℕ → Type 0 = λ b. Comes a.feed.stage b v in
-              subst R (append_assoc a.feed.held (take (taken a.feed piece) piece) later) k;
-        };
+        fed = fed_push a.feed (pushed a.feed piece) piece (taken a.feed piece) refl refl;
         end = refl;
         bytes = append-nil a.outbox;
       },
@@ -93,13 +89,18 @@ course_item a item l is =
     let r = react a.end item in
     record {
       items = (start_of a.feed.stage, item) ∷ [];
-      fed = record { comes = λ later v k. item_comes a.feed.stage a.feed.held later item v (omega (arith, l)) is k };
+      fed = fed_take a.feed (after a.feed (Ok (Some item))) item l is refl;
       end = refl;
       bytes = ap (λ (l : List ℕ). a.outbox ++ l) (append-nil (spelled r.end r.queued));
     }
 
 abbrev course_refused : (a : HalfState) (r : Refusal) → Course a (with_feed a (after a.feed (Err r))) [] []
-course_refused a r = record { items = []; fed = record { comes = λ later v k. k }; end = refl; bytes = append-nil a.outbox }
+course_refused a r = record {
+  items = [];
+  fed = record { comes = λ later v k. k; spells = (refl, append-nil a.feed.held) };
+  end = refl;
+  bytes = append-nil a.outbox;
+}
 
 to : (a b c : HalfState) (es : List Event) → b ≡ c → CourseOf a c [] [] es → CourseOf a b [] [] es
 to a b c es e p = let P : HalfState → Type 0 = λ x. CourseOf a x [] [] es in subst P (sym e) p

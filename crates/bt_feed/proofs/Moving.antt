@@ -7,7 +7,7 @@ use Rattle.std.specs.Io.KnownBytes.{Consumes}
 use Rattle.bt_io.specs.Seen.{SourceSeen}
 use Rattle.bt_wire.specs.declared.item.Item.{Item}
 use Rattle.bt_wire.specs.declared.item.Refusal.{Refusal}
-use Rattle.bt_feed.specs.Stages.{start_of, number_of, limit_of, is_closed, IsItem, stage_after, Comes, stopped}
+use Rattle.bt_feed.specs.Stages.{start_of, number_of, limit_of, is_closed, IsItem, stage_after, Spells, Comes, stopped}
 use Rattle.bt_feed.specs.Feeds.{FeedState, taken, pushed}
 use Rattle.bt_feed.specs.Answers.{IsAnswer, after, finish_of, unless_refused}
 use Rattle.bt_feed.specs.Transcripts.{with_items}
@@ -63,8 +63,20 @@ given_end takes misses a b xs f (Err error.Turns) h p = p
 
 -- ---- bytes through a feed
 
+-- items that follow others
+pub spells_both : (t : Stage) (xs : List (ℕ × Item)) (a : List ℕ) (u : Stage) (held : List ℕ) (ys : List (ℕ × Item)) (b : List ℕ) (w : Stage) (rest : List ℕ)
+    → Spells t xs a u held → Spells u ys (held ++ b) w rest → Spells t (xs ++ ys) (a ++ b) w rest
+spells_both t [] a u held ys b w rest p q =
+    let P : Stage → Type 0 = λ s. Spells s ys (a ++ b) w rest in
+    let Q : List ℕ → Type 0 = λ l. Spells u ys (l ++ b) w rest in
+    subst P p.0 (subst Q (sym p.1) q)
+spells_both t (x ∷ xs) a u held ys b w rest p q =
+    let later = p.1.1 in
+    let parts : a ++ b ≡ p.1.0 ++ (later ++ b) = ap (λ (l : List ℕ). l ++ b) p.1.2 ∙ append_assoc p.1.0 later b in
+    (p.0, (p.1.0, later ++ b, parts, p.1.3, spells_both (stage_after t (length p.1.0) x.1) xs later u held ys b w rest p.1.4 q))
+
 pub fed_none : (f : FeedState) → IsFed f [] [] f
-fed_none f = record { comes = λ later v k. k }
+fed_none f = record { comes = λ later v k. k; spells = (refl, append-nil f.held) }
 
 pub fed_both : (f m g : FeedState) (a b : List ℕ) (xs ys : List (ℕ × Item)) → IsFed f a xs m → IsFed m b ys g → IsFed f (a ++ b) (xs ++ ys) g
 fed_both f m g a b xs ys p q = record {
@@ -72,6 +84,9 @@ fed_both f m g a b xs ys p q = record {
       let P : List ℕ → Type 0 = λ bytes. Comes f.stage (f.held ++ bytes) (with_items (xs ++ ys) v) in
       let Q : List (ℕ × Item) → Type 0 = λ zs. Comes f.stage (f.held ++ (a ++ (b ++ later))) (record v { items = zs }) in
       subst P (sym (append_assoc a b later)) (subst Q (sym (append_assoc xs ys v.items)) (p.comes (b ++ later) (with_items ys v) (q.comes later v k)));
+  spells =
+      let P : List ℕ → Type 0 = λ l. Spells f.stage (xs ++ ys) l g.stage g.held in
+      subst P (append_assoc f.held a b) (spells_both f.stage xs (f.held ++ a) m.stage m.held ys b g.stage g.held p.spells q.spells);
 }
 
 -- bytes alone went in
@@ -81,20 +96,24 @@ fed_on f m g a b xs p q =
     subst P (append-nil xs) (fed_both f m g a b xs [] p q)
 
 -- a push moves bytes alone
-fed_push : (f p : FeedState) (rest : List ℕ) (n : ℕ) → n ≡ taken f rest → p ≡ pushed f rest → IsFed f (take n rest) [] p
+pub fed_push : (f p : FeedState) (rest : List ℕ) (n : ℕ) → n ≡ taken f rest → p ≡ pushed f rest → IsFed f (take n rest) [] p
 fed_push f p rest n count is =
     let P : FeedState → Type 0 = λ g. IsFed f (take n rest) [] g in
     let Q : ℕ → Type 0 = λ k. IsFed f (take k rest) [] (pushed f rest) in
     subst P (sym is) (subst Q (sym count) (record {
       comes = λ later v k. let R : List ℕ → Type 0 = λ b. Comes f.stage b v in subst R (append_assoc f.held (take (taken f rest) rest) later) k;
+      spells = (refl, refl);
     }))
 
 -- a taken item goes, with its bytes
-fed_take : (p g : FeedState) (item : Item) → limit_of p.stage ≤ 1048576 → IsItem p.stage p.held item → g ≡ after p (Ok (Some item))
+pub fed_take : (p g : FeedState) (item : Item) → limit_of p.stage ≤ 1048576 → IsItem p.stage p.held item → g ≡ after p (Ok (Some item))
     → IsFed p [] ((start_of p.stage, item) ∷ []) g
 fed_take p g item le is after_is =
     let P : FeedState → Type 0 = λ s. IsFed p [] ((start_of p.stage, item) ∷ []) s in
-    subst P (sym after_is) (record { comes = λ later v k. item_comes p.stage p.held later item v (omega arith) is k })
+    subst P (sym after_is) (record {
+      comes = λ later v k. item_comes p.stage p.held later item v (omega arith) is k;
+      spells = (refl, (p.held, [], refl, is, (refl, refl)));
+    })
 
 -- ---- a piece
 
@@ -142,7 +161,7 @@ fed_refused {f} {s} {p} {g} {piece} {rest} {at} {n} {xs} {answer} {r} m h e a af
     let P : Result (Option Item) Refusal → Type 0 = λ x. IsAnswer p x in
     let S : FeedState → Type 0 = λ x. IsFed f (take (at + n) piece) xs x × IsAnswer x (Err r) in
     let before = fed_front f s p piece rest at n xs m h in
-    subst S (sym (after_is ∙ ap (after p) e)) (record { comes = before.comes }, subst P e a)
+    subst S (sym (after_is ∙ ap (after p) e)) (record { comes = before.comes; spells = before.spells }, subst P e a)
 
 -- ---- the feed's limit stays
 

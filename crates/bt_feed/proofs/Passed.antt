@@ -1,9 +1,9 @@
 -- The outcome of messages that are handed on where they lie.
-use Rattle.std.proofs.Common.{◌≡◌, ℕ, ◌+◌, ◌-◌, ◌^◌, ◌≤◌, ◌<◌, List, [], ◌∷◌, ◌++◌, length, take, drop, Option, None, Result, Ok, Err, sym, ap, subst, ◌∙◌}
+use Rattle.std.proofs.Common.{◌≡◌, ℕ, ◌+◌, ◌-◌, ◌^◌, ◌≤◌, ◌<◌, List, [], ◌∷◌, ◌++◌, length, take, drop, Option, None, Result, Ok, Err, sym, ap, subst, ◌∙◌, refl}
 use Rattle.std.proofs.Common.{arith}
 use Rattle.std.specs.Prelude.{IfSome, MatchResult}
 use Rattle.std.specs.List.{slice_range}
-use Rattle.std.proofs.lemmas.List.{length-take-le}
+use Rattle.std.proofs.lemmas.List.{append-nil, length-take-le}
 use Rattle.bt_wire.specs.declared.context.Context.{Context}
 use Rattle.bt_wire.specs.declared.context.Order.{Order}
 use Rattle.bt_wire.specs.declared.item.Item.{Item}
@@ -16,7 +16,7 @@ use Rattle.bt_wire.specs.Messages.{order_after}
 use Rattle.bt_feed.specs.declared.stage.Stage.{Stage}
 use Rattle.bt_feed.specs.declared.stage.Stage.TheVariants as stage
 use Rattle.bt_feed.specs.declared.progress.Progress.{Progress}
-use Rattle.bt_feed.specs.Stages.{IsNumbered, start_of, number_of, limit_of, capacity_of, IsItem, Comes}
+use Rattle.bt_feed.specs.Stages.{IsNumbered, start_of, number_of, limit_of, capacity_of, IsItem, Spells, Comes}
 use Rattle.bt_feed.specs.Feeds.{FeedState, waiting, held_of, state_of}
 use Rattle.bt_feed.specs.Answers.{IsAnswer}
 use Rattle.bt_feed.specs.Progress.{IsPartial, HasWindow, IsProgress}
@@ -39,6 +39,9 @@ passed_one c o s n k rest m lt le within h =
       comes = λ later v q.
           let P : ℕ → Type 0 = λ size. Comes (stage.Message c (order_after o m) (s + size) (n + 1)) later v in
           item_comes (stage.Message c o s n) (take k rest) later (items.Message m) v (omega (arith, le)) item (subst P (sym (length-take-le k rest within)) q);
+      spells =
+          let R : ℕ → Type 0 = λ size. stage.Message c (order_after o m) (s + k) (n + 1) ≡ stage.Message c (order_after o m) (s + size) (n + 1) in
+          (refl, (take k rest, [], sym (append-nil (take k rest)), item, (subst R (sym (length-take-le k rest within)) refl, refl)));
     }
 
 pub front_range : (rest window : List ℕ) (k : ℕ) → window ≡ slice_range rest 0 k → window ≡ take k rest
@@ -105,7 +108,7 @@ passed_none c o s n piece =
     let from = waiting (stage.Message c o s n) in
     let P : ℕ → Type 0 = λ start. IsFed from [] [] (waiting (stage.Message c o start (n + 0))) in
     let Q : ℕ → Type 0 = λ number. IsFed from [] [] (waiting (stage.Message c o s number)) in
-    subst P (omega arith) (subst Q (omega arith) (record { comes = λ later v q. q }))
+    subst P (omega arith) (subst Q (omega arith) (record { comes = λ later v q. q; spells = (refl, refl) }))
 
 -- ---- a feed that messages were handed on from
 
@@ -117,6 +120,11 @@ fed_waiting p q buffer bytes t xs e none none' fed = record {
       let Q : List ℕ → Type 0 = λ b. Comes p.stage (b ++ (bytes ++ later)) (with_items xs v) in
       let R : Stage → Type 0 = λ u. Comes u (bytes ++ later) (with_items xs v) in
       subst Q (sym none) (subst R (sym e) (fed.comes later v (subst P none' k)));
+  spells =
+      let P : List ℕ → Type 0 = λ b. Spells p.stage xs (held_of p buffer ++ bytes) q.stage b in
+      let Q : List ℕ → Type 0 = λ b. Spells p.stage xs (b ++ bytes) q.stage [] in
+      let R : Stage → Type 0 = λ u. Spells u xs bytes q.stage [] in
+      subst P (sym none') (subst Q (sym none) (subst R (sym e) fed.spells));
 }
 
 not_wanted : (c : Context) (o : Order) (n : ℕ) → header_of c o [] ≡ headers.Window n → ⊥

@@ -12,7 +12,7 @@ use Rattle.bt_feed.specs.declared.pumping.PumpError.{PumpError}
 use Rattle.bt_feed.specs.declared.pumping.PumpError.TheVariants as error
 use Rattle.bt_feed.specs.declared.sink.SinkFault.{SinkFault}
 use Rattle.bt_feed.specs.declared.view.Finish.TheVariants as finish
-use Rattle.bt_feed.specs.Stages.{number_of, is_closed, Comes}
+use Rattle.bt_feed.specs.Stages.{number_of, is_closed, Spells, Comes}
 use Rattle.bt_io.specs.Seen.{SourceSeen}
 use Rattle.bt_io.specs.declared.failed.Failed.{Failed}
 use Rattle.bt_feed.specs.Feeds.{FeedState, with_bytes}
@@ -43,9 +43,11 @@ IsGiven takes misses old given new (Err (error.Sink e)) = IsMissed takes misses 
 
 -- ---- bytes through a feed
 
--- these bytes went into the feed, which gave these items: after them, what follows has the same outcome
+-- these bytes went into the feed, which gave these items: they are spelled by what was held and the bytes, but for what is held now; and after
+-- them, what follows has the same outcome
 pub record IsFed (f : FeedState) (bytes : List ℕ) (xs : List (ℕ × Item)) (g : FeedState) : Type 0 where
   pub comes : (later : List ℕ) (v : Outcome) → Comes g.stage (g.held ++ later) v → Comes f.stage (f.held ++ (bytes ++ later)) (with_items xs v)
+  pub spells : Spells f.stage xs (f.held ++ bytes) g.stage g.held
 
 -- what was read has the outcome v, and its items are these
 pub record IsPumped (f : FeedState) (bytes lost : List ℕ) (xs : List (ℕ × Item)) (g : FeedState) (v : Outcome) : Type 0 where

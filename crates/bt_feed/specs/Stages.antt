@@ -1,5 +1,6 @@
 -- What the bytes of one item show: the handshake, or a message of a given order, start and number.
-use Rattle.std.specs.Prelude.{◌≡◌, ℕ, ◌+◌, ◌≤◌, Bool, ◌||◌, List, [], length, Option, Some, None, is_some, nat_le, max}
+use Rattle.std.specs.Prelude.{◌≡◌, ℕ, ◌+◌, ◌≤◌, Bool, ◌||◌, List, [], ◌∷◌, ◌++◌, length, Option, Some, None, is_some, nat_le, max}
+use Rattle.bt_ext.specs.declared.ids.Rules.{Rules}
 use Rattle.bt_wire.specs.declared.context.Order.{Order}
 use Rattle.bt_wire.specs.declared.context.Order.TheVariants.{Fresh}
 use Rattle.bt_wire.specs.declared.fault.Refused.{Refused}
@@ -40,6 +41,11 @@ limit_of (stage.Message c o s n) = c.limit
 abbrev pub capacity_of : Stage → ℕ
 capacity_of t = max 68 (limit_of t + 4)
 
+-- the same, judged by these rules
+abbrev pub with_rules : Rules → Stage → Stage
+with_rules rules (stage.Handshake own) = stage.Handshake (record own { rules = rules })
+with_rules rules (stage.Message c o s n) = stage.Message (record c { rules = rules }) o s n
+
 -- ---- faults, and items
 
 -- the fault that is judged before all bytes of the item are there
@@ -76,6 +82,12 @@ stage_after (stage.Handshake own) size (items.Handshake h) = stage.Message (nego
 stage_after (stage.Message c o s n) size (items.Message m) = stage.Message c (order_after o m) (s + size) (n + 1)
 stage_after (stage.Handshake own) size (items.Message m) = stage.Handshake own
 stage_after (stage.Message c o s n) size (items.Handshake h) = stage.Message c o s n
+
+-- From t on the bytes are the spellings of these items, each at its offset; then u is awaited, and the rest is left.
+abbrev pub Spells : Stage → List (ℕ × Item) → List ℕ → Stage → List ℕ → Type 0
+Spells t [] b u rest = (u ≡ t) × (b ≡ rest)
+Spells t (x ∷ xs) b u rest =
+    (x.0 ≡ start_of t) × ((w : List ℕ) × (later : List ℕ) × (b ≡ w ++ later) × IsItem t w x.1 × Spells (stage_after t (length w) x.1) xs later u rest)
 
 -- the outcome of the bytes from here on
 abbrev pub Comes : Stage → List ℕ → Outcome → Type 0

@@ -7,6 +7,7 @@ use crate::progress::Progress;
 use crate::sink::{Sink, SinkFault};
 use crate::stage::{END, Stage};
 use crate::view::{Finish, TakeError, View, dict_len_of};
+use bt_ext::Rules;
 use bt_io::{Failed, Source};
 use bt_wire::{Context, Order, Own, Refusal};
 use std::alloc::{AllocError, Allocator, Global};
@@ -70,8 +71,8 @@ impl<A: Allocator> Model for Feed<A> {
     ghost invariant = { IsSound };
 }
 
-ghost use Rattle.bt_feed.specs.Stages.{limit_of, start_of, number_of, capacity_of, is_closed, IsItem, stage_after};
-ghost use Rattle.bt_feed.specs.Feeds.{taken, pushed};
+ghost use Rattle.bt_feed.specs.Stages.{limit_of, start_of, number_of, capacity_of, with_rules, is_closed, IsItem, stage_after};
+ghost use Rattle.bt_feed.specs.Feeds.{taken, pushed, waiting};
 ghost use Rattle.bt_wire.specs.declared.item.Item.{Item};
 ghost use Rattle.bt_io.specs.Counts.{Grew, one_more, counted, is_end};
 ghost use Rattle.bt_feed.specs.Pumps.{IsHanded, IsFed, IsRead};
@@ -131,6 +132,23 @@ impl<A: Allocator> Feed<A> {
                 number: 1,
             }),
             buffer: Buffer::with_capacity(alloc, (context.limit as usize + 4).max(68))?,
+            is_direct: false,
+        })
+    }
+
+    /// Makes a parser of the same stream by these rules, from the start of the current item on.
+    ///
+    /// It has none of the item's bytes: they are to be pushed anew. As many bytes are reserved as for this parser.
+    ///
+    /// # Errors
+    /// `AllocError` when out of memory.
+    pub fn by_rules<B: Allocator>(&self, alloc: B, rules: Rules) -> Result<Feed<B>, AllocError>
+        ensures { IfOk result (λ feed. feed ≡ waiting (with_rules rules self.now.stage)) }
+    {
+        let stage = self.progress.stage.by_rules(rules);
+        Ok(Feed {
+            buffer: Buffer::with_capacity(alloc, stage.capacity())?,
+            progress: Progress::new(stage),
             is_direct: false,
         })
     }

@@ -1,12 +1,13 @@
 //! The item that a feed awaits, and what its bytes say about it.
 ghost use Rattle.std.specs.Prelude.{◌≡◌, ◌+◌, ◌<◌, ◌≤◌, ◌^◌, length};
-ghost use Rattle.bt_feed.specs.Stages.{start_of, number_of, limit_of, refusal_of, stage_after};
+ghost use Rattle.bt_feed.specs.Stages.{start_of, number_of, limit_of, capacity_of, with_rules, refusal_of, stage_after};
 ghost use Rattle.bt_feed.specs.Views.{item_of};
 ghost use Rattle.bt_feed.specs.Answers.{IsFound, IsEarly};
 ghost use Rattle.bt_feed.specs.Judged.{WasItem, IsItemOf};
 ghost use Rattle.bt_feed.specs.Progress.{IsPartial, HasWindow, IsGoal, IsStart};
 
 use crate::view::View;
+use bt_ext::Rules;
 use bt_wire::{
     Context, Front, Header, Opening, Order, Own, Reason, Refusal, Refused, handshake_judged,
     judge_handshake, judge_header, negotiate, next_of_view, read_front, read_opening, view_judged,
@@ -73,6 +74,37 @@ impl Stage {
             Stage::Handshake(_) => 0,
             Stage::Message { start, .. } => *start,
         }
+    }
+
+    /// Returns the same, judged by these rules.
+    pub(crate) fn by_rules(&self, rules: Rules) -> Stage
+        ensures { result ≡ with_rules rules self.now }
+    {
+        match self {
+            Stage::Handshake(own) => Stage::Handshake(Own { rules, ..*own }),
+            Stage::Message {
+                context,
+                order,
+                start,
+                number,
+            } => Stage::Message {
+                context: Context { rules, ..*context },
+                order: *order,
+                start: *start,
+                number: *number,
+            },
+        }
+    }
+
+    /// Returns how many bytes an item may have.
+    pub(crate) fn capacity(&self) -> usize
+        ensures { result ≡ capacity_of self.now }
+    {
+        let limit = match self {
+            Stage::Handshake(own) => own.limit,
+            Stage::Message { context, .. } => context.limit,
+        };
+        (limit as usize + 4).max(68)
     }
 
     /// Returns the refusal for a fault of the item.

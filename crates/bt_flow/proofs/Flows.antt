@@ -81,10 +81,10 @@ late_same out o at bytes (Some s') e = λ l x. absurd (let z : true ≡ false = 
 -- one that isn't counted
 pub takes_quiet : (g : Given) (flow : Flow) (given : List ℕ) (flow' : Flow) (at : ℕ) → flow'.stream ≡ flow.stream → flow'.noted ≡ flow.noted
     → HearsMore flow.half (Took (sent_at g at)) flow'.half
-    → counts at (length g.payload.now) ≡ false → FlowTakes g flow given flow' given
+    → counts at (length g.payload.now) ≡ false → FlowTakes g flow given flow' (given ++ [])
 takes_quiet g flow given flow' at s m h n = record {
   more = [];
-  is = sym (append-nil given);
+  is = refl;
   none = λ l. (refl, ap is_lost_stream s ∙ l);
   taken = λ heard segs out f. (
       let e : segs ≡ with_segment segs at g.payload.now = ap (λ b. if b then segs ++ record { place = at; bytes = g.payload.now } ∷ [] else segs) (sym n) in
@@ -103,10 +103,8 @@ takes_quiet g flow given flow' at s m h n = record {
       ));
 }
 
-record TakesBytes (at : ℕ) (bytes : List ℕ) (sent : Sent) (half : Half) (o : Option Stream) (given : List ℕ) (o' : Option Stream) (given' : List ℕ)
+record TakesBytes (at : ℕ) (bytes : List ℕ) (sent : Sent) (half : Half) (o : Option Stream) (more : List ℕ) (o' : Option Stream)
     (n n' : Option Noted) : Type 0 where
-  more : List ℕ
-  is : given' ≡ given ++ more
   none : is_lost_stream o ≡ true → (more ≡ []) × (is_lost_stream o' ≡ true)
   taken : (heard : List Heard) (segs : List Segment) (out : List ℕ) → IsStreamFor heard segs out o → IsHalf (heard ++ Took sent ∷ []) half
       → IsStreamFor (heard ++ Took sent ∷ []) (segs ++ record { place = at; bytes = bytes } ∷ []) (out ++ more) o'
@@ -115,17 +113,15 @@ record TakesBytes (at : ℕ) (bytes : List ℕ) (sent : Sent) (half : Half) (o :
   counted : (heard : List Heard) (segs : List Segment) (out : List ℕ) → IsStreamFor heard segs out o → IsCounted segs out o at bytes o'
   late : (heard : List Heard) (segs : List Segment) (out : List ℕ) → IsStreamFor heard segs out o → GivesUpLate out o at bytes o'
 
-takes_bytes : (at : ℕ) (bytes : List ℕ) (sent : Sent) (flow : Flow) (o o1 : Option Stream) (given : List ℕ) (o2 : Option Stream) (given' : List ℕ)
+takes_bytes : (at : ℕ) (bytes : List ℕ) (sent : Sent) (flow : Flow) (o o1 : Option Stream) (more : List ℕ) (o2 : Option Stream)
     (n n' : Option Noted)
-    → has_bytes (Took sent) ≡ true → sent.place ≡ at → BeginsAt at flow o o1 → StreamsOnly at bytes o1 given o2 given'
-    → NotesIn at (at + length bytes) o2 n n' → TakesBytes at bytes sent flow.half o given o2 given' n n'
-takes_bytes at bytes sent flow None None given o2 given' n n' y p b t w = absurd b
-takes_bytes at bytes sent flow (Some s) None given o2 given' n n' y p b t w = absurd b
-takes_bytes at bytes sent flow None (Some s1) given None given' n n' y p b t w = absurd t
-takes_bytes at bytes sent flow (Some s) (Some s1) given None given' n n' y p b t w = absurd t
-takes_bytes at bytes sent flow (Some s) (Some s1) given (Some s2) given' n n' y p b t w = record {
-  more = t.more;
-  is = t.is;
+    → has_bytes (Took sent) ≡ true → sent.place ≡ at → BeginsAt at flow o o1 → StreamsOnly at bytes o1 more o2
+    → NotesIn at (at + length bytes) o2 n n' → TakesBytes at bytes sent flow.half o more o2 n n'
+takes_bytes at bytes sent flow None None more o2 n n' y p b t w = absurd b
+takes_bytes at bytes sent flow (Some s) None more o2 n n' y p b t w = absurd b
+takes_bytes at bytes sent flow None (Some s1) more None n n' y p b t w = absurd t
+takes_bytes at bytes sent flow (Some s) (Some s1) more None n n' y p b t w = absurd t
+takes_bytes at bytes sent flow (Some s) (Some s1) more (Some s2) n n' y p b t w = record {
   none = λ l. (let l1 : s1.is_lost ≡ true = ap (λ x. x.is_lost) b ∙ l in (t.none l1, t.final l1));
   taken = λ heard segs out i h. (
       let e : s2.base ≡ s.base = t.base ∙ ap (λ x. x.base) b in (
@@ -136,7 +132,7 @@ takes_bytes at bytes sent flow (Some s) (Some s1) given (Some s2) given' n n' y 
   noted = λ heard segs out i a. (
       let e : s2.base ≡ s.base = t.base ∙ ap (λ x. x.base) b in
       let j = t.taken segs out (subst (λ x. IsStreamOf segs out x) (sym b) i.1) in
-      let l : next_of s.window ≤ next_of s2.window = omega (arith, e, i.1.next_is, j.next_is, length-append out t.more) in
+      let l : next_of s.window ≤ next_of s2.window = omega (arith, e, i.1.next_is, j.next_is, length-append out more) in
       noted_more segs at bytes (next_of s.window) (next_of s2.window) n n' l a w);
   counted = λ heard segs out i _ l. (
       let i1 : IsStreamOf segs out s1 = subst (λ x. IsStreamOf segs out x) (sym b) i.1 in
@@ -146,9 +142,7 @@ takes_bytes at bytes sent flow (Some s) (Some s1) given (Some s2) given' n n' y 
       let i1 : IsStreamOf segs out s1 = subst (λ x. IsStreamOf segs out x) (sym b) i.1 in
       omega (arith, t.lost (ap (λ x. x.is_lost) b ∙ l) x, i1.next_is, t.base));
 }
-takes_bytes at bytes sent flow None (Some s1) given (Some s2) given' n n' y p b t w = record {
-  more = t.more;
-  is = t.is;
+takes_bytes at bytes sent flow None (Some s1) more (Some s2) n n' y p b t w = record {
   none = λ l. absurd (let e : false ≡ true = l in cc);
   taken = λ heard segs out i h. (
       let u = b.3 (heard ++ Took sent ∷ []) h in
@@ -171,7 +165,7 @@ takes_bytes at bytes sent flow None (Some s1) given (Some s2) given' n n' y p b 
       ));
   noted = λ heard segs out i a. (
       let j = t.taken [] [] b.0 in
-      let l : next_of s1.window ≤ next_of s2.window = omega (arith, t.base, b.0.next_is, j.next_is, length-append [] t.more) in
+      let l : next_of s1.window ≤ next_of s2.window = omega (arith, t.base, b.0.next_is, j.next_is, length-append [] more) in
       let z : AreNoted [] (next_of s1.window) None = λ full k h. refl in
       let y : AreNoted segs (next_of s1.window) n = subst (λ x. AreNoted x (next_of s1.window) n) (sym i.1) (subst (λ x. AreNoted []
       (next_of s1.window) x) (sym a) z) in
@@ -185,17 +179,17 @@ takes_bytes at bytes sent flow None (Some s1) given (Some s2) given' n n' y p b 
       omega (arith, t.lost b.1 x, i1.next_is, t.base));
 }
 
-pub takes_counted : (g : Given) (flow : Flow) (given : List ℕ) (flow0 flow1 flow2 flow3 : Flow) (given' : List ℕ) (at : ℕ)
+pub takes_counted : (g : Given) (flow : Flow) (given more : List ℕ) (flow0 flow1 flow2 flow3 : Flow) (at : ℕ)
     → flow3.half ≡ flow2.half → flow3.stream ≡ flow2.stream → NotesIn at (at + length g.payload.now) flow2.stream flow2.noted flow3.noted
     → flow2.noted ≡ flow1.noted → flow1.noted ≡ flow.noted → flow0.stream ≡ flow.stream → HearsMore flow.half (Took (sent_at g at)) flow0.half
     → counts at (length g.payload.now) ≡ true → BeginsAt at flow0 flow0.stream flow1.stream → flow1.half ≡ flow0.half → flow2.half ≡ flow1.half
-    → StreamsOnly at g.payload.now flow1.stream given flow2.stream given' → FlowTakes g flow given flow3 given'
-takes_counted g flow given flow0 flow1 flow2 flow3 given' at u v w m1 m0 s h y b e f t =
-    let r : TakesBytes at g.payload.now (sent_at g at) flow0.half flow0.stream given flow2.stream given' flow2.noted flow3.noted
-    = takes_bytes at g.payload.now (sent_at g at) flow0 flow0.stream flow1.stream given flow2.stream given' flow2.noted flow3.noted y refl b t w in
+    → StreamsOnly at g.payload.now flow1.stream more flow2.stream → FlowTakes g flow given flow3 (given ++ more)
+takes_counted g flow given more flow0 flow1 flow2 flow3 at u v w m1 m0 s h y b e f t =
+    let r : TakesBytes at g.payload.now (sent_at g at) flow0.half flow0.stream more flow2.stream flow2.noted flow3.noted
+    = takes_bytes at g.payload.now (sent_at g at) flow0 flow0.stream flow1.stream more flow2.stream flow2.noted flow3.noted y refl b t w in
     record {
-      more = r.more;
-      is = r.is;
+      more = more;
+      is = refl;
       none = λ l. (let x = r.none (ap is_lost_stream s ∙ l) in (x.0, ap is_lost_stream v ∙ x.1));
       taken = λ heard segs out i. (
           let now : IsHalf (heard ++ Took (sent_at g at) ∷ []) flow0.half = h heard i.half in
@@ -206,9 +200,9 @@ takes_counted g flow given flow0 flow1 flow2 flow3 given' at u v w m1 m0 s h y b
             at,
             record {
               half = subst (λ x. IsHalf (heard ++ Took (sent_at g at) ∷ []) x) (sym (u ∙ f ∙ e)) now;
-              stream = subst (λ x. IsStreamFor (heard ++ Took (sent_at g at) ∷ []) x (out ++ r.more) flow3.stream) k
+              stream = subst (λ x. IsStreamFor (heard ++ Took (sent_at g at) ∷ []) x (out ++ more) flow3.stream) k
                   (subst (λ o. IsStreamFor (heard ++ Took (sent_at g at) ∷ []) (segs ++ record { place = at; bytes = g.payload.now } ∷ [])
-                  (out ++ r.more) o) (sym v) one);
+                  (out ++ more) o) (sym v) one);
               noted = subst (λ x. AreNotedFor x flow3.stream flow3.noted) k (subst (λ o. AreNotedFor (segs ++ record {
                 place = at;
                 bytes
@@ -226,10 +220,10 @@ takes_counted g flow given flow0 flow1 flow2 flow3 given' at u v w m1 m0 s h y b
 
 -- one that is out of range
 pub takes_refused : (g : Given) (flow : Flow) (given : List ℕ) (flow' : Flow) → flow'.stream ≡ flow.stream → flow'.noted ≡ flow.noted → flow'.half ≡ flow.half
-    → IsOutOfRange flow.half ((g.sequence + (if g.syn then 1 else 0)) % 2 ^ 32) (length g.payload.now) g.length → FlowTakes g flow given flow' given
+    → IsOutOfRange flow.half ((g.sequence + (if g.syn then 1 else 0)) % 2 ^ 32) (length g.payload.now) g.length → FlowTakes g flow given flow' (given ++ [])
 takes_refused g flow given flow' s m h r = record {
   more = [];
-  is = sym (append-nil given);
+  is = refl;
   none = λ l. (refl, ap is_lost_stream s ∙ l);
   taken = λ heard segs out f. inr (
     r,

@@ -10,7 +10,7 @@ use Rattle.bt_tcp.specs.History.{IsHistory, differs, conflicts, kept}
 use Rattle.bt_tcp.proofs.Taken.{front_push}
 use Rattle.bt_flow.specs.declared.stream.Stream.{Stream}
 use Rattle.bt_flow.specs.Memory.{next_of, seen}
-use Rattle.bt_flow.specs.Views.{TakesIn}
+use Rattle.bt_flow.specs.Views.{TakesIn, AppendsAfter}
 use Rattle.bt_flow.specs.Streams.{IsStreamOf, Advances, StreamTakes, conflicts_with}
 
 kept_past : (base : ℕ) (out : List ℕ) (i : ℕ) → base + length out ≤ i → kept base out i ≡ None
@@ -29,14 +29,12 @@ conflicts_past base out at (b ∷ bytes) h =
     ∙ conflicts_past base out (at + 1) bytes h'
 
 -- A segment was taken.
-pub advance : (at : ℕ) (bytes : List ℕ) (s : Stream) (given : List ℕ) (s' : Stream) (given' part : List ℕ) → s'.base ≡ s.base
+pub advance : (at : ℕ) (bytes : List ℕ) (s : Stream) (more : List ℕ) (s' : Stream) → s'.base ≡ s.base
     → s'.conflicts ≡ s.conflicts → s.is_lost ≡ false → s'.is_lost ≡ false
-    → (t : TakesIn at bytes (next_of s.window) (seen s.window) given (next_of s'.window) (seen s'.window) given') → part ≡ t.more
-    → ((out : List ℕ) → next_of s.window ≡ s.base + length out → IsHistory s.history.items out → IsHistory s'.history.items (out ++ part))
-    → Advances at bytes s given s' given'
-advance at bytes s given s' given' part b c l l' t p h = record {
-  more = t.more;
-  is = t.is;
+    → TakesIn at bytes (next_of s.window) (seen s.window) more (next_of s'.window) (seen s'.window)
+    → ((out : List ℕ) → next_of s.window ≡ s.base + length out → IsHistory s.history.items out → IsHistory s'.history.items (out ++ more))
+    → Advances at bytes s more s'
+advance at bytes s more s' b c l l' t h = record {
   base = b;
   conflicts = c;
   lost = λ x. absurd (let e : true ≡ false = sym x ∙ l' in cc);
@@ -44,11 +42,11 @@ advance at bytes s given s' given' part b c l l' t p h = record {
       let one : Segment = record { place = at; bytes = bytes } in
       let both = t.taken segs s.base out (i.taken l) in
       record {
-        next_is = omega (arith, t.next_is, i.next_is, b, length-append out t.more);
-        front = subst (λ x. IsFront (segs ++ one ∷ []) x (out ++ t.more)) (sym b) both.0.front;
-        history = subst (λ x. IsHistory s'.history.items (out ++ x)) p (h out i.next_is i.history);
-        taken = λ _. subst (λ x. IsTaken (segs ++ one ∷ []) x (out ++ t.more) (next_of s'.window) (seen s'.window)) (sym b) both.0;
-        stream = λ _. subst (λ x. IsStream (segs ++ one ∷ []) x (out ++ t.more)) (sym b) both.1;
+        next_is = omega (arith, t.next_is, i.next_is, b, length-append out more);
+        front = subst (λ x. IsFront (segs ++ one ∷ []) x (out ++ more)) (sym b) both.0.front;
+        history = h out i.next_is i.history;
+        taken = λ _. subst (λ x. IsTaken (segs ++ one ∷ []) x (out ++ more) (next_of s'.window) (seen s'.window)) (sym b) both.0;
+        stream = λ _. subst (λ x. IsStream (segs ++ one ∷ []) x (out ++ more)) (sym b) both.1;
       });
 }
 
@@ -69,26 +67,25 @@ lost_one at bytes s s' b l n h segs out i =
       stream = λ x. absurd (let t : true ≡ false = sym l ∙ x in cc);
     }
 
-pub advance_lost : (at : ℕ) (bytes : List ℕ) (s : Stream) (given : List ℕ) (s' : Stream) (given' : List ℕ) → s'.base ≡ s.base
-    → s'.conflicts ≡ s.conflicts → s'.is_lost ≡ true
-    → next_of s'.window ≡ next_of s.window → s'.history.items ≡ s.history.items → given' ≡ given → next_of s.window + 16777216 < at + length bytes
-    → Advances at bytes s given s' given'
-advance_lost at bytes s given s' given' b c l n h g p = record {
-  more = [];
-  is = g ∙ sym (append-nil given);
+-- Nothing more is ready.
+pub nothing_after : (later : List ℕ) (IsMore : List ℕ → Type 0) → IsMore [] → AppendsAfter [] later later IsMore
+nothing_after later IsMore m = record { rest = []; is = sym (append-nil later); more = m }
+
+pub advance_lost : (at : ℕ) (bytes : List ℕ) (s s' : Stream) → s'.base ≡ s.base → s'.conflicts ≡ s.conflicts → s'.is_lost ≡ true
+    → next_of s'.window ≡ next_of s.window → s'.history.items ≡ s.history.items → next_of s.window + 15728640 < at + length bytes
+    → Advances at bytes s [] s'
+advance_lost at bytes s s' b c l n h p = record {
   base = b;
   conflicts = c;
   lost = λ _. p;
   taken = lost_one at bytes s s' b l n h;
 }
 
-pub takes_lost : (at : ℕ) (bytes : List ℕ) (s : Stream) (given : List ℕ) (s' : Stream) → s'.base ≡ s.base → s.is_lost ≡ true → s'.is_lost ≡ true
+pub takes_lost : (at : ℕ) (bytes : List ℕ) (s s' : Stream) → s'.base ≡ s.base → s.is_lost ≡ true → s'.is_lost ≡ true
     → next_of s'.window ≡ next_of s.window → s'.history.items ≡ s.history.items
     → ((segs : List Segment) (out : List ℕ) → IsStreamOf segs out s → s'.conflicts ≡ min (2 ^ 64 - 1) (s.conflicts + conflicts_with out s at bytes))
-    → StreamTakes at bytes s given s' given
-takes_lost at bytes s given s' b l l' n h counted = record {
-  more = [];
-  is = sym (append-nil given);
+    → StreamTakes at bytes s [] s'
+takes_lost at bytes s s' b l l' n h counted = record {
   base = b;
   none = λ _. refl;
   final = λ _. l';
@@ -98,19 +95,17 @@ takes_lost at bytes s given s' b l l' n h counted = record {
 }
 
 -- The conflicts were counted, and then the segment was taken.
-pub takes_on : (at : ℕ) (bytes : List ℕ) (s : Stream) (given : List ℕ) (s1 s' : Stream) (given' : List ℕ) → s1.base ≡ s.base → s.is_lost ≡ false
+pub takes_on : (at : ℕ) (bytes : List ℕ) (s : Stream) (more : List ℕ) (s1 s' : Stream) → s1.base ≡ s.base → s.is_lost ≡ false
     → next_of s1.window ≡ next_of s.window
-    → Advances at bytes s1 given s' given'
+    → Advances at bytes s1 more s'
     → ((segs : List Segment) (out : List ℕ) → IsStreamOf segs out s → IsStreamOf segs out s1)
     → ((segs : List Segment) (out : List ℕ) → IsStreamOf segs out s → s1.conflicts ≡ min (2 ^ 64 - 1) (s.conflicts + conflicts_with out s at bytes))
-    → StreamTakes at bytes s given s' given'
-takes_on at bytes s given s1 s' given' b l n a keep counted = record {
-  more = a.more;
-  is = a.is;
+    → StreamTakes at bytes s more s'
+takes_on at bytes s more s1 s' b l n a keep counted = record {
   base = a.base ∙ b;
   none = λ x. absurd (let t : true ≡ false = sym x ∙ l in cc);
   final = λ x. absurd (let t : true ≡ false = sym x ∙ l in cc);
-  lost = λ _ x. subst (λ k. k + 16777216 < at + length bytes) n (a.lost x);
+  lost = λ _ x. subst (λ k. k + 15728640 < at + length bytes) n (a.lost x);
   counted = λ segs out i. a.conflicts ∙ counted segs out i;
   taken = λ segs out i. a.taken segs out (keep segs out i);
 }

@@ -2,7 +2,7 @@
 use Rattle.std.proofs.Common.{◌≡◌, ℕ, ◌+◌, ◌≤◌, false, List, length, sym, ap, subst, ◌∙◌, arith}
 use Rattle.std.specs.Prelude.{Option, Some, None, unwrap_or}
 use Rattle.bt_tcp.specs.Segments.{Segment}
-use Rattle.bt_tcp.specs.Heard.{Heard, IsBase}
+use Rattle.bt_tcp.specs.Heard.{Heard, IsStart}
 use Rattle.bt_tcp.specs.Covered.{is_covered}
 use Rattle.bt_flow.specs.declared.stream.Stream.{Stream}
 use Rattle.bt_flow.specs.declared.noted.Noted.{Noted}
@@ -13,8 +13,8 @@ use Rattle.bt_flow.specs.Flows.{IsBaseNow, IsPlaceNow, IsStreamFor, AreNotedFor,
 pub base_there : (heard : List Heard) (out : List ℕ) (o : Option Stream) (b : Option ℕ) (next x : ℕ) → IsPlaceNow heard out o (Some next)
     → IsBaseNow heard o b → x ≡ unwrap_or b next
     → IsBaseNow heard o (Some x)
-base_there heard out None None next x p i e = absurd (let z = sym i ∙ p.opening in cc)
-base_there heard out None (Some k) next x p i e = subst (λ y. IsBase heard (Some y)) (sym e) i
+base_there heard out None None next x p i e = subst (λ y. IsStart heard (Some y)) (sym e) p
+base_there heard out None (Some k) next x p i e = subst (λ y. IsStart heard (Some y)) (sym e) i
 base_there heard out (Some s) b next x p i e = (ap Some (e ∙ ap (λ o. unwrap_or o next) i.0), i.1)
 
 pub noted_from : (heard : List Heard) (segs : List Segment) (out : List ℕ) (o : Option Stream) (n : Option Noted) (next : ℕ)

@@ -19,13 +19,13 @@ places_at_once at bytes n a capacity from len n' a' p t =
 -- a put after room was made
 pub places_after : (at : ℕ) (bytes : List ℕ) (n : ℕ) (a : ℕ → Option ℕ) (n1 : ℕ) (a1 : ℕ → Option ℕ) (put : Put) (n2 : ℕ) (a2 : ℕ
     → Option ℕ) (capacity : ℕ) → n1 ≡ n
-    → (at + length bytes ≤ n + 16777216 → at + length bytes ≤ n1 + capacity)
+    → (at + length bytes ≤ n + 15728640 → at + length bytes ≤ n1 + capacity)
     → GoesOn n a n1 a1 → IsPutOf capacity at bytes n1 a1 put n2 a2 → TakesOneMore at bytes n1 a1 put n2 a2 → Places at bytes n a put n2 a2
 places_after at bytes n a n1 a1 (Taken from len) n2 a2 capacity e room goes p t =
     let l : length (take len (drop from bytes)) ≡ len = omega (arith, p.0, length-take len (drop from bytes), length-drop from bytes) in
     (p.0, omega (arith, e, p.1.next_is, l), λ segs base out h. t segs base out (goes segs base out h))
 places_after at bytes n a n1 a1 Full n2 a2 capacity e room goes p t =
-    (elim (cases_lt (n + 16777216) (at + length bytes)) [ inl l ↦ l | inr r ↦ absurd (omega (arith, room r, p.0)) ], omega (arith, e, p.1))
+    (elim (cases_lt (n + 15728640) (at + length bytes)) [ inl l ↦ l | inr r ↦ absurd (omega (arith, room r, p.0)) ], omega (arith, e, p.1))
 
 pub hands_none : (n : ℕ) (a : ℕ → Option ℕ) (given : List ℕ) → HandsSome n a given n a given
 hands_none n a given = record {
@@ -55,18 +55,16 @@ hands_out n a given n1 a1 given1 n2 a2 part s e t ends z =
       stream = λ segs base out h. subst (λ x. IsStream segs base x) (append_assoc out s.more part) (ends segs base (out ++ s.more) (s.taken segs base out h));
     }
 
--- A segment was put, its fresh bytes were appended, and then what is ready.
-pub takes_in : (at : ℕ) (bytes : List ℕ) (n : ℕ) (a : ℕ → Option ℕ) (given : List ℕ) (from len n1 : ℕ) (a1 : ℕ
-    → Option ℕ) (given1 : List ℕ) (n2 : ℕ) (a2 : ℕ → Option ℕ) (given2 : List ℕ)
-    → Places at bytes n a (Taken from len) n1 a1 → given1 ≡ given ++ take len (drop from bytes) → HandsOut n1 a1 given1 n2 a2 given2
-    → TakesIn at bytes n a given n2 a2 given2
-takes_in at bytes n a given from len n1 a1 given1 n2 a2 given2 p e o =
+-- A segment was put, and after its fresh bytes comes what is ready then.
+pub takes_in : (at : ℕ) (bytes : List ℕ) (n : ℕ) (a : ℕ → Option ℕ) (from len n1 : ℕ) (a1 : ℕ → Option ℕ) (later : List ℕ) (n2 : ℕ) (a2 : ℕ
+    → Option ℕ) (later' : List ℕ)
+    → Places at bytes n a (Taken from len) n1 a1 → (o : HandsOut n1 a1 later n2 a2 later')
+    → TakesIn at bytes n a (take len (drop from bytes) ++ o.some.more) n2 a2
+takes_in at bytes n a from len n1 a1 later n2 a2 later' p o =
     let s : Segment = record { place = at; bytes = bytes } in
     let fresh : List ℕ = take len (drop from bytes) in
     let l : length fresh ≡ len = omega (arith, p.0, length-take len (drop from bytes), length-drop from bytes) in
     record {
-      more = fresh ++ o.some.more;
-      is = o.some.is ∙ ap (λ x. x ++ o.some.more) e ∙ append_assoc given fresh o.some.more;
       next_is = omega (arith, p.1, o.some.next_is, l, length-append fresh o.some.more);
       taken = λ segs base out h. (
           let h1 = p.2 segs base out h in (
@@ -80,15 +78,13 @@ pub goes_same : (n : ℕ) (a : ℕ → Option ℕ) (n1 : ℕ) (a1 : ℕ → Opti
 goes_same n a n1 a1 e f segs base out h = subst (λ x. IsTaken segs base out x a1) (sym e) (taken_on segs base out n a a1 f h)
 
 -- The window is another one now, with the same bytes ahead.
-pub takes_in_same : (at : ℕ) (bytes : List ℕ) (n : ℕ) (a : ℕ → Option ℕ) (given : List ℕ) (n1 : ℕ) (a1 : ℕ → Option ℕ) (n2 : ℕ) (a2 : ℕ
-    → Option ℕ) (given' : List ℕ) → n2 ≡ n1 → ((k : ℕ) → a2 k ≡ a1 k) → TakesIn at bytes n a given n1 a1 given' → TakesIn at bytes n a given n2 a2 given'
-takes_in_same at bytes n a given n1 a1 n2 a2 given' e f t =
+pub takes_in_same : (at : ℕ) (bytes : List ℕ) (n : ℕ) (a : ℕ → Option ℕ) (more : List ℕ) (n1 : ℕ) (a1 : ℕ → Option ℕ) (n2 : ℕ) (a2 : ℕ
+    → Option ℕ) → n2 ≡ n1 → ((k : ℕ) → a2 k ≡ a1 k) → TakesIn at bytes n a more n1 a1 → TakesIn at bytes n a more n2 a2
+takes_in_same at bytes n a more n1 a1 n2 a2 e f t =
     let s : Segment = record { place = at; bytes = bytes } in
     record {
-      more = t.more;
-      is = t.is;
       next_is = e ∙ t.next_is;
       taken = λ segs base out h. (
           let both = t.taken segs base out h in
-          (goes_same n1 a1 n2 a2 e f (segs ++ s ∷ []) base (out ++ t.more) both.0, both.1));
+          (goes_same n1 a1 n2 a2 e f (segs ++ s ∷ []) base (out ++ more) both.0, both.1));
     }

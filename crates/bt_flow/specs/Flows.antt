@@ -4,7 +4,7 @@ use Rattle.bt_tcp.specs.Segments.{Segment, byte_at}
 use Rattle.bt_tcp.specs.History.{conflicts, first_known}
 use Rattle.bt_tcp.specs.Covered.{AreGaps, sent_end, no_gaps}
 use Rattle.bt_tcp.specs.declared.covered.Gaps.{Gaps}
-use Rattle.bt_tcp.specs.Heard.{Heard, Sent, Took, Acked, opening_of, high_of, fin_of, acked_of, sent_of, IsBase, IsAfterSyn}
+use Rattle.bt_tcp.specs.Heard.{Heard, Sent, Took, Acked, opening_of, high_of, fin_of, acked_of, sent_of, IsStart, IsAfterSyn}
 use Rattle.bt_tcp.specs.Halves.{IsHalf, IsOutOfRange}
 use Rattle.bt_flow.specs.declared.stream.Stream.{Stream}
 use Rattle.bt_flow.specs.declared.noted.Noted.{Noted}
@@ -14,6 +14,7 @@ use Rattle.bt_flow.specs.declared.flow.Flow.{Flow}
 use Rattle.bt_flow.specs.declared.flow.Given.{Given}
 use Rattle.bt_flow.specs.Counts.{counts, is_closed_at, from_base}
 use Rattle.bt_flow.specs.Streams.{IsStreamOf, StreamTakes}
+use Rattle.bt_flow.specs.Views.{AppendsAfter}
 
 abbrev pub has_bytes : Heard → Bool
 has_bytes (Took s) = counts s.place s.captured
@@ -81,10 +82,10 @@ IsCounted segs out o at bytes (Some s') =
     counts at (length bytes) ≡ true → is_lost_stream o ≡ false
     → s'.conflicts ≡ min (2 ^ 64 - 1) (conflicts_in o + conflicts (first_known segs s'.base (s'.base + length out)) at bytes)
 
--- A gap becomes final only if a segment ends more than 16 MiB past the next place.
+-- A gap becomes final only if a segment ends more than 15 MiB past the next place.
 abbrev pub GivesUpLate : List ℕ → Option Stream → ℕ → List ℕ → Option Stream → Type 0
 GivesUpLate out o at bytes None = Unit {0}
-GivesUpLate out o at bytes (Some s') = is_lost_stream o ≡ false → s'.is_lost ≡ true → s'.base + length out + 16777216 < at + length bytes
+GivesUpLate out o at bytes (Some s') = is_lost_stream o ≡ false → s'.is_lost ≡ true → s'.base + length out + 15728640 < at + length bytes
 
 -- The segment was taken at its place, or its place is out of range and nothing has changed.
 abbrev pub HasTaken : Given → List Heard → List Segment → List ℕ → Flow → List ℕ → Flow → Type 0
@@ -100,15 +101,19 @@ pub record FlowTakes (g : Given) (flow : Flow) (given : List ℕ) (flow' : Flow)
   pub none : IsLost flow → (more ≡ []) × IsLost flow'
   pub taken : (heard : List Heard) (segs : List Segment) (out : List ℕ) → IsFlow heard segs out flow → HasTaken g heard segs out flow more flow'
 
+-- The bytes that a segment makes ready are `fresh` and what was appended: with them after `given`, it is as above.
+abbrev pub FlowTakesNext : Given → Flow → List ℕ → List ℕ → Flow → List ℕ → Type 0
+FlowTakesNext g flow fresh later flow' later' = AppendsAfter fresh later later' (λ more. (given : List ℕ) → FlowTakes g flow given flow' (given ++ more))
+
 -- ---- what is told of it
 
 abbrev pub IsBaseNow : List Heard → Option Stream → Option ℕ → Type 0
-IsBaseNow heard None base = IsBase heard base
+IsBaseNow heard None base = IsStart heard base
 IsBaseNow heard (Some s) base = (base ≡ Some s.base) × IsBaseOf heard s.base
 
--- the next place: before the first captured byte the base, if that is known
+-- the next place: before the first captured byte the one where the stream may begin
 abbrev pub IsPlaceNow : List Heard → List ℕ → Option Stream → Option ℕ → Type 0
-IsPlaceNow heard out None place = IsBase heard place
+IsPlaceNow heard out None place = IsStart heard place
 IsPlaceNow heard out (Some s) place = place ≡ Some (s.base + length out)
 
 abbrev pub is_hole_at : List Heard → Option ℕ → Bool
@@ -155,12 +160,12 @@ BeginsAt at flow None (Some s) = IsStreamOf [] [] s × (s.is_lost ≡ false) × 
 abbrev pub Begins : ℕ → Flow → Flow → Type 0
 Begins at flow flow' = BeginsAt at flow flow.stream flow'.stream
 
-abbrev pub StreamsOnly : ℕ → List ℕ → Option Stream → List ℕ → Option Stream → List ℕ → Type 0
-StreamsOnly at bytes (Some s) given (Some s') given' = StreamTakes at bytes s given s' given'
-StreamsOnly at bytes _ given _ given' = ⊥
+abbrev pub StreamsOnly : ℕ → List ℕ → Option Stream → List ℕ → Option Stream → Type 0
+StreamsOnly at bytes (Some s) more (Some s') = StreamTakes at bytes s more s'
+StreamsOnly at bytes _ more _ = ⊥
 
-abbrev pub StreamOnly : ℕ → List ℕ → Flow → List ℕ → Flow → List ℕ → Type 0
-StreamOnly at bytes flow given flow' given' = StreamsOnly at bytes flow.stream given flow'.stream given'
+abbrev pub StreamOnly : ℕ → List ℕ → Flow → List ℕ → Flow → Type 0
+StreamOnly at bytes flow more flow' = StreamsOnly at bytes flow.stream more flow'.stream
 
 abbrev pub NotesIn : ℕ → ℕ → Option Stream → Option Noted → Option Noted → Type 0
 NotesIn at «end» None o o' = o' ≡ o

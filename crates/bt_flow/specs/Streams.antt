@@ -18,21 +18,17 @@ pub record IsStreamOf (segs : List Segment) (out : List ℕ) (s : Stream) : Type
 abbrev pub conflicts_with : List ℕ → Stream → ℕ → List ℕ → ℕ
 conflicts_with out s at bytes = conflicts (kept s.base out) at bytes + conflicts (held (next_of s.window) (seen s.window)) at bytes
 
--- A segment was taken, and what it makes ready was appended. Nothing is appended after a final gap, and one is final only past 16 MiB.
-pub record Advances (at : ℕ) (bytes : List ℕ) (s : Stream) (given : List ℕ) (s' : Stream) (given' : List ℕ) : Type 0 where
-  pub more : List ℕ
-  pub is : given' ≡ given ++ more
+-- A segment was taken, and makes these bytes ready. There are none after a final gap, and one is final only past 15 MiB.
+pub record Advances (at : ℕ) (bytes : List ℕ) (s : Stream) (more : List ℕ) (s' : Stream) : Type 0 where
   pub base : s'.base ≡ s.base
   pub conflicts : s'.conflicts ≡ s.conflicts
-  pub lost : s'.is_lost ≡ true → next_of s.window + 16777216 < at + length bytes
+  pub lost : s'.is_lost ≡ true → next_of s.window + 15728640 < at + length bytes
   pub taken : (segs : List Segment) (out : List ℕ) → IsStreamOf segs out s → IsStreamOf (segs ++ record { place = at; bytes = bytes } ∷ []) (out ++ more) s'
 
-pub record StreamTakes (at : ℕ) (bytes : List ℕ) (s : Stream) (given : List ℕ) (s' : Stream) (given' : List ℕ) : Type 0 where
-  pub more : List ℕ
-  pub is : given' ≡ given ++ more
+pub record StreamTakes (at : ℕ) (bytes : List ℕ) (s : Stream) (more : List ℕ) (s' : Stream) : Type 0 where
   pub base : s'.base ≡ s.base
   pub none : s.is_lost ≡ true → more ≡ []
   pub final : s.is_lost ≡ true → s'.is_lost ≡ true
-  pub lost : s.is_lost ≡ false → s'.is_lost ≡ true → next_of s.window + 16777216 < at + length bytes
+  pub lost : s.is_lost ≡ false → s'.is_lost ≡ true → next_of s.window + 15728640 < at + length bytes
   pub counted : (segs : List Segment) (out : List ℕ) → IsStreamOf segs out s → s'.conflicts ≡ min (2 ^ 64 - 1) (s.conflicts + conflicts_with out s at bytes)
   pub taken : (segs : List Segment) (out : List ℕ) → IsStreamOf segs out s → IsStreamOf (segs ++ record { place = at; bytes = bytes } ∷ []) (out ++ more) s'

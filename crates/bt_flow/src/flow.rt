@@ -1,5 +1,6 @@
 //! One direction of a captured TCP connection.
-ghost use Rattle.std.specs.Prelude.{◌≡◌, ℕ, ◌+◌, ◌<◌, ◌≤◌, ◌^◌, List, [], ◌∷◌, ◌++◌, length, IsSome, IsTrue, ◌↔◌, OnOk, OnErr};
+ghost use Rattle.std.specs.Prelude.{◌≡◌, ℕ, ◌+◌, ◌<◌, ◌≤◌, ◌^◌, List, [], ◌∷◌, ◌++◌, length, IsSome, IsTrue, ◌↔◌, IfOk, OnOk, OnErr, take, drop};
+ghost use Rattle.std.specs.List.{slice_rotate_right};
 ghost use Rattle.bt_flow.specs.Counts.{counts, is_closed_at, from_base};
 
 use crate::noted::Noted;
@@ -40,6 +41,14 @@ fn has_bytes(at: u64, size: usize) -> bool
     size > 0 && at <= LAST && size as u64 <= LAST - at
 }
 
+/// Turns the bytes from `from` on, so that the last `count` of them come first.
+fn turn(bytes: &mut [u8], from: usize, count: usize)
+    requires { from + count ≤ length bytes.old }
+    ensures { bytes.new ≡ take from bytes.old ++ slice_rotate_right (drop from bytes.old) count }
+{
+    bytes[from..].rotate_right(count);
+}
+
 /// Tells whether a FIN was reached and acknowledged.
 fn is_reached(fin: Option<u64>, place: Option<u64>, acked: u64) -> bool
     ensures { result ≡ is_closed_at fin place acked }
@@ -70,7 +79,8 @@ fn offsets(gaps: Gaps, base: u64) -> Gaps
 impl Flow {
     ghost use Rattle.bt_tcp.specs.Heard.{Heard, Acked, opening_of};
     ghost use Rattle.bt_tcp.specs.Segments.{Segment};
-    ghost use Rattle.bt_flow.specs.Flows.{IsFlow, FlowTakes, IsLost, Begins, StreamOnly, IsBaseNow, IsPlaceNow, HasHole, IsClosed, conflicts_in, held_in, high_in, NotesIn, AreGapsOf, gaps_end};
+    ghost use Rattle.bt_flow.specs.Flows.{IsFlow, FlowTakes, FlowTakesNext, IsLost, Begins, StreamOnly, IsBaseNow, IsPlaceNow, HasHole, IsClosed, conflicts_in, held_in, high_in, NotesIn, AreGapsOf, gaps_end};
+    ghost use Rattle.bt_flow.specs.Views.{AppendsAfter};
     ghost use Rattle.bt_flow.specs.Notes.{spans_noted};
     ghost use Rattle.bt_tcp.specs.Covered.{is_covered, AreGaps};
     ghost use Rattle.bt_tcp.specs.Halves.{IsHalf};
@@ -106,16 +116,21 @@ impl Flow {
     }
 
     /// Takes bytes at a place.
-    fn go_on(&mut self, at: u64, part: &[u8], out: &mut Vec<u8>) -> Result<(), AllocError>
+    fn go_on<'a>(
+        &mut self,
+        at: u64,
+        part: &'a [u8],
+        later: &mut Vec<u8>,
+    ) -> Result<&'a [u8], AllocError>
         requires end { at + length part.now < 2 ^ 63 }
         requires there { IsSome self.old.stream }
         ensures half { self.new.half ≡ self.old.half }
         ensures noted { self.new.noted ≡ self.old.noted }
-        ensures taken { OnOk result (StreamOnly at part.now self.old out.old.items self.new out.new.items) }
+        ensures taken { IfOk result (λ fresh. AppendsAfter fresh.now later.old.items later.new.items (λ more. StreamOnly at part.now self.old more self.new)) }
         ensures lost { OnErr result (IsLost self.new) }
     {
         match &mut self.stream {
-            Some(stream) => stream.take(at, part, out),
+            Some(stream) => stream.take(at, part, later),
             None => unreachable!(),
         }
     }
@@ -144,15 +159,21 @@ impl Flow {
         Ok(())
     }
 
-    /// Takes a segment that this side sent, which has no RST, and appends the bytes that are ready now.
+    /// Takes a segment that this side sent, which has no RST, and returns those of its bytes that come next in the stream.
+    ///
+    /// What follows them from the memory, since they fill a gap, is appended to `later`. So a segment in order isn't copied to it.
     ///
     /// A segment whose place is out of range is passed over. If one needs more than `MOST` places, the gap
     /// before it is final: nothing is handed out from then on.
     ///
     /// # Errors
     /// `AllocError` when out of memory. Nothing is promised of the direction then.
-    pub fn take(&mut self, given: &Given, out: &mut Vec<u8>) -> Result<(), AllocError>
-        ensures { OnOk result (FlowTakes given.now self.old out.old.items self.new out.new.items) }
+    pub fn take_next<'a>(
+        &mut self,
+        given: &Given<'a>,
+        later: &mut Vec<u8>,
+    ) -> Result<&'a [u8], AllocError>
+        ensures { IfOk result (λ fresh. FlowTakesNext given.now self.old fresh.now later.old.items self.new later.new.items) }
     {
         let part = given.payload;
         let taken = self.half.take(
@@ -164,14 +185,29 @@ impl Flow {
         );
         let at = match taken {
             Ok(at) => at,
-            Err(_) => return Ok(()),
+            Err(_) => return Ok(&[]),
         };
         if !has_bytes(at, part.len()) {
-            return Ok(());
+            return Ok(&[]);
         }
         self.begin(at)?;
-        self.go_on(at, part, out)?;
+        let fresh = self.go_on(at, part, later)?;
         self.note(at, at + part.len() as u64)?;
+        Ok(fresh)
+    }
+
+    /// Takes a segment as [`Flow::take_next`] does, and appends all the bytes that are ready now.
+    ///
+    /// # Errors
+    /// `AllocError` when out of memory. Nothing is promised of the direction then.
+    pub fn take(&mut self, given: &Given, out: &mut Vec<u8>) -> Result<(), AllocError>
+        ensures { OnOk result (FlowTakes given.now self.old out.old.items self.new out.new.items) }
+    {
+        let before = out.len();
+        let fresh = self.take_next(given, out)?;
+        out.extend_from_slice(fresh)?;
+        // What follows these bytes was appended first.
+        turn(out, before, fresh.len());
         Ok(())
     }
 
@@ -184,13 +220,13 @@ impl Flow {
         self.half.hear(acked, opens);
     }
 
-    /// Returns where the stream begins, if that is known.
+    /// Returns where the stream begins. Before its first captured byte that is after the SYN, or at the first number that is known.
     pub fn base(&self) -> Option<u64>
         ensures { (heard : List Heard) → (segs : List Segment) → (out : List ℕ) → IsFlow heard segs out self.now → IsBaseNow heard self.now.stream result }
     {
         match &self.stream {
             Some(stream) => Some(stream.base()),
-            None => self.half.base(),
+            None => self.half.start(),
         }
     }
 
@@ -210,7 +246,7 @@ impl Flow {
     {
         match &self.stream {
             Some(stream) => Some(stream.next()),
-            None => self.half.base(),
+            None => self.half.start(),
         }
     }
 

@@ -6,6 +6,18 @@ use crate::window::Window;
 use bt_tcp::history;
 use std::alloc::{AllocError, Global};
 
+/// Remembers bytes that were handed out in two parts, after which there are `end` in all.
+fn remember(history: &mut Vec<u8>, end: u64, first: &[u8], rest: &[u8]) -> Result<(), AllocError>
+    ensures { OnOk result ((out : List ℕ) → end ≡ length out + length first.now + length rest.now → IsHistory history.old.items out
+        → IsHistory history.new.items (out ++ (first.now ++ rest.now))) }
+{
+    let between = end.saturating_sub(rest.len() as u64);
+    let offset = between.saturating_sub(first.len() as u64);
+    history::remember(history, offset, first)?;
+    history::remember(history, between, rest)?;
+    Ok(())
+}
+
 /// A stream from its base on.
 #[derive(Drop)]
 pub struct Stream {
@@ -19,6 +31,7 @@ pub struct Stream {
 impl Stream {
     ghost use Rattle.bt_flow.specs.Memory.{next_of, capacity_of};
     ghost use Rattle.bt_flow.specs.Streams.{IsStreamOf, Advances, StreamTakes, conflicts_with};
+    ghost use Rattle.bt_flow.specs.Views.{AppendsAfter};
 
     /// Returns a stream that begins at a place.
     ///
@@ -98,41 +111,54 @@ impl Stream {
     }
 
     /// Takes a segment while nothing is lost.
-    fn go_on(&mut self, at: u64, part: &[u8], out: &mut Vec<u8>) -> Result<(), AllocError>
+    fn go_on<'a>(
+        &mut self,
+        at: u64,
+        part: &'a [u8],
+        later: &mut Vec<u8>,
+    ) -> Result<&'a [u8], AllocError>
         requires end { at + length part.now < 2 ^ 63 }
         requires open { self.old.is_lost ≡ false }
-        ensures { OnOk result (Advances at part.now self.old out.old.items self.new out.new.items) }
+        ensures { IfOk result (λ fresh. AppendsAfter fresh.now later.old.items later.new.items (λ more. Advances at part.now self.old more self.new)) }
     {
-        let next = self.window.next();
-        if self.window.take(at, part, out)? {
-            let count = (self.window.next() - next) as usize;
-            let more = &out[out.len() - count..];
-            history::remember(&mut self.history, next.saturating_sub(self.base), more)?;
-        } else {
-            self.window.close();
-            self.is_lost = true;
+        let before = later.len();
+        match self.window.take(at, part, later)? {
+            Some(fresh) => {
+                let end = self.window.next().saturating_sub(self.base);
+                remember(&mut self.history, end, fresh, &later[before..])?;
+                Ok(fresh)
+            }
+            None => {
+                self.window.close();
+                self.is_lost = true;
+                Ok(&[])
+            }
         }
-        Ok(())
     }
 
-    /// Takes a segment, and appends the bytes that are ready now.
+    /// Takes a segment, and returns those of its bytes that come next. What follows them from the memory is appended to `later`.
     ///
     /// If it needs more than `MOST` places, the gap before it is final: nothing is handed out from then on.
     ///
     /// # Errors
     /// `AllocError` when out of memory.
-    pub fn take(&mut self, at: u64, part: &[u8], out: &mut Vec<u8>) -> Result<(), AllocError>
+    pub fn take<'a>(
+        &mut self,
+        at: u64,
+        part: &'a [u8],
+        later: &mut Vec<u8>,
+    ) -> Result<&'a [u8], AllocError>
         requires { at + length part.now < 2 ^ 63 }
-        ensures taken { OnOk result (StreamTakes at part.now self.old out.old.items self.new out.new.items) }
+        ensures taken { IfOk result (λ fresh. AppendsAfter fresh.now later.old.items later.new.items (λ more. StreamTakes at part.now self.old more self.new)) }
         ensures lost { OnErr result (self.new.is_lost ≡ true) }
     {
         let count = self.count_conflicts(at, part);
         self.conflicts = self.conflicts.saturating_add(count);
         if self.is_lost {
-            return Ok(());
+            return Ok(&[]);
         }
-        match self.go_on(at, part, out) {
-            Ok(()) => Ok(()),
+        match self.go_on(at, part, later) {
+            Ok(fresh) => Ok(fresh),
             Err(error) => {
                 self.is_lost = true;
                 Err(error)

@@ -1,5 +1,5 @@
 //! A ring with its memory, which grows when a segment needs it.
-ghost use Rattle.std.specs.Prelude.{◌≡◌, ℕ, ◌+◌, ◌<◌, ◌≤◌, ◌^◌, [], length, true, false, None, IfOk, OnOk};
+ghost use Rattle.std.specs.Prelude.{◌≡◌, ℕ, ◌+◌, ◌<◌, ◌≤◌, ◌^◌, [], length, true, false, None, IsSome, IfOk, OnOk};
 ghost use Rattle.bt_tcp.specs.Bits.{places};
 ghost use Rattle.bt_tcp.specs.Cells.{is_known};
 ghost use Rattle.bt_tcp.specs.Rings.{ahead, IsSound};
@@ -10,7 +10,7 @@ use bt_tcp::{Put, Ring};
 use std::alloc::{AllocError, Global};
 
 /// The most places that a ring may have.
-pub const MOST: u64 = 16_777_216;
+pub const MOST: u64 = 15_728_640;
 
 /// How many places it keeps when no byte is ahead.
 const KEPT: usize = 65_536;
@@ -127,7 +127,7 @@ impl Window {
     #[cold]
     fn make_room(&mut self, end: u64) -> Result<(), AllocError>
         ensures next { next_of self.new ≡ next_of self.old }
-        ensures room { OnOk result (end ≤ next_of self.old + 16777216 → end ≤ next_of self.new + capacity_of self.new) }
+        ensures room { OnOk result (end ≤ next_of self.old + 15728640 → end ≤ next_of self.new + capacity_of self.new) }
         ensures taken { GoesOn (next_of self.old) (seen self.old) (next_of self.new) (seen self.new) }
     {
         let need = end.saturating_sub(self.next());
@@ -154,10 +154,10 @@ impl Window {
     }
 
     /// Appends what is ready, until nothing is.
-    fn drain(&mut self, out: &mut Vec<u8>) -> Result<(), AllocError>
-        ensures { OnOk result (HandsOut (next_of self.old) (seen self.old) out.old.items (next_of self.new) (seen self.new) out.new.items) }
+    fn drain(&mut self, later: &mut Vec<u8>) -> Result<(), AllocError>
+        ensures { OnOk result (HandsOut (next_of self.old) (seen self.old) later.old.items (next_of self.new) (seen self.new) later.new.items) }
     {
-        drain(&mut self.ring, &mut self.known, &self.ahead, out)
+        drain(&mut self.ring, &mut self.known, &self.ahead, later)
     }
 
     /// Gives memory back, if there is much and no byte is ahead.
@@ -171,24 +171,28 @@ impl Window {
         }
     }
 
-    /// Takes a segment, and appends what it makes ready; returns whether it did.
+    /// Takes a segment, and returns those of its bytes that come next. What follows them from the memory is appended to `later`.
     ///
-    /// It doesn't if more than `MOST` places are needed. If no byte is ahead then, it has memory for at most 65,536 places.
+    /// It isn't taken if more than `MOST` places are needed. If no byte is ahead then, it has memory for at most 65,536 places.
     ///
     /// # Errors
     /// `AllocError` when out of memory.
-    pub fn take(&mut self, at: u64, part: &[u8], out: &mut Vec<u8>) -> Result<bool, AllocError>
+    pub fn take<'a>(
+        &mut self,
+        at: u64,
+        part: &'a [u8],
+        later: &mut Vec<u8>,
+    ) -> Result<Option<&'a [u8]>, AllocError>
         requires { at + length part.now < 2 ^ 64 }
-        ensures taken { IfOk result (λ was_taken. Takes at part.now (next_of self.old) (seen self.old) out.old.items was_taken (next_of self.new) (seen self.new) out.new.items) }
-        ensures held { IfOk result (λ was_taken. was_taken ≡ true → self.new.ring.end ≤ next_of self.new → capacity_of self.new ≤ 65536) }
+        ensures taken { IfOk result (λ fresh. Takes at part.now (next_of self.old) (seen self.old) later.old.items fresh (next_of self.new) (seen self.new) later.new.items) }
+        ensures held { IfOk result (λ fresh. IsSome fresh → self.new.ring.end ≤ next_of self.new → capacity_of self.new ≤ 65536) }
     {
         match self.place(at, part)? {
-            Put::Full => Ok(false),
+            Put::Full => Ok(None),
             Put::Taken { from, len } => {
-                out.extend_from_slice(&part[from..from + len])?;
-                self.drain(out)?;
+                self.drain(later)?;
                 self.release();
-                Ok(true)
+                Ok(Some(&part[from..from + len]))
             }
         }
     }

@@ -15,12 +15,12 @@ use Rattle.bt_intro.specs.declared.voice.Reader.{Reader}
 use Rattle.bt_intro.specs.declared.voice.Reader.TheVariants.{Open, Settled}
 use Rattle.bt_intro.specs.Hellos.{IsFirstHello, HasNoHello, IsFirstFrom}
 use Rattle.bt_intro.specs.Listening.{IsHeard}
-use Rattle.bt_intro.specs.Hearing.{IsSaid, IsReadBy, IsVoiceOf, IsVoiced, IsHeardOf}
+use Rattle.bt_intro.specs.Hearing.{IsSaid, IsReadBy, IsVoiceOf, Held, IsVoiced, IsHeardOf}
 use Rattle.bt_intro.proofs.Searching.{whole, hello_fits, first_more, start_more}
 
 -- without a handshake nothing is said
 pub silent : (front : List ℕ) (i : Introduction) → IsHeardOf front i → i.voice ≡ None → IsSaid front (awaiting None [])
-silent front i h e = inl (subst (λ (o : Option Voice). IsVoiced front o) e h.voiced, refl)
+silent front i h e = inl (subst (λ (o : Option Held). IsVoiced front o) e h.voiced, refl)
 
 -- the outcome of the bytes of a voice, and what its listener heard
 pub record Told (b : List ℕ) (voice : Voice) : Type 0 where
@@ -37,9 +37,11 @@ told_by b voice h =
     let t = told_read b h.items voice.reader h.read in
     record { now = t.0; is = t.1; heard = subst (λ (xs : List (ℕ × Item)). IsHeard xs voice.listener) (sym t.2) h.heard }
 
-pub voiced : (front : List ℕ) (i : Introduction) (v : Voice) → IsHeardOf front i → i.voice ≡ Some v → IsFirstHello front v.start
-    × IsVoiceOf (drop v.start front) v
-voiced front i v h e = subst (λ (o : Option Voice). IsVoiced front o) e h.voiced
+pub voiced : (front : List ℕ) (i : Introduction) (held : Held) (v : Voice) → v ≡ held.value → IsHeardOf front i → i.voice ≡ Some held
+    → IsFirstHello front v.start × IsVoiceOf (drop v.start front) v
+voiced front i held v same h e =
+    subst (λ (k : Voice). IsFirstHello front k.start × IsVoiceOf (drop k.start front) k) (sym same)
+    (subst (λ (o : Option Held). IsVoiced front o) e h.voiced)
 
 append_nil : (xs : List ℕ) → xs ++ [] ≡ xs
 append_nil [] = refl
@@ -68,32 +70,35 @@ from_start front more start first =
     drop-append-le start front more (omega arith)
 
 -- what was heard, and the bytes that follow
-pub voiced_more : (front more : List ℕ) (old new : Voice) → IsFirstHello front old.start → new.start ≡ old.start
-    → IsVoiceOf (drop old.start front ++ more) new → IsVoiced (front ++ more) (Some new)
+pub voiced_more : (front more : List ℕ) (old : Voice) (new : Held) → IsFirstHello front old.start → new.value.start ≡ old.start
+    → IsVoiceOf (drop old.start front ++ more) new.value → IsVoiced (front ++ more) (Some new)
 voiced_more front more old new first same h =
-    let P : ℕ → Type 0 = λ k. IsFirstHello (front ++ more) k × IsVoiceOf (drop k (front ++ more)) new in
-    subst P (sym same) (first_more front more old.start first, subst (λ (l : List ℕ). IsVoiceOf l new) (sym (from_start front more old.start first)) h)
+    let P : ℕ → Type 0 = λ k. IsFirstHello (front ++ more) k × IsVoiceOf (drop k (front ++ more)) new.value in
+    subst P (sym same) (
+      first_more front more old.start first,
+      subst (λ (l : List ℕ). IsVoiceOf l new.value) (sym (from_start front more old.start first)) h,
+    )
 
 -- a handshake is found in what is new
-pub voiced_first : (front old more : List ℕ) (i : Introduction) (low start : ℕ) (new : Voice) → IsHeardOf old i → i.voice ≡ None → front ≡ old ++ more
-    → low ≡ i.heard - 19 → IsFirstFrom front low (Some start) → new.start ≡ start
-    → IsVoiceOf (take (length front - start) (drop start front)) new → IsVoiced front (Some new)
+pub voiced_first : (front old more : List ℕ) (i : Introduction) (low start : ℕ) (new : Held) → IsHeardOf old i → i.voice ≡ None → front ≡ old ++ more
+    → low ≡ i.heard - 19 → IsFirstFrom front low (Some start) → new.value.start ≡ start
+    → IsVoiceOf (take (length front - start) (drop start front)) new.value → IsVoiced front (Some new)
 voiced_first front old more i low start new h none parts size first same voice =
-    let silence : HasNoHello old = subst (λ (o : Option Voice). IsVoiced old o) none h.voiced in
+    let silence : HasNoHello old = subst (λ (o : Option Held). IsVoiced old o) none h.voiced in
     let from : low ≡ length old - 19 = size ∙ ap (λ (n : ℕ). n - 19) h.all in
     let here : IsFirstFrom (old ++ more) (length old - 19) (Some start) =
     subst (λ (n : ℕ). IsFirstFrom (old ++ more) n (Some start)) from (subst (λ (l : List ℕ). IsFirstFrom l low (Some start)) parts first) in
     let found : IsFirstHello front start = subst (λ (l : List ℕ). IsFirstHello l start) (sym parts) (start_more old more (Some start) silence here) in
     let fits : start + 20 ≤ length front = hello_fits front start found.here in
     let within : start ≤ length front = omega arith in
-    let all : IsVoiceOf (drop start front) new = subst (λ (l : List ℕ). IsVoiceOf l new) (whole front start within) voice in
-    subst (λ (k : ℕ). IsFirstHello front k × IsVoiceOf (drop k front) new) (sym same) (found, all)
+    let all : IsVoiceOf (drop start front) new.value = subst (λ (l : List ℕ). IsVoiceOf l new.value) (whole front start within) voice in
+    subst (λ (k : ℕ). IsFirstHello front k × IsVoiceOf (drop k front) new.value) (sym same) (found, all)
 
 -- none is found
 pub unvoiced : (front old more : List ℕ) (i : Introduction) (low : ℕ) → IsHeardOf old i → i.voice ≡ None → front ≡ old ++ more
     → low ≡ i.heard - 19 → IsFirstFrom front low None → IsVoiced front None
 unvoiced front old more i low h none parts size first =
-    let silence : HasNoHello old = subst (λ (o : Option Voice). IsVoiced old o) none h.voiced in
+    let silence : HasNoHello old = subst (λ (o : Option Held). IsVoiced old o) none h.voiced in
     let from : low ≡ length old - 19 = size ∙ ap (λ (n : ℕ). n - 19) h.all in
     let here : IsFirstFrom (old ++ more) (length old - 19) None =
     subst (λ (n : ℕ). IsFirstFrom (old ++ more) n None) from (subst (λ (l : List ℕ). IsFirstFrom l low None) parts first) in

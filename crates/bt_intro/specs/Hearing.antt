@@ -1,5 +1,6 @@
 -- What the front of what one side sends says of that side.
-use Rattle.std.specs.Prelude.{◌≡◌, ◌≤◌, ◌⊎◌, ◌↔◌, ℕ, Bool, true, IsTrue, List, [], length, drop, Option, Some, None, IsSome}
+use Rattle.std.specs.Prelude.{◌≡◌, ◌≤◌, ◌⊎◌, ◌↔◌, ℕ, Bool, true, IsTrue, List, [], length, drop, Option, Some, None, IsSome, Box}
+use Rattle.std.specs.declared.alloc.Global.{Global}
 use Rattle.bt_wire.specs.declared.item.Item.{Item}
 use Rattle.bt_wire.specs.Streams.{Outcome, IsVerdict, awaiting}
 use Rattle.bt_judge.specs.Readings.{IsJudged}
@@ -35,9 +36,13 @@ pub record IsVoiceOf (b : List ℕ) (voice : Voice) : Type 0 where
 abbrev pub HasNoReader : Voice → Type 0
 HasNoReader voice = (refused : Bool) × (voice.reader ≡ Settled refused)
 
-abbrev pub IsVoiced : List ℕ → Option Voice → Type 0
+-- a voice, in memory of its own
+abbrev pub Held : Type 0
+Held = Box Voice Global
+
+abbrev pub IsVoiced : List ℕ → Option Held → Type 0
 IsVoiced front None = HasNoHello front
-IsVoiced front (Some voice) = IsFirstHello front voice.start × IsVoiceOf (drop voice.start front) voice
+IsVoiced front (Some voice) = IsFirstHello front voice.value.start × IsVoiceOf (drop voice.value.start front) voice.value
 
 -- all of this front was heard
 pub record IsHeardOf (front : List ℕ) (intro : Introduction) : Type 0 where
@@ -45,9 +50,9 @@ pub record IsHeardOf (front : List ℕ) (intro : Introduction) : Type 0 where
   pub voiced : IsVoiced front intro.voice
 
 -- Without a reader it holds no memory.
-abbrev pub IsSettled : Option Voice → Type 0
+abbrev pub IsSettled : Option Held → Type 0
 IsSettled None = Unit {0}
-IsSettled (Some voice) = HasNoReader voice
+IsSettled (Some voice) = HasNoReader voice.value
 
 abbrev pub HasNoMemory : Introduction → Type 0
 HasNoMemory intro = IsSettled intro.voice

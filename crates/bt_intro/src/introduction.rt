@@ -8,6 +8,7 @@ use crate::voice::Voice;
 use bt_jobs::Announced;
 use bt_wire::Handshake;
 use std::alloc::{AllocError, Global};
+use std::mem::size_of;
 
 /// How many bytes before those that are new may begin a handshake's first 20.
 const OVERLAP: usize = 19;
@@ -19,7 +20,8 @@ const STRANGER: usize = 2_068;
 #[derive(Drop)]
 pub struct Introduction {
     heard: usize,
-    voice: Option<Voice>,
+    /// It has memory of its own: a side that says nothing needs none of it.
+    voice: Option<Box<Voice>>,
 }
 
 impl Introduction {
@@ -54,7 +56,8 @@ impl Introduction {
         if let Some(voice) = &mut self.voice {
             voice.hear(alloc, front, new)?;
         } else if let Some(start) = find_hello(front, self.heard.saturating_sub(OVERLAP)) {
-            self.voice = Some(Voice::of(alloc, start, &front[start..])?);
+            let voice = Voice::of(alloc, start, &front[start..])?;
+            self.voice = Some(Box::new(alloc, voice)?);
         }
         self.heard = front.len();
         Ok(())
@@ -127,6 +130,14 @@ impl Introduction {
         match &self.voice {
             Some(voice) => voice.has_said_all(),
             None => false,
+        }
+    }
+
+    /// Returns how many bytes of memory it takes besides its own fields and the reader's buffer.
+    pub fn size(&self) -> usize {
+        match &self.voice {
+            Some(_) => size_of::<Voice>(),
+            None => 0,
         }
     }
 

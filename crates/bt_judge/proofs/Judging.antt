@@ -13,13 +13,15 @@ use Rattle.bt_feed.specs.declared.stage.Stage.TheVariants as stage
 use Rattle.bt_feed.specs.Answers.{IsAnswer}
 use Rattle.bt_feed.specs.Feeds.{FeedState}
 use Rattle.bt_feed.specs.Pumps.{IsFed}
-use Rattle.bt_feed.specs.Stages.{limit_of, early, is_all, is_closed, refusal_of, Comes, stopped}
+use Rattle.bt_feed.specs.Stages.{limit_of, early, is_all, is_closed, refusal_of, Spells, Comes, stopped}
 use Rattle.bt_feed.specs.Transcripts.{with_items}
 use Rattle.bt_feed.proofs.Closed.{open_by, fault_more}
 use Rattle.bt_feed.proofs.Coming.{open_comes, fault_comes}
 use Rattle.bt_feed.proofs.Found.{early_has}
+use Rattle.bt_feed.proofs.Moving.{spells_both}
 use Rattle.bt_feed.proofs.Reading.{hand_open}
-use Rattle.bt_judge.specs.Readings.{ReadingState, reading_state, IsHeld, IsJudged, BeginsWith, IsStanding, IsPieceTaken}
+use Rattle.bt_judge.specs.Readings.{ReadingState, reading_state, HasRead, IsJudged, BeginsWith, Begins, IsStanding, IsPieceTaken}
+use Rattle.bt_judge.proofs.ByRules.{spells_comes}
 
 -- ---- the beginning
 
@@ -33,7 +35,7 @@ first own f le e =
       is = open_comes (stage.Handshake own) [] (omega (arith, le)) (hand_open own);
       items = refl;
       refusal = refl;
-      held = λ _. record { comes = λ later v k. k; waits = hand_open own };
+      held = λ _. record { read = (refl, refl); limit = le; waits = hand_open own };
       unread = record {
         front = [];
         later = [];
@@ -50,19 +52,20 @@ first own f le e =
 
 -- ---- a piece more
 
-fed_verdict : (own : Own) (b : List ℕ) (xs : List (ℕ × Item)) (f g : FeedState) (bytes : List ℕ) (ys : List (ℕ × Item)) → IsHeld own b xs f
-    → IsFed f bytes ys g → (later : List ℕ) (v : Outcome) → Comes g.stage (g.held ++ later) v
-    → IsVerdict own ((b ++ bytes) ++ later) (with_items (xs ++ ys) v)
-fed_verdict own b xs f g bytes ys h m later v k =
-    let P : List ℕ → Type 0 = λ l. IsVerdict own l (with_items (xs ++ ys) v) in
-    let Q : List (ℕ × Item) → Type 0 = λ l. IsVerdict own (b ++ (bytes ++ later)) (record v { items = l }) in
-    subst P (sym (append_assoc b bytes later)) (subst Q (sym (append_assoc xs ys v.items)) (h.comes (bytes ++ later) (with_items ys v) (m.comes later v k)))
+pub fed : (own : Own) (b : List ℕ) (xs : List (ℕ × Item)) (f g : FeedState) (bytes : List ℕ) (ys : List (ℕ × Item)) → HasRead own b xs f
+    → IsFed f bytes ys g → HasRead own (b ++ bytes) (xs ++ ys) g
+fed own b xs f g bytes ys h m = spells_both (stage.Handshake own) xs b f.stage f.held ys bytes g.stage g.held h m.spells
+
+pub read_verdict : (own : Own) (b : List ℕ) (xs : List (ℕ × Item)) (f : FeedState) → own.limit ≤ 1048576 → HasRead own b xs f
+    → (later : List ℕ) (v : Outcome) → Comes f.stage (f.held ++ later) v → IsVerdict own (b ++ later) (with_items xs v)
+read_verdict own b xs f le h later v k = spells_comes (stage.Handshake own) xs b f.stage f.held (omega (arith, le)) h later v k
 
 goes_on : (own : Own) (b : List ℕ) (xs : List (ℕ × Item)) (f g : FeedState) (piece : List ℕ) (ys : List (ℕ × Item)) → own.limit ≤ 1048576
-    → limit_of g.stage ≤ 1048576 → IsHeld own b xs f → IsFed f piece ys g → is_closed g.stage g.held ≡ false
+    → limit_of g.stage ≤ 1048576 → HasRead own b xs f → IsFed f piece ys g → is_closed g.stage g.held ≡ false
     → IsJudged own (b ++ piece) (xs ++ ys) (reading_state g None)
 goes_on own b xs f g piece ys le limit h m waits =
-    let told = fed_verdict own b xs f g piece ys h m in
+    let all = fed own b xs f g piece ys h m in
+    let told = read_verdict own (b ++ piece) (xs ++ ys) g le all in
     let last = stopped g.stage (g.held ++ []) None in
     let P : List ℕ → Type 0 = λ l. IsVerdict own l (with_items (xs ++ ys) last) in
     let is = subst P (append-nil (b ++ piece)) (told [] last (open_comes g.stage (g.held ++ []) (omega (arith, limit))
@@ -73,7 +76,7 @@ goes_on own b xs f g piece ys le limit h m waits =
       is = is;
       items = append-nil (xs ++ ys);
       refusal = refl;
-      held = λ _. record { comes = told; waits = waits };
+      held = λ _. record { read = all; limit = limit; waits = waits };
       unread = record {
         front = b ++ piece;
         later = [];
@@ -90,15 +93,15 @@ goes_on own b xs f g piece ys le limit h m waits =
 
 -- the verdict of what went in up to a refusal, and of what follows
 refused_then : (own : Own) (b : List ℕ) (xs : List (ℕ × Item)) (f g : FeedState) (bytes : List ℕ) (ys : List (ℕ × Item)) (r : Refusal)
-    → limit_of g.stage ≤ 1048576 → IsHeld own b xs f → IsFed f bytes ys g → IsAnswer g (Err r) → (rest : List ℕ)
+    → own.limit ≤ 1048576 → limit_of g.stage ≤ 1048576 → HasRead own b xs f → IsFed f bytes ys g → IsAnswer g (Err r) → (rest : List ℕ)
     → IsVerdict own ((b ++ bytes) ++ rest) (with_items (xs ++ ys) (stopped g.stage (g.held ++ rest) (Some r)))
-refused_then own b xs f g bytes ys r limit h m a rest =
+refused_then own b xs f g bytes ys r le limit h m a rest =
     let P : Refusal → Type 0 = λ x. Comes g.stage (g.held ++ rest) (stopped g.stage (g.held ++ rest) (Some x)) in
     let comes = subst P (sym a.2) (fault_comes g.stage (g.held ++ rest) a.0 (omega (arith, limit)) (fault_more g.stage g.held rest a.0 a.1)) in
-    fed_verdict own b xs f g bytes ys h m rest (stopped g.stage (g.held ++ rest) (Some r)) comes
+    read_verdict own (b ++ bytes) (xs ++ ys) g le (fed own b xs f g bytes ys h m) rest (stopped g.stage (g.held ++ rest) (Some r)) comes
 
 stops : (own : Own) (b : List ℕ) (xs : List (ℕ × Item)) (f g : FeedState) (piece : List ℕ) (ys : List (ℕ × Item)) (n : ℕ) (r : Refusal)
-    → own.limit ≤ 1048576 → limit_of g.stage ≤ 1048576 → IsHeld own b xs f → IsFed f (take n piece) ys g → IsAnswer g (Err r)
+    → own.limit ≤ 1048576 → limit_of g.stage ≤ 1048576 → HasRead own b xs f → IsFed f (take n piece) ys g → IsAnswer g (Err r)
     → IsJudged own (b ++ piece) (xs ++ ys) (reading_state g (Some r))
 stops own b xs f g piece ys n r le limit h m a =
     let front = b ++ take n piece in
@@ -107,7 +110,7 @@ stops own b xs f g piece ys n r le limit h m a =
     let here = stopped g.stage (g.held ++ []) (Some r) in
     let parts : front ++ rest ≡ b ++ piece =
     append_assoc b (take n piece) rest ∙ ap (λ (l : List ℕ). b ++ l) (take-append-drop n piece) in
-    let told = refused_then own b xs f g (take n piece) ys r limit h m a in
+    let told = refused_then own b xs f g (take n piece) ys r le limit h m a in
     let P : List ℕ → Type 0 = λ l. IsVerdict own l (with_items (xs ++ ys) here) in
     let Q : List ℕ → Type 0 = λ l. IsVerdict own l (with_items (xs ++ ys) last) in
     record {
@@ -135,7 +138,7 @@ is_refused : (o : Option Refusal) (r : Refusal) → o ≡ Some r → IsSome o
 is_refused o r e = subst (λ (x : Option Refusal). IsSome x) (sym e) refl
 
 pub takes : (own : Own) (b : List ℕ) (xs : List (ℕ × Item)) (f g : FeedState) (piece : List ℕ) (ys : List (ℕ × Item)) (o : Option Refusal)
-    → own.limit ≤ 1048576 → limit_of g.stage ≤ 1048576 → IsHeld own b xs f → IsPieceTaken f piece ys g o
+    → own.limit ≤ 1048576 → limit_of g.stage ≤ 1048576 → HasRead own b xs f → IsPieceTaken f piece ys g o
     → IsJudged own (b ++ piece) (xs ++ ys) (reading_state g o)
 takes own b xs f g piece ys None le limit h e = goes_on own b xs f g piece ys le limit h e.0 e.1
 takes own b xs f g piece ys (Some r) le limit h e = stops own b xs f g piece ys e.0 r le limit h e.1 e.2
@@ -182,23 +185,29 @@ nothing_by : (t : Stage) (o : Option Fault) → limit_of t < 2 ^ 32 → early t 
 nothing_by t (Some f) lt e = (stopped t [] (Some (refusal_of t f)), fault_comes t [] f lt (early_has t [] f e), refl)
 nothing_by t None lt e = (stopped t [] None, open_comes t [] lt (open_by t [] e (nothing_whole t)), refl)
 
-pub begins : (own : Own) (b : List ℕ) (xs : List (ℕ × Item)) (f g : FeedState) (piece : List ℕ) (ys : List (ℕ × Item)) (n : ℕ)
-    → own.limit ≤ 1048576 → limit_of g.stage ≤ 1048576 → IsHeld own b xs f → IsFed f (take n piece) ys g → g.held ≡ []
-    → BeginsWith own (b ++ piece) (xs ++ ys)
-begins own b xs f g piece ys n le limit h m none v is =
-    let front = (b ++ take n piece) ++ [] in
-    let rest = drop n piece in
-    let here = nothing_by g.stage (early g.stage []) (omega (arith, limit)) refl in
-    let P : List ℕ → Type 0 = λ l. Comes g.stage l here.0 in
-    let told = fed_verdict own b xs f g (take n piece) ys h m [] here.0 (subst P (sym (append-nil g.held ∙ none)) here.1) in
-    let parts : b ++ piece ≡ front ++ rest =
-    ap (λ (l : List ℕ). b ++ l) (sym (take-append-drop n piece)) ∙ sym (append_assoc b (take n piece) rest)
-    ∙ ap (λ (l : List ℕ). l ++ rest) (sym (append-nil (b ++ take n piece))) in
+-- the verdict of bytes begins with the items that are spelled in front
+pub begins : (own : Own) (b : List ℕ) (xs : List (ℕ × Item)) (u : Stage) → own.limit ≤ 1048576 → Begins own b xs u → BeginsWith own b xs
+begins own b xs u le h v is =
+    let limit = h.limit in
+    let here = nothing_by u (early u []) (omega (arith, limit)) refl in
+    let told = spells_comes (stage.Handshake own) xs h.front u [] (omega (arith, le)) h.spelled [] here.0 here.1 in
+    let P : List ℕ → Type 0 = λ l. IsVerdict own l (with_items xs here.0) in
     let Q : List ℕ → Type 0 = λ l. IsVerdict own l v in
-    let more = verdict_items own front rest (with_items (xs ++ ys) here.0) v (omega (arith, le)) told (subst Q parts is) in (
-      more.0,
-      more.1 ∙ ap (λ (l : List (ℕ × Item)). l ++ more.0) (ap (λ (l : List (ℕ × Item)). (xs ++ ys) ++ l) here.2 ∙ append-nil (xs ++ ys)),
-    )
+    let more = verdict_items own h.front h.rest (with_items xs here.0) v (omega (arith, le)) (subst P (append-nil h.front) told) (subst Q h.parts is) in
+    (more.0, more.1 ∙ ap (λ (l : List (ℕ × Item)). l ++ more.0) (ap (λ (l : List (ℕ × Item)). xs ++ l) here.2 ∙ append-nil xs))
+
+-- where a sink didn't take an item nothing is held
+pub missed : (own : Own) (b : List ℕ) (xs : List (ℕ × Item)) (f g : FeedState) (piece : List ℕ) (ys : List (ℕ × Item)) (n : ℕ)
+    → limit_of g.stage ≤ 1048576 → HasRead own b xs f → IsFed f (take n piece) ys g → g.held ≡ [] → Begins own (b ++ piece) (xs ++ ys) g.stage
+missed own b xs f g piece ys n limit h m none =
+    let P : List ℕ → Type 0 = λ l. Spells (stage.Handshake own) (xs ++ ys) (b ++ take n piece) g.stage l in
+    record {
+      front = b ++ take n piece;
+      rest = drop n piece;
+      parts = ap (λ (l : List ℕ). b ++ l) (sym (take-append-drop n piece)) ∙ sym (append_assoc b (take n piece) (drop n piece));
+      spelled = subst P none (fed own b xs f g (take n piece) ys h m);
+      limit = limit;
+    }
 
 -- ---- a refusal that stands
 

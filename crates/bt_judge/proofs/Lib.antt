@@ -1,2 +1,5 @@
+pub mod Both
+mod ByRules
 mod Judging
+mod Lenient
 mod Telling

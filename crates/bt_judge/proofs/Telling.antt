@@ -1,5 +1,5 @@
 -- The verdict of a stream, if it ends here.
-use Rattle.std.proofs.Common.{◌≡◌, ℕ, ◌-◌, ◌+◌, if◌then◌else◌, List, [], ◌++◌, length, Option, Some, None, Result, Ok, Err}
+use Rattle.std.proofs.Common.{◌≡◌, ℕ, ◌-◌, ◌+◌, ◌≤◌, if◌then◌else◌, List, [], ◌++◌, length, Option, Some, None, Result, Ok, Err}
 use Rattle.std.proofs.Common.{refl, sym, ap, subst, ◌∙◌, arith, inl, inr}
 use Rattle.std.proofs.lemmas.Bool.{cases_lt}
 use Rattle.std.proofs.lemmas.List.{append-nil, length-append}
@@ -23,6 +23,7 @@ use Rattle.bt_feed.specs.Stages.{number_of, Comes}
 use Rattle.bt_feed.specs.Transcripts.{with_items}
 use Rattle.bt_feed.proofs.Moving.{end_of_open}
 use Rattle.bt_judge.specs.Readings.{ReadingState, IsHeld, IsJudged, IsTold}
+use Rattle.bt_judge.proofs.Judging.{read_verdict}
 
 -- ---- how long a stream is
 
@@ -61,12 +62,12 @@ told_refused own b xs s r e j =
 
 -- ---- where nothing is refused
 
-end_verdict : (own : Own) (b : List ℕ) (xs : List (ℕ × Item)) (f : FeedState) (r : Result ℕ PumpError) → IsHeld own b xs f → (e : IsEndOf f r)
+end_verdict : (own : Own) (b : List ℕ) (xs : List (ℕ × Item)) (f : FeedState) (r : Result ℕ PumpError) → own.limit ≤ 1048576 → IsHeld own b xs f → (e : IsEndOf f r)
     → IsVerdict own b (with_items xs e.last)
-end_verdict own b xs f r h e =
+end_verdict own b xs f r le h e =
     let P : List ℕ → Type 0 = λ l. Comes f.stage l e.last in
     let Q : List ℕ → Type 0 = λ l. IsVerdict own l (with_items xs e.last) in
-    subst Q (append-nil b) (h.comes [] e.last (subst P (sym (append-nil f.held)) e.comes))
+    subst Q (append-nil b) (read_verdict own b xs f le h.read [] e.last (subst P (sym (append-nil f.held)) e.comes))
 
 accepted_by : (o : Option Refusal) (m n : ℕ) → unless_refused o (Ok m) ≡ Ok n → (o ≡ None) × (n ≡ m)
 accepted_by (Some r) m n e = absurd cc
@@ -76,11 +77,11 @@ refused_by : (o : Option Refusal) (m : ℕ) (r : Refusal) → unless_refused o (
 refused_by (Some s) m r e = cc
 refused_by None m r e = absurd cc
 
-pub told_accepted : (own : Own) (b : List ℕ) (xs : List (ℕ × Item)) (f : FeedState) (number n : ℕ) → IsHeld own b xs f → IsFeed f
+pub told_accepted : (own : Own) (b : List ℕ) (xs : List (ℕ × Item)) (f : FeedState) (number n : ℕ) → own.limit ≤ 1048576 → IsHeld own b xs f → IsFeed f
     → number ≡ number_of f.stage → finish_of f ≡ Ok n → IsTold own b xs (Accepted (number - 1) n)
-told_accepted own b xs f number n h feed count fin =
+told_accepted own b xs f number n le h feed count fin =
     let e : IsEndOf f (Ok n) = end_of_open f (Ok n) feed h.waits (λ v k. sym k ∙ fin) in
-    let is = end_verdict own b xs f (Ok n) h e in
+    let is = end_verdict own b xs f (Ok n) le h e in
     let a = accepted_by (refusal_at_end e.last) (e.last.start + length e.last.tail) n e.verdict in
     let size : n ≡ length b = a.1 ∙ verdict_length own b (with_items xs e.last) is in
     let messages : number - 1 ≡ e.last.number - 1 = ap (λ (k : ℕ). k - 1) (count ∙ sym e.number) in (
@@ -91,12 +92,12 @@ told_accepted own b xs f number n h feed count fin =
           ∙ ap (λ (o : Option Refusal). ended_by o e.last.number (length b)) (sym a.0),
     )
 
-pub told_inside : (own : Own) (b : List ℕ) (xs : List (ℕ × Item)) (f : FeedState) (r : Refusal) → IsHeld own b xs f → IsFeed f
+pub told_inside : (own : Own) (b : List ℕ) (xs : List (ℕ × Item)) (f : FeedState) (r : Refusal) → own.limit ≤ 1048576 → IsHeld own b xs f → IsFeed f
     → finish_of f ≡ Err (finish.Refused r) → IsTold own b xs (Refused r)
-told_inside own b xs f r h feed fin =
+told_inside own b xs f r le h feed fin =
     let e : IsEndOf f (Err (error.Refused r)) = end_of_open f (Err (error.Refused r)) feed h.waits (λ v k. sym k ∙ fin) in (
       with_items xs e.last,
-      end_verdict own b xs f (Err (error.Refused r)) h e,
+      end_verdict own b xs f (Err (error.Refused r)) le h e,
       ap (λ (l : List (ℕ × Item)). xs ++ l) e.no_items ∙ append-nil xs,
       ap (λ (o : Option Refusal). ended_by o e.last.number (length b))
           (sym (refused_by (refusal_at_end e.last) (e.last.start + length e.last.tail) r e.verdict)),

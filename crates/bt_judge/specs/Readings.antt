@@ -6,11 +6,12 @@ use Rattle.bt_wire.specs.declared.item.Refusal.{Refusal}
 use Rattle.bt_wire.specs.Streams.{Outcome, IsVerdict}
 use Rattle.bt_text.specs.declared.ended.Ended.{Ended}
 use Rattle.bt_text.specs.Lines.{ended_as}
+use Rattle.bt_feed.specs.declared.stage.Stage.{Stage}
+use Rattle.bt_feed.specs.declared.stage.Stage.TheVariants as stage
 use Rattle.bt_feed.specs.Answers.{IsAnswer}
 use Rattle.bt_feed.specs.Feeds.{FeedState}
 use Rattle.bt_feed.specs.Pumps.{IsFed}
-use Rattle.bt_feed.specs.Stages.{start_of, is_all, is_closed, Comes}
-use Rattle.bt_feed.specs.Transcripts.{with_items}
+use Rattle.bt_feed.specs.Stages.{start_of, limit_of, is_all, is_closed, Spells}
 
 -- a parser, and the refusal after which it gets no more bytes
 pub record ReadingState : Type 0 where
@@ -20,9 +21,14 @@ pub record ReadingState : Type 0 where
 abbrev pub reading_state : FeedState → Option Refusal → ReadingState
 reading_state feed refused = record { feed = feed; refused = refused }
 
+-- from its handshake on b is the spellings of these items, and then what the feed holds
+abbrev pub HasRead : Own → List ℕ → List (ℕ × Item) → FeedState → Type 0
+HasRead own b xs f = Spells (stage.Handshake own) xs b f.stage f.held
+
 -- b went into the feed and has these items; the feed holds what follows them, which is no whole item
 pub record IsHeld (own : Own) (b : List ℕ) (xs : List (ℕ × Item)) (f : FeedState) : Type 0 where
-  pub comes : (later : List ℕ) (v : Outcome) → Comes f.stage (f.held ++ later) v → IsVerdict own (b ++ later) (with_items xs v)
+  pub read : HasRead own b xs f
+  pub limit : limit_of f.stage ≤ 1048576
   pub waits : is_closed f.stage f.held ≡ false
 
 -- A prefix of b has these items and this refusal, or none, and then these bytes, which start at this offset. Only a refusal leaves more of b.
@@ -67,6 +73,25 @@ IsStanding own b (Some r) = (later : List ℕ) (v : Outcome) → IsVerdict own (
 abbrev pub IsPieceTaken : FeedState → List ℕ → List (ℕ × Item) → FeedState → Option Refusal → Type 0
 IsPieceTaken f piece xs g None = IsFed f piece xs g × (is_closed g.stage g.held ≡ false)
 IsPieceTaken f piece xs g (Some r) = (n : ℕ) × IsFed f (take n piece) xs g × IsAnswer g (Err r)
+
+-- b was taken up to the byte with which it is refused, if it is
+pub record IsJudgedTo (own : Own) (b : List ℕ) (xs : List (ℕ × Item)) (r : ReadingState) : Type 0 where
+  pub judged : IsJudged own b xs r
+  pub read : HasRead own b xs r.feed
+  pub limit : limit_of r.feed.stage ≤ 1048576
+
+-- of these bytes the first n were taken: all, if none is refused
+pub record IsFront (bytes : List ℕ) (n : ℕ) (refused : Option Refusal) : Type 0 where
+  pub within : n ≤ length bytes
+  pub all : refused ≡ None → n ≡ length bytes
+
+-- b begins with the spellings of these items; u is awaited then
+pub record Begins (own : Own) (b : List ℕ) (xs : List (ℕ × Item)) (u : Stage) : Type 0 where
+  pub front : List ℕ
+  pub rest : List ℕ
+  pub parts : b ≡ front ++ rest
+  pub spelled : Spells (stage.Handshake own) xs front u []
+  pub limit : limit_of u ≤ 1048576
 
 -- no whole item is held that wasn't taken
 abbrev pub HoldsNoItem : ReadingState → Type 0

@@ -4,8 +4,10 @@
 //! segments don't belong here.
 #![tactic(auto)]
 
+mod fault;
 mod judge;
 mod reading;
 
-pub use judge::{Judge, Verdicts};
+pub use fault::JudgeFault;
+pub use judge::{Judge, Unreads, Verdicts};
 pub use reading::{Reading, Unread};

@@ -1,12 +1,17 @@
 //! A stream that is read by one rule set, and its verdict.
-ghost use Rattle.std.specs.Prelude.{◌≡◌, ◌<◌, ◌≤◌, ◌++◌, ℕ, List, [], length, MatchResult, IfOk, OnOk, OnErr};
+ghost use Rattle.std.specs.Prelude.{◌≡◌, ◌<◌, ◌≤◌, ◌+◌, ◌++◌, ℕ, List, [], length, take, None, MatchResult, IfOk, OnOk, OnErr};
+ghost use Rattle.bt_ext.specs.declared.ids.Rules.TheVariants.{Free};
 ghost use Rattle.bt_wire.specs.declared.context.Own.{Own};
 ghost use Rattle.bt_wire.specs.declared.item.Item.{Item};
-ghost use Rattle.bt_feed.specs.Pumps.{Took, IsMissed};
-ghost use Rattle.bt_feed.specs.Stages.{limit_of};
+ghost use Rattle.bt_feed.specs.declared.stage.Stage.{Stage};
+ghost use Rattle.bt_feed.specs.Pumps.{Took, IsMissed, IsFed};
+ghost use Rattle.bt_feed.specs.Stages.{start_of, limit_of};
 ghost use Rattle.bt_io.specs.Counts.{Grew};
-ghost use Rattle.bt_judge.specs.Readings.{IsJudged, BeginsWith, IsTold, IsStanding, IsUnread, IsPieceTaken};
+ghost use Rattle.bt_judge.specs.Judges.{IsStopped, HasFailed};
+ghost use Rattle.bt_judge.specs.Readings.{IsJudged, IsJudgedTo, Begins, BeginsWith, IsTold, IsStanding, IsUnread, IsPieceTaken};
 
+use crate::fault::JudgeFault;
+use bt_ext::Rules;
 use bt_feed::{Feed, Finish, PumpError, Sink, SinkFault, pump_piece};
 use bt_text::ended::Ended;
 use bt_wire::{Own, Refusal};
@@ -25,6 +30,25 @@ pub struct Unread<'a> {
 /// Returns how many bytes a message has that begins with this length (BEP 3, peer messages).
 fn awaited_by(length: [u8; 4]) -> usize {
     (u32::from_be_bytes(length) as usize).saturating_add(4)
+}
+
+/// Reads the next bytes, and returns the refusal if the stream is refused in them.
+fn read<S: Sink>(feed: &mut Feed, bytes: &[u8], sink: &mut S) -> Result<Option<Refusal>, SinkFault>
+    ensures read { (xs : List (ℕ × Item)) × MatchResult result
+        (λ refused. Took S.takes sink.old xs sink.new × IsPieceTaken feed.old bytes.now xs feed.new refused)
+        (λ e. IsMissed S.takes S.misses e sink.old xs sink.new × ((n : ℕ) × IsFed feed.old (take n bytes.now) xs feed.new)) }
+    ensures emptied { OnErr result (feed.new.held ≡ []) }
+    ensures limit { limit_of feed.new.stage ≤ 1048576 }
+    ensures calm { OnOk result (S.failed sink.new ≡ S.failed sink.old) }
+    ensures sink { OnErr result (Grew (S.failed sink.old) (S.failed sink.new)) }
+{
+    match pump_piece(feed, sink, bytes) {
+        Ok(()) => Ok(None),
+        Err(PumpError::Refused(refusal)) => Ok(Some(refusal)),
+        Err(PumpError::Sink(fault)) => Err(fault),
+        Err(PumpError::ReadFault) => unreachable!(),
+        Err(PumpError::Turns) => unreachable!(),
+    }
 }
 
 /// A stream that is read by one rule set, as its bytes come.
@@ -55,7 +79,8 @@ impl Reading {
     /// `AllocError` when out of memory.
     pub fn new(alloc: Global, own: Own) -> Result<Reading, AllocError>
         requires { (1 ≤ own.limit) × (own.limit ≤ 1048576) }
-        ensures { IfOk result (λ reading. IsJudged own [] [] reading) }
+        ensures judged { IfOk result (λ reading. IsJudged own [] [] reading) }
+        ensures open { IfOk result (λ reading. reading.refused ≡ None) }
     {
         match Feed::new(alloc, own) {
             Ok(feed) => Ok(Reading {
@@ -63,6 +88,42 @@ impl Reading {
                 refused: None,
             }),
             Err(_) => Err(AllocError),
+        }
+    }
+
+    /// Returns how many bytes were taken, but for those after a refusal.
+    fn count(&self) -> u64
+        ensures { result ≡ start_of self.now.feed.stage + length self.now.feed.held }
+    {
+        self.feed.start() + self.feed.held() as u64
+    }
+
+    /// Takes the next bytes up to the one with which the stream is refused, and returns how many these are.
+    ///
+    /// # Errors
+    /// The fault of the sink.
+    pub(crate) fn take_front<S: Sink>(
+        &mut self,
+        bytes: &[u8],
+        sink: &mut S,
+    ) -> Result<usize, SinkFault>
+        ensures judged { (own : Own) (b : List ℕ) (xs : List (ℕ × Item)) → IsJudged own b xs self.old → self.old.refused ≡ None
+            → (ys : List (ℕ × Item))
+            × MatchResult result
+            (λ n. Took S.takes sink.old ys sink.new × (self.new.refused ≡ None → n ≡ length bytes.now) × IsJudgedTo own (b ++ take n bytes.now) (xs ++ ys) self.new)
+            (λ e. IsMissed S.takes S.misses e sink.old ys sink.new × Begins own (b ++ bytes.now) (xs ++ ys) self.new.feed.stage) }
+        ensures within { IfOk result (λ n. n ≤ length bytes.now) }
+        ensures calm { OnOk result (S.failed sink.new ≡ S.failed sink.old) }
+        ensures sink { OnErr result (Grew (S.failed sink.old) (S.failed sink.new)) }
+    {
+        let before = self.count();
+        match read(&mut self.feed, bytes, sink) {
+            Ok(None) => Ok(bytes.len()),
+            Ok(Some(refusal)) => {
+                self.refused = Some(refusal);
+                Ok(self.count().saturating_sub(before) as usize)
+            }
+            Err(fault) => Err(fault),
         }
     }
 
@@ -84,15 +145,36 @@ impl Reading {
         if self.refused.is_some() {
             return Ok(());
         }
-        match pump_piece(&mut self.feed, sink, bytes) {
-            Ok(()) => Ok(()),
-            Err(PumpError::Refused(refusal)) => {
-                self.refused = Some(refusal);
-                Ok(())
-            }
-            Err(PumpError::Sink(fault)) => Err(fault),
-            Err(PumpError::ReadFault) => unreachable!(),
-            Err(PumpError::Turns) => unreachable!(),
+        match self.take_front(bytes, sink) {
+            Ok(_) => Ok(()),
+            Err(fault) => Err(fault),
+        }
+    }
+
+    /// Reads the current item anew by the lenient rules, and gives it to the sink if it is whole by them.
+    ///
+    /// The items before it are the same by both rule sets. As much memory is reserved as for this reading.
+    ///
+    /// # Errors
+    /// `Memory` when out of memory. `Sink` with the fault of the sink.
+    pub(crate) fn lenient<S: Sink>(
+        &self,
+        alloc: Global,
+        sink: &mut S,
+    ) -> Result<Reading, JudgeFault>
+        ensures judged { (own : Own) (b : List ℕ) (xs : List (ℕ × Item)) → IsJudgedTo own b xs self.now
+            → (more : List (ℕ × Item))
+            × MatchResult result
+            (λ free. Took S.takes sink.old more sink.new × IsJudged (record own { rules = Free }) b (xs ++ more) free)
+            (λ e. IsStopped S.takes S.misses e sink.old more sink.new × ((u : Stage) × Begins (record own { rules = Free }) b (xs ++ more) u)) }
+        ensures failed { HasFailed result (S.failed sink.old) (S.failed sink.new) }
+    {
+        let Ok(mut feed) = self.feed.by_rules(alloc, Rules::Free) else {
+            return Err(JudgeFault::Memory);
+        };
+        match read(&mut feed, self.feed.buffered(), sink) {
+            Ok(refused) => Ok(Reading { feed, refused }),
+            Err(fault) => Err(JudgeFault::Sink(fault)),
         }
     }
 
@@ -133,7 +215,8 @@ impl Reading {
 
     /// Returns the refusal of the stream that no further byte undoes, if there is one.
     pub fn refusal(&self) -> Option<Refusal>
-        ensures { (own : Own) (b : List ℕ) (xs : List (ℕ × Item)) → IsJudged own b xs self.now → IsStanding own b result }
+        ensures stands { (own : Own) (b : List ℕ) (xs : List (ℕ × Item)) → IsJudged own b xs self.now → IsStanding own b result }
+        ensures kept { result ≡ self.now.refused }
     {
         self.refused
     }

@@ -1,5 +1,6 @@
 -- Extension headers of IPv6.
-use Rattle.std.proofs.Common.{◌≡◌, ℕ, zero, suc, ◌+◌, ◌-◌, ◌*◌, ◌<◌, ◌≤◌, List, [], ◌∷◌, length, get_or, take, drop, Option, Some, None, true, false, option_and_then, ap, sym, ◌∙◌, refl, arith, if◌then◌else◌, nat_le, Bool}
+use Rattle.std.proofs.Common.{◌≡◌, ℕ, zero, suc, ◌+◌, ◌-◌, ◌*◌, ◌<◌, ◌≤◌, nat_le, Bool, true, false, if◌then◌else◌, List, [], ◌∷◌, length, get_or, take, drop}
+use Rattle.std.proofs.Common.{Option, Some, None, option_and_then, ap, sym, ◌∙◌, refl, arith}
 use Rattle.std.proofs.lemmas.List.{take_rest, length-drop}
 use Rattle.bt_packet.specs.Bytes.{after}
 use Rattle.bt_packet.specs.Ip.{is_extension, upper}
@@ -56,18 +57,22 @@ unfolding upper
 enough k n m protocol [] hk hn hm = upper_nil n m protocol
 enough k n m protocol (a ∷ []) hk hn hm = upper_one n m protocol a
 enough (suc k) (suc n) (suc m) protocol (a ∷ b ∷ rest) hk hn hm =
+    let alike : (r : List ℕ) → after (8 * b + 6) rest ≡ Some r → upper n a r ≡ upper m a r = (λ r e. (
+    let s : length r ≤ length rest = after_shorter (8 * b + 6) rest r e in enough k n m a r (omega arith) (omega arith) (omega arith))) in
     ap (λ (x : Option (ℕ × List ℕ)). if is_extension protocol then x else Some (protocol, a ∷ b ∷ rest))
-    (bind_same (upper n a) (upper m a) (after (8 * b + 6) rest) (λ r e. let s : length r ≤ length rest = after_shorter (8 * b + 6) rest r e in enough k n m a r (omega arith) (omega arith) (omega arith)))
+    (bind_same (upper n a) (upper m a) (after (8 * b + 6) rest) alike)
 enough zero n m protocol (a ∷ b ∷ rest) hk hn hm = absurd (omega arith)
 enough (suc k) zero m protocol (a ∷ b ∷ rest) hk hn hm = absurd (omega arith)
 enough (suc k) (suc n) zero protocol (a ∷ b ∷ rest) hk hn hm = absurd (omega arith)
 
-pub upper_step : (protocol next words : ℕ) (bytes rest : List ℕ) → is_extension protocol ≡ true → 2 ≤ length bytes → next ≡ get_or bytes 0 0 → words ≡ get_or bytes 1 0
+pub upper_step : (protocol next words : ℕ) (bytes rest : List ℕ)
+    → is_extension protocol ≡ true → 2 ≤ length bytes → next ≡ get_or bytes 0 0 → words ≡ get_or bytes 1 0
     → Some rest ≡ after (8 * words + 6) (take (length bytes - 2) (drop 2 bytes)) → upper (length bytes) protocol bytes ≡ upper (length rest) next rest
 upper_step protocol next words (a ∷ b ∷ tail) rest e h is_next is_words is =
     let is' : after (8 * words + 6) tail ≡ Some rest = sym (is ∙ ap (after (8 * words + 6)) (take_rest (a ∷ b ∷ tail) 2)) in
     let short : length rest ≤ length tail = after_shorter (8 * words + 6) tail rest is' in
-    let from : upper (suc (length tail)) next rest ≡ upper (length rest) next rest = enough (length rest) (suc (length tail)) (length rest) next rest (omega arith) (omega arith) (omega arith) in
+    let from : upper (suc (length tail)) next rest ≡ upper (length rest) next rest =
+    enough (length rest) (suc (length tail)) (length rest) next rest (omega arith) (omega arith) (omega arith) in
     rw (upper_next (suc (length tail)) protocol a b tail e, ← is_next, ← is_words, is') from
 upper_step protocol next words (a ∷ []) rest e h is_next is_words is = absurd (omega arith)
 upper_step protocol next words [] rest e h is_next is_words is = absurd (omega arith)

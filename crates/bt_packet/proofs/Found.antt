@@ -103,7 +103,15 @@ cooked_found [] packet e = absurd cc
 cooked_found (a ∷ []) packet e = absurd cc
 cooked_found (a ∷ b ∷ more) packet e =
     then_some (after_type (word a b)) (after 18 more) packet e
-    (λ rest is t. record { a = a; b = b; more = more; rest = rest; is = refl; header = after_found 18 more rest is; typed = typed_found (a ∷ b ∷ rest) packet (after_typed a b rest packet t) })
+    (λ rest is t. record {
+      a = a;
+      b = b;
+      more = more;
+      rest = rest;
+      is = refl;
+      header = after_found 18 more rest is;
+      typed = typed_found (a ∷ b ∷ rest) packet (after_typed a b rest packet t);
+    })
 
 pub branch : {A P : Type 0} (b : Bool) (x y z : A) → (if b then x else y) ≡ z → (b ≡ true → x ≡ z → P) → (b ≡ false → y ≡ z → P) → P
 branch true x y z e k l = k refl e
@@ -112,9 +120,11 @@ branch false x y z e k l = l refl e
 pub packet_found : (link : ℕ) (bytes packet : List ℕ) → packet_in link bytes ≡ Some packet → IsPacket link bytes packet
 packet_found link bytes packet e =
     branch (link == 1) _ _ (Some packet) e
-    (λ l f. then_some typed (after 12 bytes) packet f (λ rest is t. ethernet rest (eqb-true link 1 l) (after_found 12 bytes rest is) (typed_found rest packet t)))
+    (λ l f. then_some typed (after 12 bytes) packet f
+    (λ rest is t. ethernet rest (eqb-true link 1 l) (after_found 12 bytes rest is) (typed_found rest packet t)))
     (λ l f. branch (link == 113) _ _ (Some packet) f
-    (λ l f. then_some typed (after 14 bytes) packet f (λ rest is t. cooked rest (eqb-true link 113 l) (after_found 14 bytes rest is) (typed_found rest packet t)))
+    (λ l f. then_some typed (after 14 bytes) packet f
+    (λ rest is t. cooked rest (eqb-true link 113 l) (after_found 14 bytes rest is) (typed_found rest packet t)))
     (λ l f. branch (link == 276) _ _ (Some packet) f
     (λ l f. cooked_2 (eqb-true link 276 l) (cooked_found bytes packet f))
     (λ l f. branch (is_loopback link) _ _ (Some packet) f

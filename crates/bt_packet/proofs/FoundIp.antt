@@ -5,7 +5,8 @@ use Rattle.std.proofs.Math.ListN.{drop_of_length-le}
 use Rattle.std.proofs.lemmas.Bool.{cases_Bool, cases_lt}
 use Rattle.std.proofs.lemmas.List.{take-append-drop, length-take-le, length-drop, drop-drop}
 use Rattle.bt_packet.specs.Bytes.{word, after}
-use Rattle.bt_packet.specs.Ip.{Contents, is_fragment, total_of, ipv4, ipv4_header, ipv4_payload, ipv4_carried, ipv4_whole, is_extension, upper, ipv6, ipv6_carried, ipv6_whole, ip, ip_after, carried}
+use Rattle.bt_packet.specs.Ip.{Contents, is_fragment, total_of, ipv4, ipv4_header, ipv4_payload, ipv4_carried, ipv4_whole}
+use Rattle.bt_packet.specs.Ip.{is_extension, upper, ipv6, ipv6_carried, ipv6_whole, ip, ip_after, carried}
 use Rattle.bt_packet.specs.Links.{packet_in}
 use Rattle.bt_packet.specs.Tcp.{TcpSegment, tcp, segment_in, segment_of}
 use Rattle.bt_packet.specs.Frames.{Extension, first_of, extended, AreExtensions, Tcp, tcp_bytes, said}
@@ -45,13 +46,17 @@ body_found header total rest payload e =
 pub ipv4_found : (wire : ℕ) (p : List ℕ) (c : Contents) → ipv4 wire p ≡ Some c → (first : ℕ) (rest : List ℕ) → p ≡ first ∷ rest → first / 16 ≡ 4 → IsV4 wire p c
 unfolding ipv4
 ipv4_found wire (a ∷ b ∷ t0 ∷ t1 ∷ e ∷ f ∷ g ∷ h ∷ i ∷ j ∷ k ∷ l ∷ m ∷ n ∷ o ∷ p ∷ q ∷ r ∷ s ∷ t ∷ rest) c is first more same version =
-    let w : (is_fragment (word g h) ≡ false) × (ipv4_whole (ipv4_header a) (total_of (word t0 t1) wire) j (V4 (m ∷ n ∷ o ∷ p ∷ [])) (V4 (q ∷ r ∷ s ∷ t ∷ [])) rest ≡ Some c) =
-    if_none (is_fragment (word g h)) (ipv4_whole (ipv4_header a) (total_of (word t0 t1) wire) j (V4 (m ∷ n ∷ o ∷ p ∷ [])) (V4 (q ∷ r ∷ s ∷ t ∷ [])) rest) c is in
-    map_some (ipv4_carried j (V4 (m ∷ n ∷ o ∷ p ∷ [])) (V4 (q ∷ r ∷ s ∷ t ∷ [])) (total_of (word t0 t1) wire - ipv4_header a)) (ipv4_payload (ipv4_header a) (total_of (word t0 t1) wire) rest) c w.1
-    (λ payload pays says. (let y : Body (ipv4_header a) (total_of (word t0 t1) wire) rest payload = body_found (ipv4_header a) (total_of (word t0 t1) wire) rest payload pays in
+    let header : ℕ = ipv4_header a in
+    let total' : ℕ = total_of (word t0 t1) wire in
+    let source : Host = V4 (m ∷ n ∷ o ∷ p ∷ []) in
+    let target : Host = V4 (q ∷ r ∷ s ∷ t ∷ []) in
+    let w : (is_fragment (word g h) ≡ false) × (ipv4_whole header total' j source target rest ≡ Some c) =
+    if_none (is_fragment (word g h)) (ipv4_whole header total' j source target rest) c is in
+    map_some (ipv4_carried j source target (total' - header)) (ipv4_payload header total' rest) c w.1
+    (λ payload pays says. (let y : Body header total' rest payload = body_found header total' rest payload pays in
     let head : first ≡ a = cc in
-    let size : total_of (word t0 t1) wire - ipv4_header a ≡ c.size = ap (λ (x : Contents). x.size) says in
-    let total : total_of (word t0 t1) wire ≡ 20 + length y.options + c.size = omega (arith, y.header_is, y.within, size) in
+    let size : total' - header ≡ c.size = ap (λ (x : Contents). x.size) says in
+    let total : total' ≡ 20 + length y.options + c.size = omega (arith, y.header_is, y.within, size) in
     let held : payload ≡ c.payload = ap (λ (x : Contents). x.payload) says in
     let cut : IsPayload c.size y.more c.payload = rw (← size, ← held) y.cut in
     record {
@@ -145,8 +150,8 @@ ipv6_found wire (a ∷ b ∷ f0 ∷ f1 ∷ l0 ∷ l1 ∷ next ∷ limit ∷ rest
     if_none (nat_lt (length rest) 32) (ipv6_whole next (V6 source) (V6 target) size payload) c is in
     let long : 32 ≤ length rest = ltb-false (length rest) 32 w.0 in
     let head : first ≡ a = cc in
-    let cut : rest ≡ source ++ (target ++ drop 32 rest) =
-    sym (take-append-drop 16 rest) ∙ ap (λ (x : List ℕ). source ++ x) (sym (take-append-drop 16 (drop 16 rest)) ∙ ap (λ (x : List ℕ). target ++ x) (drop-drop 16 16 rest)) in
+    let cut' : drop 16 rest ≡ target ++ drop 32 rest = sym (take-append-drop 16 (drop 16 rest)) ∙ ap (λ (x : List ℕ). target ++ x) (drop-drop 16 16 rest) in
+    let cut : rest ≡ source ++ (target ++ drop 32 rest) = sym (take-append-drop 16 rest) ∙ ap (λ (x : List ℕ). source ++ x) cut' in
     map_some (ipv6_carried (V6 source) (V6 target) size payload) (upper (length payload) next payload) c w.1
     (λ q found says. (let k : Chain next payload q.0 q.1 = chain_found (length payload) next payload q found in
     let last : q.0 ≡ c.protocol = ap (λ (x : Contents). x.protocol) says in
@@ -202,7 +207,8 @@ with_data : (header : ℕ) (options x y : List ℕ) → x ≡ y → HasOptions h
 with_data header options x y e h = rw (← e) h
 
 pub tcp_found : (source target : Host) (size : ℕ) (p : List ℕ) (s : TcpSegment) → tcp source target size p ≡ Some s
-    → (t : Tcp) × (p ≡ tcp_bytes t s.payload) × HasOptions (4 * (t.offset / 16)) t.options s.payload × (s ≡ said source target t s.payload (size - 4 * (t.offset / 16)))
+    → (t : Tcp) × (p ≡ tcp_bytes t s.payload) × HasOptions (4 * (t.offset / 16)) t.options s.payload
+    × (s ≡ said source target t s.payload (size - 4 * (t.offset / 16)))
 unfolding tcp
 tcp_found source target size (a ∷ b ∷ c ∷ d ∷ e ∷ f ∷ g ∷ h ∷ i ∷ j ∷ k ∷ l ∷ m ∷ n ∷ o ∷ p ∷ q ∷ r ∷ u ∷ v ∷ rest) s is =
     let header : ℕ = 4 * (m / 16) in

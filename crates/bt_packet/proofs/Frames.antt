@@ -9,7 +9,9 @@ use Rattle.bt_packet.specs.Bytes.{word, after}
 use Rattle.bt_packet.specs.Links.{is_tag, after_type, typed, packet_in}
 use Rattle.bt_packet.specs.Ip.{ipv4, ipv4_payload, ipv4_carried, total_of, ipv6, ipv6_whole, ipv6_carried, ip, upper, is_extension, ip_after, carried}
 use Rattle.bt_packet.specs.Tcp.{tcp, segment_in, segment_of}
-use Rattle.bt_packet.specs.Frames.{Tag, tagged, AreTags, Ipv4, ipv4_bytes, IsIpv4, ipv4_source, ipv4_target, ipv4_frame, Ipv6, ipv6_frame, Extension, first_of, extended, AreExtensions, ipv6_bytes, IsIpv6, Tcp, tcp_bytes, IsTcp, said, Ipv4IsRead, CutIsRead, Ipv6IsRead}
+use Rattle.bt_packet.specs.Frames.{Tag, tagged, AreTags, Ipv4, ipv4_bytes, IsIpv4, ipv4_source, ipv4_target, ipv4_frame}
+use Rattle.bt_packet.specs.Frames.{Ipv6, ipv6_frame, Extension, first_of, extended, AreExtensions, ipv6_bytes, IsIpv6}
+use Rattle.bt_packet.specs.Frames.{Tcp, tcp_bytes, IsTcp, said, Ipv4IsRead, CutIsRead, Ipv6IsRead}
 use Rattle.bt_packet.specs.declared.address.Host.{Host}
 use Rattle.bt_packet.specs.declared.address.Host.TheVariants.{V6}
 
@@ -79,9 +81,11 @@ ipv4_given : (h : Ipv4) (size wire : ℕ) (rest : List ℕ) → IsIpv4 h size
     → ip wire (ipv4_bytes h rest) ≡ Some (ipv4_carried h.protocol (ipv4_source h) (ipv4_target h) size (take size rest))
 unfolding ip ipv4
 ipv4_given h size wire rest is =
-    let total : total_of (word h.t0 h.t1) wire ≡ 20 + length h.options + size = total_given (word h.t0 h.t1) wire (length h.options + size) (omega (arith, is.total_length)) ∙ is.total_length in
-    let left : 20 + length h.options + size - (20 + length h.options) ≡ size = omega arith in
-    let p : ipv4_payload (20 + length h.options) (20 + length h.options + size) (h.options ++ rest) ≡ Some (take size rest) = payload_given _ _ h.options rest size refl refl in
+    let header : ℕ = 20 + length h.options in
+    let total : total_of (word h.t0 h.t1) wire ≡ header + size =
+    total_given (word h.t0 h.t1) wire (length h.options + size) (omega (arith, is.total_length)) ∙ is.total_length in
+    let left : header + size - header ≡ size = omega arith in
+    let p : ipv4_payload header (header + size) (h.options ++ rest) ≡ Some (take size rest) = payload_given _ _ h.options rest size refl refl in
     rw (is.version, is.whole, total, is.header_length, p, left) refl
 
 -- what TCP makes of a packet of IPv4
@@ -160,7 +164,9 @@ ipv6_read addresses tags h es t payload padding wire e are is exts tcp_is =
     let m : length (tcp_bytes t payload) ≤ length X = length_extended es 6 (tcp_bytes t payload) in
     let p : packet_in 1 bytes ≡ Some packet = ethernet_read addresses tags 0x86 0xdd packet e are ∙ typed_ipv6 packet in
     let cut : take (length X) rest ≡ X =
-    ap (λ (x : List ℕ). take (length X) (extended es 6 x)) (tcp_pad t payload padding) ∙ ap (take (length X)) (extended_pad es 6 (tcp_bytes t payload) padding) ∙ take-append_seam X padding in
+    ap (λ (x : List ℕ). take (length X) (extended es 6 x)) (tcp_pad t payload padding)
+    ∙ ap (take (length X)) (extended_pad es 6 (tcp_bytes t payload) padding)
+    ∙ take-append_seam X padding in
     let c : carried 1 bytes wire ≡ Some (ipv6_carried (V6 h.source) (V6 h.target) (length X) X (6, tcp_bytes t payload)) =
     ap (option_and_then (ip_after wire bytes)) p ∙ ipv6_given h (first_of es 6) (length X) _ rest is
     ∙ ap (ipv6_whole (first_of es 6) (V6 h.source) (V6 h.target) (length X)) cut

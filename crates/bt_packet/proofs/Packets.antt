@@ -1,5 +1,6 @@
 -- What the definitions on packets give, case by case.
-use Rattle.std.proofs.Common.{◌≡◌, ℕ, ◌+◌, ◌-◌, ◌/◌, ◌<◌, ◌≤◌, List, [], ◌∷◌, length, get_or, take, drop, Some, None, true, false, ap, sym, ◌∙◌, refl, arith, if◌then◌else◌, nat_lt, ◌==◌, inl, inr, lt-ltb, le-ltb}
+use Rattle.std.proofs.Common.{◌≡◌, ℕ, ◌+◌, ◌-◌, ◌/◌, ◌<◌, ◌≤◌, ◌==◌, nat_lt, true, false, if◌then◌else◌, List, [], ◌∷◌, length, get_or, take, drop}
+use Rattle.std.proofs.Common.{Some, None, ap, sym, ◌∙◌, refl, arith, inl, inr, lt-ltb, le-ltb}
 use Rattle.std.proofs.lemmas.Bool.{cases_lt}
 use Rattle.std.proofs.lemmas.List.{take_rest, drop-drop, length-drop}
 use Rattle.bt_packet.specs.Bytes.{word}
@@ -19,7 +20,8 @@ ipv4_short _ wire short = refl
 -- what a packet of 20 bytes and more carries
 pub ipv4_read : (p : List ℕ) (wire : ℕ) → 20 ≤ length p
     → ipv4 wire p ≡ (if is_fragment (word (get_or p 6 0) (get_or p 7 0)) then None
-    else ipv4_whole (ipv4_header (get_or p 0 0)) (total_of (word (get_or p 2 0) (get_or p 3 0)) wire) (get_or p 9 0) (host_at p 12) (host_at p 16) (take (length p - 20) (drop 20 p)))
+    else ipv4_whole (ipv4_header (get_or p 0 0)) (total_of (word (get_or p 2 0) (get_or p 3 0)) wire) (get_or p 9 0)
+    (host_at p 12) (host_at p 16) (take (length p - 20) (drop 20 p)))
 unfolding ipv4
 ipv4_read (a ∷ b ∷ c ∷ d ∷ e ∷ f ∷ g ∷ h ∷ i ∷ j ∷ k ∷ l ∷ m ∷ n ∷ o ∷ p ∷ q ∷ r ∷ s ∷ t ∷ rest) wire enough =
     rw (take_rest (a ∷ b ∷ c ∷ d ∷ e ∷ f ∷ g ∷ h ∷ i ∷ j ∷ k ∷ l ∷ m ∷ n ∷ o ∷ p ∷ q ∷ r ∷ s ∷ t ∷ rest) 20) refl
@@ -47,7 +49,8 @@ long p rest source rest2 target rest3 a = let r : rest ≡ drop 12 p = a.rest_is
 pub ipv4_fragment : (p rest source rest2 target rest3 : List ℕ) (wire flags : ℕ) → AreParts p rest source rest2 target rest3
     → flags ≡ word (get_or p 6 0) (get_or p 7 0) → is_fragment flags ≡ true → None ≡ ipv4 wire p
 ipv4_fragment p rest source rest2 target rest3 wire flags a e fragment =
-    let f : is_fragment (word (get_or p 6 0) (get_or p 7 0)) ≡ true = rw (← e) fragment in rw (ipv4_read p wire (long p rest source rest2 target rest3 a), f) refl
+    let f : is_fragment (word (get_or p 6 0) (get_or p 7 0)) ≡ true = rw (← e) fragment in
+    rw (ipv4_read p wire (long p rest source rest2 target rest3 a), f) refl
 
 -- a packet that is no fragment
 pub ipv4_kept : (p rest source rest2 target rest3 : List ℕ) (wire flags said total header : ℕ) → AreParts p rest source rest2 target rest3
@@ -101,7 +104,8 @@ ipv6_kept p rest rest2 rest3 source target payload wire said size enough e z r s
 
 pub ipv6_some : (source target payload above : List ℕ) (next protocol size left : ℕ) → Some (protocol, above) ≡ upper (length payload) next payload
     → left ≡ size - (length payload - length above)
-    → Some (record { protocol = protocol; source = V6 source; target = V6 target; payload = above; size = left }) ≡ ipv6_whole next (V6 source) (V6 target) size payload
+    → Some (record { protocol = protocol; source = V6 source; target = V6 target; payload = above; size = left })
+    ≡ ipv6_whole next (V6 source) (V6 target) size payload
 ipv6_some source target payload above next protocol size left some e = rw (e, ← some) refl
 
 -- ---- the version

@@ -10,7 +10,8 @@ use Rattle.bt_packet.specs.Links.{is_tag, is_ip, after_type, typed, cooked as co
 use Rattle.bt_packet.specs.Ip.{Contents, ipv4, ipv4_payload, ipv4_carried, upper, ipv6, ipv6_carried, ipv6_whole, ip, ip_after, carried}
 use Rattle.bt_packet.specs.Tcp.{TcpSegment, tcp, segment_in, segment_of}
 use Rattle.bt_packet.specs.Frames.{Ipv4, ipv4_bytes, ipv4_source, ipv4_target, Ipv6, ipv6_bytes, first_of, Tcp, tcp_bytes, said}
-use Rattle.bt_packet.specs.Segments.{Follows, IsTyped, IsCooked, IsPacket, IsPayload, ethernet, cooked, cooked_2, loopback, raw, whole, cut, IsV4, IsV6, IsIp, version_4, version_6, HasOptions, IsTcpSegment, IsCarriedBy, IsSegmentOf}
+use Rattle.bt_packet.specs.Segments.{Follows, IsTyped, IsCooked, IsPacket, IsPayload, ethernet, cooked, cooked_2, loopback, raw, whole, cut}
+use Rattle.bt_packet.specs.Segments.{IsV4, IsV6, IsIp, version_4, version_6, HasOptions, IsTcpSegment, IsCarriedBy, IsSegmentOf}
 use Rattle.bt_packet.specs.declared.address.Host.{Host}
 use Rattle.bt_packet.specs.declared.address.Host.TheVariants.{V6}
 use Rattle.bt_packet.proofs.Types.{after_ip}
@@ -121,7 +122,8 @@ ip_read wire p c (version_6 i) = v6_read wire p c i
 
 -- ---- TCP
 
-options_read : (header : ℕ) (options payload : List ℕ) → HasOptions header options payload → (5 * 4 ≤ header) × (drop (header - 20) (options ++ payload) ≡ payload)
+options_read : (header : ℕ) (options payload : List ℕ) → HasOptions header options payload
+    → (5 * 4 ≤ header) × (drop (header - 20) (options ++ payload) ≡ payload)
 options_read header options payload (inl e) =
     let o : header - 20 ≡ length options = omega arith in (omega arith, rw o (drop-append_seam options payload))
 options_read header options payload (inr h) =
@@ -133,7 +135,8 @@ tcp_given : (source target : Host) (size : ℕ) (t : Tcp) (payload : List ℕ) �
     → tcp source target size (tcp_bytes t payload) ≡ Some (said source target t payload (size - 4 * (t.offset / 16)))
 unfolding tcp
 tcp_given source target size t payload o =
-    let p : (5 * 4 ≤ 4 * (t.offset / 16)) × (drop (4 * (t.offset / 16) - 20) (t.options ++ payload) ≡ payload) = options_read (4 * (t.offset / 16)) t.options payload o in
+    let header : ℕ = 4 * (t.offset / 16) in
+    let p : (5 * 4 ≤ header) × (drop (header - 20) (t.options ++ payload) ≡ payload) = options_read header t.options payload o in
     let high : nat_lt (t.offset / 16) 5 ≡ false = le-ltb (t.offset / 16) 5 (omega (arith, p.0)) in
     rw (high, p.1) refl
 
@@ -143,7 +146,8 @@ segment_in_read c s i =
     rw six (ap (tcp c.source c.target c.size) i.is ∙ tcp_given c.source c.target c.size i.t s.payload i.options ∙ ap (λ (x : TcpSegment). Some x) (sym i.says))
 
 pub carried_read : (link : ℕ) (bytes : List ℕ) (wire : ℕ) (c : Contents) → IsCarriedBy link bytes wire c → carried link bytes wire ≡ Some c
-carried_read link bytes wire c i = ap (option_and_then (ip_after wire bytes)) (packet_read link bytes i.packet i.has_packet) ∙ ip_read _ i.packet c i.has_contents
+carried_read link bytes wire c i =
+    ap (option_and_then (ip_after wire bytes)) (packet_read link bytes i.packet i.has_packet) ∙ ip_read _ i.packet c i.has_contents
 
 pub segment_read : (link : ℕ) (bytes : List ℕ) (wire : ℕ) (s : TcpSegment) → IsSegmentOf link bytes wire s → segment_of link bytes wire ≡ Some s
 segment_read link bytes wire s i =

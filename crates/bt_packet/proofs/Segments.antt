@@ -1,5 +1,6 @@
 -- What the definitions on headers of TCP and uTP give, case by case.
-use Rattle.std.proofs.Common.{◌≡◌, ℕ, ◌-◌, ◌*◌, ◌/◌, ◌<◌, ◌≤◌, List, ◌∷◌, length, get_or, take, drop, Option, Some, None, true, false, refl, ap, ◌+◌, ◌∙◌, arith, lt-ltb, le-ltb, nat_lt}
+use Rattle.std.proofs.Common.{◌≡◌, ℕ, ◌+◌, ◌-◌, ◌*◌, ◌/◌, ◌<◌, ◌≤◌, nat_lt, true, false, List, ◌∷◌, length, get_or, take, drop}
+use Rattle.std.proofs.Common.{Option, Some, None, refl, ap, ◌∙◌, arith, lt-ltb, le-ltb}
 use Rattle.std.proofs.lemmas.List.{take_rest, drop-drop, get_or-drop, length-drop}
 use Rattle.bt_packet.specs.Bytes.{word, long_word}
 use Rattle.bt_packet.specs.Tcp.{tcp, port_of, flags_of, acked_of, has_bit}
@@ -49,10 +50,12 @@ tcp_whole source target size (a ∷ b ∷ c ∷ d ∷ e ∷ f ∷ g ∷ h ∷ i 
 tcp_whole source target size _ enough high = absurd (omega arith)
 
 -- what a whole header says
-pub tcp_read : (source target : Host) (size : ℕ) (p rest : List ℕ) (from to sequence number header left : ℕ) (acked : Option ℕ) (flags : Flags) (payload : List ℕ)
+pub tcp_read : (source target : Host) (size : ℕ) (p rest : List ℕ) (from to sequence number header left : ℕ) (acked : Option ℕ)
+    (flags : Flags) (payload : List ℕ)
     → 12 ≤ length p → rest ≡ take (length p - 12) (drop 12 p) → 8 ≤ length rest → 5 ≤ get_or rest 0 0 / 16
     → from ≡ word (get_or p 0 0) (get_or p 1 0) → to ≡ word (get_or p 2 0) (get_or p 3 0)
-    → sequence ≡ long_word (get_or p 4 0) (get_or p 5 0) (get_or p 6 0) (get_or p 7 0) → number ≡ long_word (get_or p 8 0) (get_or p 9 0) (get_or p 10 0) (get_or p 11 0)
+    → sequence ≡ long_word (get_or p 4 0) (get_or p 5 0) (get_or p 6 0) (get_or p 7 0)
+    → number ≡ long_word (get_or p 8 0) (get_or p 9 0) (get_or p 10 0) (get_or p 11 0)
     → flags ≡ flags_of (get_or rest 1 0) → acked ≡ acked_of flags.ack number → header ≡ 4 * (get_or rest 0 0 / 16)
     → payload ≡ drop (header - 20) (take (length rest - 8) (drop 8 rest)) → left ≡ size - header
     → Some (record {
@@ -78,20 +81,26 @@ unfolding utp
 utp_short source target (a ∷ b ∷ c ∷ d ∷ e ∷ f ∷ g ∷ h ∷ i ∷ j ∷ k ∷ l ∷ rest) short = absurd (omega arith)
 utp_short source target _ short = refl
 
-pub utp_none : (source target : Host) (p : List ℕ) → 12 ≤ length p → is_header (get_or p 8 0) (get_or p 9 0) (take (length p - 12) (drop 12 p)) ≡ false → utp source target p ≡ None
+pub utp_none : (source target : Host) (p : List ℕ)
+    → 12 ≤ length p → is_header (get_or p 8 0) (get_or p 9 0) (take (length p - 12) (drop 12 p)) ≡ false → utp source target p ≡ None
 unfolding utp
 utp_none source target (a ∷ b ∷ c ∷ d ∷ e ∷ f ∷ g ∷ h ∷ i ∷ j ∷ k ∷ l ∷ rest) enough wrong =
     let wrong' : is_header i j rest ≡ false = rw (take_rest (a ∷ b ∷ c ∷ d ∷ e ∷ f ∷ g ∷ h ∷ i ∷ j ∷ k ∷ l ∷ rest) 12) at wrong in rw wrong' refl
 utp_none source target _ enough wrong = absurd (omega arith)
 
 utp_whole : (source target : Host) (p : List ℕ) → 12 ≤ length p → is_header (get_or p 8 0) (get_or p 9 0) (take (length p - 12) (drop 12 p)) ≡ true
-    → utp source target p ≡ Some (record { source = port_of source (get_or p 0 0) (get_or p 1 0); target = port_of target (get_or p 2 0) (get_or p 3 0); id = word (get_or p 10 0) (get_or p 11 0) })
+    → utp source target p ≡ Some (record {
+      source = port_of source (get_or p 0 0) (get_or p 1 0);
+      target = port_of target (get_or p 2 0) (get_or p 3 0);
+      id = word (get_or p 10 0) (get_or p 11 0);
+    })
 unfolding utp
 utp_whole source target (a ∷ b ∷ c ∷ d ∷ e ∷ f ∷ g ∷ h ∷ i ∷ j ∷ k ∷ l ∷ rest) enough right =
     let right' : is_header i j rest ≡ true = rw (take_rest (a ∷ b ∷ c ∷ d ∷ e ∷ f ∷ g ∷ h ∷ i ∷ j ∷ k ∷ l ∷ rest) 12) at right in rw right' refl
 utp_whole source target _ enough right = absurd (omega arith)
 
-pub utp_read : (source target : Host) (p : List ℕ) (from to id : ℕ) → 12 ≤ length p → is_header (get_or p 8 0) (get_or p 9 0) (take (length p - 12) (drop 12 p)) ≡ true
+pub utp_read : (source target : Host) (p : List ℕ) (from to id : ℕ)
+    → 12 ≤ length p → is_header (get_or p 8 0) (get_or p 9 0) (take (length p - 12) (drop 12 p)) ≡ true
     → from ≡ word (get_or p 0 0) (get_or p 1 0) → to ≡ word (get_or p 2 0) (get_or p 3 0) → id ≡ word (get_or p 10 0) (get_or p 11 0)
     → Some (record { source = record { host = source; port = from }; target = record { host = target; port = to }; id = id }) ≡ utp source target p
 utp_read source target p from to id enough right f t i = rw (utp_whole source target p enough right, f, t, i) refl

@@ -1,5 +1,6 @@
 -- What the definitions on types give, case by case.
-use Rattle.std.proofs.Common.{◌≡◌, ℕ, ◌-◌, ◌<◌, ◌≤◌, List, [], ◌∷◌, length, get_or, take, drop, Some, None, true, false, option_and_then, ap, sym, ◌∙◌, refl, arith}
+use Rattle.std.proofs.Common.{◌≡◌, ℕ, ◌-◌, ◌<◌, ◌≤◌, true, false, List, [], ◌∷◌, length, get_or, take, drop}
+use Rattle.std.proofs.Common.{Some, None, option_and_then, ap, sym, ◌∙◌, refl, arith}
 use Rattle.std.proofs.lemmas.List.{take_rest, length-drop}
 use Rattle.bt_packet.specs.Bytes.{word, after}
 use Rattle.bt_packet.specs.Links.{is_tag, is_ip, after_type, typed, cooked}
@@ -72,7 +73,9 @@ cooked_cut (a ∷ []) h = refl
 cooked_cut [] h = refl
 
 pub cooked_short : (bytes : List ℕ) → 2 ≤ length bytes → after 18 (take (length bytes - 2) (drop 2 bytes)) ≡ None → cooked bytes ≡ None
-cooked_short bytes h e = cooked_whole bytes (word (get_or bytes 0 0) (get_or bytes 1 0)) h refl ∙ ap (option_and_then (after_type (word (get_or bytes 0 0) (get_or bytes 1 0)))) e
+cooked_short bytes h e =
+    let kind : ℕ = word (get_or bytes 0 0) (get_or bytes 1 0) in
+    cooked_whole bytes kind h refl ∙ ap (option_and_then (after_type kind)) e
 
 pub cooked_after : (bytes rest : List ℕ) (type : ℕ) → 2 ≤ length bytes → type ≡ word (get_or bytes 0 0) (get_or bytes 1 0)
     → Some rest ≡ after 18 (take (length bytes - 2) (drop 2 bytes)) → cooked bytes ≡ after_type type rest

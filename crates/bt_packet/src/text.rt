@@ -2,13 +2,16 @@
 //!
 //! A call returns the offset after what it wrote.
 ghost use Rattle.std.specs.Prelude.{◌≡◌, ◌+◌, ◌*◌, ◌≤◌, ◌<◌, ◌++◌, codes, decimal, length, take, OnErr, OnOk};
+ghost use Rattle.std.specs.Net.Addr.{segments_of};
 ghost use Rattle.std.specs.Char.{digit_char};
-ghost use Rattle.std.specs.Net.Text.{groups_text, hex, leading_zero_digits as leading_zero_digits_of};
-ghost use Rattle.bt_packet.specs.Addresses.{address_text, dotted, host_text, later_text, words};
+ghost use Rattle.std.specs.Net.Text.{groups_text, hex, hex_groups_text, ipv4_text, ipv6_text};
+ghost use Rattle.std.specs.Net.Text.{leading_zero_digits as leading_zero_digits_of, longest_zero_run as longest_zero_run_of};
+ghost use Rattle.bt_packet.specs.Addresses.{address_text, host_text, later_text};
 
 use crate::address::{Address, Host};
 use itoa::Buffer;
 use std::alloc::AllocError;
+use std::net::Ipv6Addr;
 
 /// Room for the longest text: two brackets, eight groups of four digits with a colon each, and a port.
 const ROOM: usize = 48;
@@ -47,7 +50,7 @@ fn put_dotted(host: &[u8; 4], text: &mut [u8], at: usize) -> usize
     requires { at + 15 ≤ length text.old }
     ensures room { result ≤ at + 15 }
     ensures size { length text.new ≡ length text.old }
-    ensures text { take result text.new ≡ take at text.old ++ dotted host.now }
+    ensures text { take result text.new ≡ take at text.old ++ ipv4_text host.now }
 {
     let [a, b, c, d] = *host;
     let at = put_byte(a, text, at);
@@ -100,45 +103,97 @@ fn put_hex(n: u16, text: &mut [u8], at: usize) -> usize
 }
 
 /// Writes the groups after the first one.
-fn put_later(bytes: &[u8], text: &mut [u8], at: usize) -> usize
-    requires { 2 * at + 5 * length bytes.now ≤ 2 * length text.old }
-    ensures room { 2 * result ≤ 2 * at + 5 * length bytes.now }
+fn put_later(groups: &[u16], text: &mut [u8], at: usize) -> usize
+    requires { at + 5 * length groups.now ≤ length text.old }
+    ensures room { result ≤ at + 5 * length groups.now }
     ensures size { length text.new ≡ length text.old }
-    ensures text { take result text.new ≡ take at text.old ++ later_text (words bytes.now) }
+    ensures text { take result text.new ≡ take at text.old ++ later_text groups.now }
 {
-    let [a, b, rest @ ..] = bytes else {
+    let [group, rest @ ..] = groups else {
         return at;
     };
     let at = put(b":", text, at);
-    let at = put_hex(u16::from_be_bytes([*a, *b]), text, at);
+    let at = put_hex(*group, text, at);
     put_later(rest, text, at)
 }
 
-/// Writes each two bytes as a group, with colons between them.
-fn put_groups(bytes: &[u8], text: &mut [u8], at: usize) -> usize
-    requires { 2 * at + 5 * length bytes.now ≤ 2 * length text.old }
-    ensures room { 2 * result ≤ 2 * at + 5 * length bytes.now }
+/// Writes groups with colons between them.
+fn put_groups(groups: &[u16], text: &mut [u8], at: usize) -> usize
+    requires { at + 5 * length groups.now ≤ length text.old }
+    ensures room { result ≤ at + 5 * length groups.now }
     ensures size { length text.new ≡ length text.old }
-    ensures text { take result text.new ≡ take at text.old ++ groups_text (words bytes.now) }
+    ensures text { take result text.new ≡ take at text.old ++ groups_text groups.now }
 {
-    let [a, b, rest @ ..] = bytes else {
+    let [group, rest @ ..] = groups else {
         return at;
     };
-    let at = put_hex(u16::from_be_bytes([*a, *b]), text, at);
+    let at = put_hex(*group, text, at);
     put_later(rest, text, at)
+}
+
+/// Returns the start and the length of the longest run of zeros, the first one of that length.
+fn longest_zero_run(groups: &[u16]) -> (usize, usize)
+    ensures value { result ≡ longest_zero_run_of groups.now }
+    ensures within { result.0 + result.1 ≤ length groups.now }
+{
+    let mut start = groups.len();
+    let mut longest = 0;
+    let mut run = 0;
+    for i in (0..groups.len()).rev() {
+        run = if groups[i] == 0 { run + 1 } else { 0 };
+        if run >= longest {
+            start = i;
+            longest = run;
+        }
+    }
+    (start, longest)
+}
+
+/// Writes groups with `::` in place of the longest run of two or more zeros.
+#[tactic(auto, unfolding(std::specs::Net::Text::hex_groups_text))]
+fn put_compressed(groups: &[u16], text: &mut [u8], at: usize) -> usize
+    requires { at + 5 * length groups.now ≤ length text.old }
+    ensures room { result ≤ at + 5 * length groups.now }
+    ensures size { length text.new ≡ length text.old }
+    ensures text { take result text.new ≡ take at text.old ++ hex_groups_text groups.now }
+{
+    let (start, run) = longest_zero_run(groups);
+    if run < 2 {
+        return put_groups(groups, text, at);
+    }
+    let at = put_groups(&groups[..start], text, at);
+    let at = put(b"::", text, at);
+    put_groups(&groups[start + run..], text, at)
+}
+
+/// Writes an IPv6 address.
+#[tactic(auto, unfolding(std::specs::Net::Text::ipv6_text))]
+fn put_six(host: &[u8; 16], text: &mut [u8], at: usize) -> usize
+    requires { at + 40 ≤ length text.old }
+    ensures room { result ≤ at + 40 }
+    ensures size { length text.new ≡ length text.old }
+    ensures text { take result text.new ≡ take at text.old ++ ipv6_text (segments_of host.now) }
+{
+    let six = Ipv6Addr::from_octets(*host);
+    let Some(four) = six.to_ipv4_mapped() else {
+        return put_compressed(&six.segments(), text, at);
+    };
+    let at = put(b"::ffff:", text, at);
+    put_dotted(&four.octets(), text, at)
 }
 
 fn put_bracketed(host: &[u8; 16], text: &mut [u8], at: usize) -> usize
     requires { at + 42 ≤ length text.old }
     ensures room { result ≤ at + 42 }
     ensures size { length text.new ≡ length text.old }
-    ensures text { take result text.new ≡ take at text.old ++ (codes "[" ++ (groups_text (words host.now) ++ codes "]")) }
+    ensures text { take result text.new ≡ take at text.old ++ (codes "[" ++ (ipv6_text (segments_of host.now) ++ codes "]")) }
 {
     let at = put(b"[", text, at);
-    let at = put_groups(host, text, at);
+    let at = put_six(host, text, at);
     put(b"]", text, at)
 }
 
+#[tactic(auto, unfolding(crate::specs::Addresses::host_text))]
 fn put_host(host: &Host, text: &mut [u8], at: usize) -> usize
     requires { at + 42 ≤ length text.old }
     ensures room { result ≤ at + 42 }
@@ -151,7 +206,7 @@ fn put_host(host: &Host, text: &mut [u8], at: usize) -> usize
     }
 }
 
-/// Appends an address as text: `10.0.0.1:80`, or `[2001:db8:0:0:0:0:0:1]:80`.
+/// Appends an address as text: `10.0.0.1:80`, or `[2001:db8::1]:80`.
 ///
 /// # Errors
 /// `AllocError` if out of memory; the text is then as before.

@@ -1,5 +1,5 @@
 -- What the body of a block says is read from it, also from its front.
-use Rattle.std.proofs.Common.{◌≡◌, ◌≢◌, ℕ, ◌+◌, ◌-◌, ◌*◌, ◌^◌, ◌≤◌, false, eqb, min, List, ◌++◌, length, take, drop, slice_get, refl, sym, ap, subst, ◌∙◌}
+use Rattle.std.proofs.Common.{◌≡◌, ◌≢◌, ℕ, ◌+◌, ◌-◌, ◌*◌, ◌^◌, ◌≤◌, ◌<◌, false, eqb, min, List, ◌++◌, length, take, drop, slice_get, refl, sym, ap, subst, ◌∙◌}
 use Rattle.std.proofs.Common.{arith, inl, inr, Option, Some, None}
 use Rattle.std.proofs.lemmas.Bool.{cases_lt}
 use Rattle.std.proofs.lemmas.List.{take-take, take_all, length-take}
@@ -12,7 +12,7 @@ use Rattle.bt_pcap.specs.Times.{nanos_of}
 use Rattle.bt_pcap.specs.Formats.{Captured}
 use Rattle.bt_pcap.specs.Packets.{packet_on}
 use Rattle.bt_pcap.specs.Items.{IsInterface, IsEnhanced, IsObsolete, IsSimple, Says, describes, enhanced, obsolete, simple, passed_over}
-use Rattle.bt_pcap.specs.Reading.{word, read_stamped, read_packet, read_interface, read_interfaces, least}
+use Rattle.bt_pcap.specs.Reading.{word, read_stamped, read_packet, read_interface, read_interfaces, least, most}
 use Rattle.bt_pcap.proofs.NumberLaws.{number32-u32, drop-u32, length-u32, number16-u16, drop-u16, length-u16, drop-front, word-take}
 use Rattle.bt_pcap.proofs.Resolution.{again}
 use Rattle.bt_pcap.proofs.Readings.{ne_false}
@@ -23,6 +23,7 @@ pub record Again (order : Order) (known : List Interface) (kind : ℕ) (body : L
   pub packet_is : read_packet order known kind body ≡ p
   pub after_is : read_interfaces order known kind body ≡ after
   pub enough : least kind ≤ length body
+  pub within : length body ≤ most kind
 
 abbrev made : ℕ → ℕ → Interface
 made link resolution = record { link = link; resolution = resolution }
@@ -42,15 +43,15 @@ interface_again order i body s =
     (ap (λ (k : ℕ). made k (resolution_of order (take 1048576 (drop 4 (drop 2 (drop 2 body)))))) l ∙ ap (made i.link) r, omega (arith, size))
 
 again_1 : (order : Order) (known : List Interface) (body : List ℕ) (p : Option Captured) (after : List Interface) (i : Interface)
-    → IsInterface order i body → p ≡ None → after ≡ noted known i → Again order known 1 body p after
+    → IsInterface order i body → p ≡ None → after ≡ noted known i → length body ≤ most 1 → Again order known 1 body p after
 unfolding read_packet read_interfaces least
-again_1 order known body p after i s ep ea =
+again_1 order known body p after i s ep ea within =
     let r = interface_again order i body s in
-    record { packet_is = sym ep; after_is = ap (noted known) r.0 ∙ sym ea; enough = r.1 }
+    record { packet_is = sym ep; after_is = ap (noted known) r.0 ∙ sym ea; enough = r.1; within = within }
 
 again_6 : (order : Order) (known : List Interface) (body : List ℕ) (p : Option Captured) (after : List Interface) → IsEnhanced order known p body
     → after ≡ known → Again order known 6 body p after
-unfolding read_packet read_interfaces least
+unfolding read_packet read_interfaces least most
 again_6 order known body p after s ea =
     let r = stamped_again order known s.number p s.rest s.stamped in
     let n : number32 order body ≡ s.number = ap (number32 order) s.whole ∙ number32-u32 order s.number s.rest s.fits in
@@ -61,11 +62,12 @@ again_6 order known body p after s ea =
           ∙ r.0);
       after_is = sym ea;
       enough = omega (arith, size, r.1);
+      within = omega (arith, size, r.2);
     }
 
 again_2 : (order : Order) (known : List Interface) (body : List ℕ) (p : Option Captured) (after : List Interface) → IsObsolete order known p body
     → after ≡ known → Again order known 2 body p after
-unfolding read_packet read_interfaces least
+unfolding read_packet read_interfaces least most
 again_2 order known body p after s ea =
     let r = stamped_again order known s.number p s.rest s.stamped in
     let r1 = u16 order s.drops ++ s.rest in
@@ -77,11 +79,12 @@ again_2 order known body p after s ea =
       packet_is = ap (λ (k : ℕ). read_stamped order known k (drop 2 (drop 2 body))) n ∙ (ap (read_stamped order known s.number) d2 ∙ r.0);
       after_is = sym ea;
       enough = omega (arith, size, r.1);
+      within = omega (arith, size, r.2);
     }
 
 again_3 : (order : Order) (known : List Interface) (body : List ℕ) (p : Option Captured) (after : List Interface) → IsSimple order known p body
     → after ≡ known → Again order known 3 body p after
-unfolding read_packet read_interfaces least
+unfolding read_packet read_interfaces least most
 again_3 order known body p after s ea =
     let n : number32 order body ≡ s.original = ap (number32 order) s.whole ∙ number32-u32 order s.original s.octets s.fits in
     let d : drop 4 body ≡ s.octets = ap (drop 4) s.whole ∙ drop-u32 order s.original s.octets in
@@ -91,6 +94,7 @@ again_3 order known body p after s ea =
           ∙ (ap (λ (x : List ℕ). packet_on (slice_get known 0) 0 (take s.original x) s.original) d ∙ sym s.handed);
       after_is = sym ea;
       enough = omega (arith, size);
+      within = omega (arith, size, s.octets_fit);
     }
 
 least_other : (kind : ℕ) → kind ≢ 1 → kind ≢ 2 → kind ≢ 3 → kind ≢ 6 → least kind ≡ 0
@@ -102,17 +106,33 @@ least_other kind n1 n2 n3 n6 =
     let d : eqb kind 6 ≡ false = ne_false kind 6 n6 in
     rw (a, b, c, d) refl
 
+most_other : (kind : ℕ) → kind ≢ 2 → kind ≢ 3 → kind ≢ 6 → most kind ≡ 2 ^ 32 - 1
+unfolding most
+most_other kind n2 n3 n6 =
+    let b : eqb kind 2 ≡ false = ne_false kind 2 n2 in
+    let c : eqb kind 3 ≡ false = ne_false kind 3 n3 in
+    let d : eqb kind 6 ≡ false = ne_false kind 6 n6 in
+    rw (b, c, d) refl
+
+most_1 : (n : ℕ) → n < 2 ^ 32 → n ≤ most 1
+unfolding most
+most_1 n h = omega arith
+
 pub says_again : (order : Order) (known : List Interface) (kind : ℕ) (body : List ℕ) (p : Option Captured) (after : List Interface)
-    → Says order known kind body p after → Again order known kind body p after
-says_again order known kind body p after (describes i e s ep ea) = subst (λ (k : ℕ). Again order known k body p after) (sym e)
-    (again_1 order known body p after i s ep ea)
-says_again order known kind body p after (enhanced e s ea) = subst (λ (k : ℕ). Again order known k body p after) (sym e) (again_6 order known body p after s ea)
-says_again order known kind body p after (obsolete e s ea) = subst (λ (k : ℕ). Again order known k body p after) (sym e) (again_2 order known body p after s ea)
-says_again order known kind body p after (simple e s ea) = subst (λ (k : ℕ). Again order known k body p after) (sym e) (again_3 order known body p after s ea)
-says_again order known kind body p after (passed_over n1 n2 n3 n6 ns ep ea) = record {
+    → Says order known kind body p after → length body < 2 ^ 32 → Again order known kind body p after
+says_again order known kind body p after (describes i e s ep ea) fits = subst (λ (k : ℕ). Again order known k body p after) (sym e)
+    (again_1 order known body p after i s ep ea (most_1 (length body) (omega arith)))
+says_again order known kind body p after (enhanced e s ea) fits =
+    subst (λ (k : ℕ). Again order known k body p after) (sym e) (again_6 order known body p after s ea)
+says_again order known kind body p after (obsolete e s ea) fits =
+    subst (λ (k : ℕ). Again order known k body p after) (sym e) (again_2 order known body p after s ea)
+says_again order known kind body p after (simple e s ea) fits =
+    subst (λ (k : ℕ). Again order known k body p after) (sym e) (again_3 order known body p after s ea)
+says_again order known kind body p after (passed_over n1 n2 n3 n6 ns ep ea) fits = record {
   packet_is = packet_of_other order known kind body n2 n3 n6 ∙ sym ep;
   after_is = interfaces_of_other order known kind body n1 ∙ sym ea;
   enough = omega (arith, least_other kind n1 n2 n3 n6);
+  within = omega (arith, most_other kind n2 n3 n6);
 }
 
 -- ---- the front of a body

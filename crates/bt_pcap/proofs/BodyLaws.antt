@@ -8,7 +8,7 @@ use Rattle.bt_pcap.specs.Numbers.{u16, u32, number16, number32, AreBytes}
 use Rattle.bt_pcap.specs.Formats.{Captured}
 use Rattle.bt_pcap.specs.Packets.{packet_on}
 use Rattle.bt_pcap.specs.Items.{section_type, IsStamped, Says, describes, enhanced, obsolete, simple, passed_over}
-use Rattle.bt_pcap.specs.Reading.{word, read_stamped, read_packet, read_interface, read_interfaces, least}
+use Rattle.bt_pcap.specs.Reading.{word, read_stamped, read_packet, read_interface, read_interfaces, least, most}
 use Rattle.bt_pcap.proofs.NumberLaws.{AreBytes-take, AreBytes-drop, number32-lt, number32-u32, drop-u32, length-u32, split32, number16-lt, split16}
 use Rattle.bt_pcap.proofs.Resolution.{sound}
 use Rattle.bt_pcap.proofs.Readings.{chosen, eq_true, eq_false, ne_false}
@@ -68,10 +68,10 @@ four_again order b h l c o octets e fh fl fc fo =
 
 -- ---- packets
 
-stamped_sound : (order : Order) (known : List Interface) (number : ℕ) (b : List ℕ) → 16 ≤ length b → AreBytes b
+stamped_sound : (order : Order) (known : List Interface) (number : ℕ) (b : List ℕ) → 16 ≤ length b → length b ≤ 16777232 → AreBytes b
     → IsStamped order (slice_get known number) (read_stamped order known number b) b
 unfolding read_stamped
-stamped_sound order known number b le f = record {
+stamped_sound order known number b le most_fits f = record {
   high = word order 0 b;
   low = word order 1 b;
   captured = word order 2 b;
@@ -82,6 +82,7 @@ stamped_sound order known number b le f = record {
   low_fits = word-lt order 1 b f;
   captured_fits = word-lt order 2 b f;
   original_fits = word-lt order 3 b f;
+  octets_fit = omega (arith, length-drop 4 b, length-drop 4 (drop 4 b), length-drop 4 (drop 4 (drop 4 b)), length-drop 4 (drop 4 (drop 4 (drop 4 b))));
   handed = refl;
 }
 
@@ -90,13 +91,14 @@ on_same : (on : Option Interface) (h l c o h' l' c' o' : ℕ) (x y : List ℕ) �
 on_same on h l c o h' l' c' o' x y eh el ec eo e = rw (eh, el, ec, eo, e) refl
 
 pub stamped_again : (order : Order) (known : List Interface) (number : ℕ) (p : Option Captured) (b : List ℕ) → IsStamped order (slice_get known number) p b
-    → (read_stamped order known number b ≡ p) × (16 ≤ length b)
+    → (read_stamped order known number b ≡ p) × (16 ≤ length b) × (length b ≤ 16777232)
 unfolding read_stamped
 stamped_again order known number p b s =
     let w = four_again order b s.high s.low s.captured s.original s.octets s.whole s.high_fits s.low_fits s.captured_fits s.original_fits in (
       on_same (slice_get known number) (word order 0 b) (word order 1 b) (word order 2 b) (word order 3 b) s.high s.low s.captured s.original
           (drop 4 (drop 4 (drop 4 (drop 4 b)))) s.octets w.first w.second w.third w.fourth w.rest ∙ sym s.handed,
       omega (arith, w.size),
+      omega (arith, w.size, s.octets_fit),
     )
 
 -- ---- read is as it is written
@@ -122,38 +124,42 @@ sound_1 order known body le f =
       resolution = sound order (take 1048576 (drop 4 b2)) (AreBytes-take 1048576 (drop 4 b2) (AreBytes-drop 4 b2 (AreBytes-drop 2 b1 f1)));
     }) refl refl
 
-sound_6 : (order : Order) (known : List Interface) (body : List ℕ) → 20 ≤ length body → AreBytes body → Sound order known body 6
+sound_6 : (order : Order) (known : List Interface) (body : List ℕ) → 20 ≤ length body → length body ≤ 16777236 → AreBytes body → Sound order known body 6
 unfolding Sound read_packet read_interfaces
-sound_6 order known body le f = enhanced refl (record {
+sound_6 order known body le most_fits f = enhanced refl (record {
   number = number32 order body;
   rest = drop 4 body;
   whole = split32 order body (omega arith) f;
   fits = number32-lt order body f;
-  stamped = stamped_sound order known (number32 order body) (drop 4 body) (omega (arith, length-drop 4 body)) (AreBytes-drop 4 body f);
+  stamped = stamped_sound order known (number32 order body) (drop 4 body) (omega (arith, length-drop 4 body)) (omega (arith, length-drop 4 body))
+      (AreBytes-drop 4 body f);
 }) refl
 
-sound_2 : (order : Order) (known : List Interface) (body : List ℕ) → 20 ≤ length body → AreBytes body → Sound order known body 2
+sound_2 : (order : Order) (known : List Interface) (body : List ℕ) → 20 ≤ length body → length body ≤ 16777236 → AreBytes body → Sound order known body 2
 unfolding Sound read_packet read_interfaces
-sound_2 order known body le f =
+sound_2 order known body le most_fits f =
     let b1 = drop 2 body in
     let f1 = AreBytes-drop 2 body f in
     let l1 : 18 ≤ length b1 = omega (arith, length-drop 2 body) in
+    let m1 : length b1 ≤ 16777234 = omega (arith, length-drop 2 body) in
     obsolete refl (record {
       number = number16 order body;
       drops = number16 order b1;
       rest = drop 2 b1;
       whole = split16 order body (omega arith) f ∙ ap (λ (x : List ℕ). u16 order (number16 order body) ++ x) (split16 order b1 (omega arith) f1);
       fits = number16-lt order body f;
-      stamped = stamped_sound order known (number16 order body) (drop 2 b1) (omega (arith, length-drop 2 b1)) (AreBytes-drop 2 b1 f1);
+      stamped = stamped_sound order known (number16 order body) (drop 2 b1) (omega (arith, length-drop 2 b1)) (omega (arith, length-drop 2 b1))
+          (AreBytes-drop 2 b1 f1);
     }) refl
 
-sound_3 : (order : Order) (known : List Interface) (body : List ℕ) → 4 ≤ length body → AreBytes body → Sound order known body 3
+sound_3 : (order : Order) (known : List Interface) (body : List ℕ) → 4 ≤ length body → length body ≤ 16777220 → AreBytes body → Sound order known body 3
 unfolding Sound read_packet read_interfaces
-sound_3 order known body le f = simple refl (record {
+sound_3 order known body le most_fits f = simple refl (record {
   original = number32 order body;
   octets = drop 4 body;
   whole = split32 order body le f;
   fits = number32-lt order body f;
+  octets_fit = omega (arith, length-drop 4 body);
   handed = refl;
 }) refl
 
@@ -195,18 +201,37 @@ least_6 : (n : ℕ) → least 6 ≤ n → 20 ≤ n
 unfolding least
 least_6 n h = h
 
-pub says_sound : (order : Order) (known : List Interface) (kind : ℕ) (body : List ℕ) → least kind ≤ length body → kind ≢ section_type → AreBytes body
+most_at : (k kind n : ℕ) → kind ≡ k → n ≤ most kind → n ≤ most k
+most_at k kind n e h = subst (λ (x : ℕ). n ≤ most x) e h
+
+most_2 : (n : ℕ) → n ≤ most 2 → n ≤ 16777236
+unfolding most
+most_2 n h = h
+
+most_3 : (n : ℕ) → n ≤ most 3 → n ≤ 16777220
+unfolding most
+most_3 n h = h
+
+most_6 : (n : ℕ) → n ≤ most 6 → n ≤ 16777236
+unfolding most
+most_6 n h = h
+
+pub says_sound : (order : Order) (known : List Interface) (kind : ℕ) (body : List ℕ) → least kind ≤ length body → length body ≤ most kind
+    → kind ≢ section_type → AreBytes body
     → Says order known kind body (read_packet order known kind body) (read_interfaces order known kind body)
 unfolding Sound
-says_sound order known kind body le not_section f =
+says_sound order known kind body le most_fits not_section f =
     elim (eq_cases kind 1) [
       | inl e ↦ subst (Sound order known body) (sym e) (sound_1 order known body (least_1 (length body) (least_at 1 kind (length body) e le)) f)
       | inr n1 ↦ elim (eq_cases kind 2) [
-        | inl e ↦ subst (Sound order known body) (sym e) (sound_2 order known body (least_2 (length body) (least_at 2 kind (length body) e le)) f)
+        | inl e ↦ subst (Sound order known body) (sym e) (sound_2 order known body (least_2 (length body) (least_at 2 kind (length body) e le))
+            (most_2 (length body) (most_at 2 kind (length body) e most_fits)) f)
         | inr n2 ↦ elim (eq_cases kind 3) [
-          | inl e ↦ subst (Sound order known body) (sym e) (sound_3 order known body (least_3 (length body) (least_at 3 kind (length body) e le)) f)
+          | inl e ↦ subst (Sound order known body) (sym e) (sound_3 order known body (least_3 (length body) (least_at 3 kind (length body) e le))
+              (most_3 (length body) (most_at 3 kind (length body) e most_fits)) f)
           | inr n3 ↦ elim (eq_cases kind 6) [
-            | inl e ↦ subst (Sound order known body) (sym e) (sound_6 order known body (least_6 (length body) (least_at 6 kind (length body) e le)) f)
+            | inl e ↦ subst (Sound order known body) (sym e) (sound_6 order known body (least_6 (length body) (least_at 6 kind (length body) e le))
+                (most_6 (length body) (most_at 6 kind (length body) e most_fits)) f)
             | inr n6 ↦ passed_over n1 n2 n3 n6 not_section (packet_of_other order known kind body n2 n3 n6) (interfaces_of_other order known kind body n1)
           ]
         ]

@@ -1,6 +1,6 @@
 -- An item that is written is read.
-use Rattle.std.proofs.Common.{◌≡◌, ◌≢◌, ℕ, ◌+◌, ◌-◌, ◌%◌, ◌^◌, ◌≤◌, ◌<◌, min, List, [], ◌++◌, length, take, drop, refl, sym, ap, ◌∙◌, arith, Option, Some}
-use Rattle.std.proofs.Common.{None, append_assoc}
+use Rattle.std.proofs.Common.{◌≡◌, ◌≢◌, ℕ, ◌+◌, ◌-◌, ◌%◌, ◌^◌, ◌≤◌, ◌<◌, min, List, [], ◌++◌, length, take, drop, refl, sym, ap, subst, ◌∙◌, arith, Option}
+use Rattle.std.proofs.Common.{Some, None, append_assoc}
 use Rattle.std.proofs.Math.Seq.{drop-append_seam}
 use Rattle.std.proofs.lemmas.List.{length-append}
 use Rattle.std.proofs.lemmas.Nat.{from_be_bytes-to_be_bytes_4, from_le_bytes-to_le_bytes_4}
@@ -57,8 +57,10 @@ pub record_again : (order : Order) (scale link : ℕ) (w : List ℕ) (p : Option
     → read_record order scale link w ≡ Item p (length w) (Pcap order scale link)
 record_again order scale link w p s =
     let i = s.written in
-    let f = four_again order w s.seconds s.fraction (length s.octets) s.original s.octets i.whole i.seconds_fit i.fraction_fits i.captured_fits
-    i.original_fits in
+    let short : length s.octets ≤ 16777216 = i.captured_fits in
+    let f = four_again order w s.seconds s.fraction (length s.octets) s.original s.octets i.whole i.seconds_fit i.fraction_fits
+    (omega (arith, short)) i.original_fits in
+    let fits : word order 2 w ≤ 16777216 = subst (λ (k : ℕ). k ≤ 16777216) (sym f.third) short in
     let size : record_size order w ≡ length w = ap (λ (k : ℕ). 16 + k) f.third ∙ sym f.size in
     let same : 16 + length s.octets ≡ record_size order w = sym (ap (λ (k : ℕ). 16 + k) f.third) in
     let m = min (record_size order w) 1048604 in
@@ -71,7 +73,7 @@ record_again order scale link w p s =
     (record_size order w) w)) (take (min (16 + length s.octets) 1048604 - 16) s.octets)
     f.first f.second f.fourth d ∙ recorded_cut scale link s.seconds s.fraction s.original (take (min
     (16 + length s.octets) 1048604 - 16) s.octets) s.octets (octets_kept s.octets) in
-    record_made order scale link w (omega (arith, size))
+    record_made order scale link w fits (omega (arith, size))
     ∙ same_item (Some (recorded scale link (word order 0 w) (word order 1 w) (drop 16 (front (record_size order w) w)) (word order 3 w))) p
     (record_size order w) (length w)
     (Pcap order scale link) (Pcap order scale link) (ap Some packet ∙ sym s.handed) size refl
@@ -130,7 +132,8 @@ says_other order known kind body p after (passed_over n1 n2 n3 n6 ns ep ea) h = 
 block_again : (order : Order) (known : List Interface) (w : List ℕ) (p : Option Captured) (t : Format) (kind : ℕ) (body : List ℕ) (after : List Interface)
     → IsBlock order kind body w → Says order known kind body p after → t ≡ Pcapng order after → read_block order known w ≡ Item p (length w) t
 block_again order known w p t kind body after b s et =
-    let g = says_again order known kind body p after s in
+    let fits : 12 + length body < 2 ^ 32 = b.total_fits in
+    let g = says_again order known kind body p after s (omega arith) in
     let total = 12 + length body in
     let r2 = body ++ b.trailer in
     let r1 = u32 order total ++ r2 in
@@ -146,7 +149,7 @@ block_again order known w p t kind body after b s et =
     let next : read_interfaces order known kind (body_of total w) ≡ after = ap (read_interfaces order known kind) bodies
     ∙ (interfaces_cut order known kind body ∙ g.after_is) in
     block_other order known w (omega (arith, size)) (λ h. says_other order known kind body p after s (sym k ∙ h))
-    ∙ (rw (k, n) (other_made order known kind total w (omega arith) (omega (arith, g.enough)) (omega (arith, size)))
+    ∙ (rw (k, n) (other_made order known kind total w (omega arith) (omega (arith, g.enough)) (omega (arith, g.within, b.total_fits)) (omega (arith, size)))
     ∙ same_item (read_packet order known kind (body_of total w)) p total (length w) (Pcapng order (read_interfaces order known kind
     (body_of total w))) t packet (sym size) (ap (Pcapng order) next ∙ sym et))
 

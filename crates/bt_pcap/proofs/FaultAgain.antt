@@ -1,26 +1,28 @@
 -- A fault that the bytes have is read, and how few bytes are too few.
 use Rattle.std.proofs.Common.{◌≡◌, ◌≢◌, ℕ, ◌+◌, ◌-◌, ◌%◌, ◌≤◌, ◌<◌, ◌⊎◌, Bool, true, false, cond, eqb, ltb, min, List, [], ◌++◌, length, take, drop, refl}
-use Rattle.std.proofs.Common.{sym, ap, ◌∙◌, arith, inl, inr, Option, Some, None}
+use Rattle.std.proofs.Common.{sym, ap, subst, ◌∙◌, arith, inl, inr, Option, Some, None}
 use Rattle.std.proofs.Math.Seq.{take-append_seam, drop-append_seam}
 use Rattle.std.proofs.lemmas.List.{length-append, length-drop}
 use Rattle.bt_pcap.specs.declared.numbers.Order.{Order}
 use Rattle.bt_pcap.specs.declared.numbers.Order.TheVariants.{Little, Big}
 use Rattle.bt_pcap.specs.declared.interfaces.Interface.{Interface}
 use Rattle.bt_pcap.specs.declared.fault.FileFault.{FileFault}
-use Rattle.bt_pcap.specs.declared.fault.FileFault.TheVariants.{NoCapture, ByteOrder, Length, TooShort}
+use Rattle.bt_pcap.specs.declared.fault.FileFault.TheVariants.{NoCapture, ByteOrder, Length, TooShort, RecordLength}
 use Rattle.bt_pcap.specs.Numbers.{u32, number32, AreBytes}
 use Rattle.bt_pcap.specs.Formats.{Format, Unknown, Pcap, Pcapng, Captured}
 use Rattle.bt_pcap.specs.Items.{section_type}
 use Rattle.bt_pcap.specs.Faults.{MayBegin, IsForeign, HasNoOrder, IsShortSection, BeginsBlock, HasFault, foreign, unordered, short_section, short_block}
-use Rattle.bt_pcap.specs.Faults.{short_body}
+use Rattle.bt_pcap.specs.Faults.{short_body, long_body, long_record, BeginsRecord}
 use Rattle.bt_pcap.specs.Reading.{Answer, Item, Undecided, Faulty, word, whole, record_size, record_packet, read_header, read_record, read_packet}
-use Rattle.bt_pcap.specs.Reading.{read_interfaces, least, body_of, read_other, read_section_in, read_section, read_block, read_first, next_item}
+use Rattle.bt_pcap.specs.Reading.{read_interfaces, least, most, body_of, read_other, read_section_in, read_section, read_block, read_first, next_item}
 use Rattle.bt_pcap.proofs.NumberLaws.{AreBytes-drop, number32-u32, drop-u32, length-u32, front32}
 use Rattle.bt_pcap.proofs.Readings.{chosen, ne_false, same_true, lt_true, ge_false, less_true, magic_of, block_section, block_other}
 use Rattle.bt_pcap.proofs.Firsts.{first_section}
 use Rattle.bt_pcap.proofs.FaultLaws.{NoMagic}
 use Rattle.bt_pcap.proofs.Complete.{section_number, magic_number}
 use Rattle.bt_pcap.proofs.Sound.{magic_bytes}
+use Rattle.bt_pcap.proofs.BodyLaws.{four_again}
+use Rattle.bt_pcap.proofs.Bodies.{least_most}
 
 first_foreign : (b : List ℕ) → 4 ≤ length b → NoMagic b → read_first b ≡ Faulty NoCapture
 unfolding read_first
@@ -131,6 +133,24 @@ other_body order known kind total b le lt =
     let g : ltb (total - 12) (least kind) ≡ true = less_true (total - 12) (least kind) (omega arith) in
     rw (f, g) refl
 
+other_long : (order : Order) (known : List Interface) (kind total : ℕ) (b : List ℕ) → 12 + most kind < total
+    → read_other order known kind total b ≡ Faulty Length
+unfolding read_other
+other_long order known kind total b lt =
+    let f : ltb total 12 ≡ false = ge_false total 12 (omega arith) in
+    let g : ltb (total - 12) (least kind) ≡ false = ge_false (total - 12) (least kind) (omega (arith, least_most kind)) in
+    let h : ltb (most kind) (total - 12) ≡ true = less_true (most kind) (total - 12) (omega arith) in
+    rw (f, g, h) refl
+
+record_long : (order : Order) (scale link captured : ℕ) (b : List ℕ) → BeginsRecord order captured b → 16777216 < captured
+    → read_record order scale link b ≡ Faulty RecordLength
+unfolding read_record
+record_long order scale link captured b h lt =
+    let w = four_again order b h.seconds h.fraction captured h.original h.rest h.whole h.seconds_fit h.fraction_fits h.captured_fits h.original_fits in
+    let f : ltb (length b) 16 ≡ false = ge_false (length b) 16 (omega (arith, w.size)) in
+    let g : ltb 16777216 (word order 2 b) ≡ true = less_true 16777216 (word order 2 b) (subst (λ (k : ℕ). 16777216 < k) (sym w.third) lt) in
+    rw (f, g) refl
+
 begins_again : (order : Order) (known : List Interface) (kind total : ℕ) (b : List ℕ) → BeginsBlock order kind total b
     → read_block order known b ≡ read_other order known kind total b
 begins_again order known kind total b h =
@@ -150,6 +170,10 @@ fault_again s b f (short_block order known kind total es h lt ef) fits =
     ap (λ t. next_item t b) es ∙ (begins_again order known kind total b h ∙ (other_short order known kind total b lt ∙ ap Faulty (sym ef)))
 fault_again s b f (short_body order known kind total es h le lt ef) fits =
     ap (λ t. next_item t b) es ∙ (begins_again order known kind total b h ∙ (other_body order known kind total b le lt ∙ ap Faulty (sym ef)))
+fault_again s b f (long_body order known kind total es h lt ef) fits =
+    ap (λ t. next_item t b) es ∙ (begins_again order known kind total b h ∙ (other_long order known kind total b lt ∙ ap Faulty (sym ef)))
+fault_again s b f (long_record order scale link captured es h lt ef) fits =
+    ap (λ t. next_item t b) es ∙ (record_long order scale link captured b h lt ∙ ap Faulty (sym ef))
 
 -- ---- too few bytes
 
@@ -180,9 +204,11 @@ record_few : (order : Order) (scale link : ℕ) (b : List ℕ) → read_record o
 unfolding read_record
 record_few order scale link b e =
     let made = whole (record_size order b) b (Some (record_packet order scale link b)) (Pcap order scale link) in
-    elim (undecided (ltb (length b) 16) made e) [
+    let long = ltb 16777216 (word order 2 b) in
+    elim (undecided (ltb (length b) 16) (cond long (Faulty RecordLength) made) e) [
       | inl t ↦ omega (arith, lt_true (length b) 16 t)
-      | inr x ↦ few (record_size order b) b (Some (record_packet order scale link b)) (Pcap order scale link) x
+      | inr x ↦ few (record_size order b) b (Some (record_packet order scale link b)) (Pcap order scale link)
+          (not_faulty long RecordLength made x)
     ]
 
 section_in_few : (order : Order) (total : ℕ) (b : List ℕ) → read_section_in order total b ≡ Undecided → length b < 1048604
@@ -210,8 +236,9 @@ other_few order known kind total b e =
     let packet = read_packet order known kind (body_of total b) in
     let next = Pcapng order (read_interfaces order known kind (body_of total b)) in
     let made = whole total b packet next in
-    few total b packet next (not_faulty (ltb (total - 12) (least kind)) TooShort made (not_faulty (ltb total 12) Length (cond (ltb (total - 12)
-    (least kind)) (Faulty TooShort) made) e))
+    let long = cond (ltb (most kind) (total - 12)) (Faulty Length) made in
+    few total b packet next (not_faulty (ltb (most kind) (total - 12)) Length made (not_faulty (ltb (total - 12) (least kind)) TooShort long
+    (not_faulty (ltb total 12) Length (cond (ltb (total - 12) (least kind)) (Faulty TooShort) long) e)))
 
 block_few : (order : Order) (known : List Interface) (b : List ℕ) → read_block order known b ≡ Undecided → length b < 1048604
 unfolding read_block

@@ -6,17 +6,18 @@ use Rattle.bt_pcap.specs.declared.numbers.Order.{Order}
 use Rattle.bt_pcap.specs.declared.numbers.Order.TheVariants.{Little, Big}
 use Rattle.bt_pcap.specs.declared.interfaces.Interface.{Interface}
 use Rattle.bt_pcap.specs.declared.fault.FileFault.{FileFault}
-use Rattle.bt_pcap.specs.declared.fault.FileFault.TheVariants.{NoCapture, ByteOrder, Length, TooShort}
+use Rattle.bt_pcap.specs.declared.fault.FileFault.TheVariants.{NoCapture, ByteOrder, Length, TooShort, RecordLength}
 use Rattle.bt_pcap.specs.Numbers.{u32, number32, AreBytes}
 use Rattle.bt_pcap.specs.Formats.{Format, Unknown, Pcap, Pcapng, Captured}
 use Rattle.bt_pcap.specs.Items.{section_type}
 use Rattle.bt_pcap.specs.Faults.{MayBegin, IsForeign, HasNoOrder, BeginsBlock, HasFault, foreign, unordered, short_section, short_block, short_body}
+use Rattle.bt_pcap.specs.Faults.{long_body, long_record}
 use Rattle.bt_pcap.specs.Reading.{Answer, Item, Undecided, Faulty, word, whole, record_size, record_packet, read_header, read_record, read_packet}
-use Rattle.bt_pcap.specs.Reading.{read_interfaces, least, body_of, read_other, read_section_in, read_section, read_block, read_first, next_item}
+use Rattle.bt_pcap.specs.Reading.{read_interfaces, least, most, body_of, read_other, read_section_in, read_section, read_block, read_first, next_item}
 use Rattle.bt_pcap.proofs.NumberLaws.{AreBytes-drop, number32-lt, split32, front32, number32-take}
 use Rattle.bt_pcap.proofs.Readings.{chosen, eq_true, eq_false, lt_false, lt_true, magic_of}
 use Rattle.bt_pcap.proofs.Firsts.{little_micro, big_micro, little_nano, big_nano}
-use Rattle.bt_pcap.proofs.BodyLaws.{word-lt}
+use Rattle.bt_pcap.proofs.BodyLaws.{word-lt, four_words}
 use Rattle.bt_pcap.proofs.Sound.{palindrome, magic_bytes}
 
 -- ---- a fault that is read
@@ -37,11 +38,28 @@ no_header : (order : Order) (scale : ℕ) (b : List ℕ) (f : FileFault) → rea
 unfolding read_header
 no_header order scale b f e = no_whole (ltb (length b) 24) None 24 (Pcap order scale (word order 5 b % 65536)) f e
 
-no_record : (order : Order) (scale link : ℕ) (b : List ℕ) (f : FileFault) → read_record order scale link b ≡ Faulty f → ⊥
+record_fault : (order : Order) (scale link : ℕ) (b : List ℕ) (f : FileFault) → read_record order scale link b ≡ Faulty f → AreBytes b
+    → HasFault (Pcap order scale link) b f
 unfolding read_record
-no_record order scale link b f e =
-    let d = decided (ltb (length b) 16) (whole (record_size order b) b (Some (record_packet order scale link b)) (Pcap order scale link)) f e in
-    no_whole (ltb (length b) (min (record_size order b) 1048604)) (Some (record_packet order scale link b)) (record_size order b) (Pcap order scale link) f d.1
+record_fault order scale link b f e fits =
+    let packet = Some (record_packet order scale link b) in
+    let next = Pcap order scale link in
+    let made = whole (record_size order b) b packet next in
+    let d = decided (ltb (length b) 16) (cond (ltb 16777216 (word order 2 b)) (Faulty RecordLength) made) f e in
+    elim (unless (ltb 16777216 (word order 2 b)) RecordLength made f d.1) [
+      | inl x ↦ long_record order scale link (word order 2 b) refl (record {
+        seconds = word order 0 b;
+        fraction = word order 1 b;
+        original = word order 3 b;
+        rest = drop 4 (drop 4 (drop 4 (drop 4 b)));
+        whole = four_words order b (lt_false (length b) 16 d.0) fits;
+        seconds_fit = word-lt order 0 b fits;
+        fraction_fits = word-lt order 1 b fits;
+        captured_fits = word-lt order 2 b fits;
+        original_fits = word-lt order 3 b fits;
+      }) (lt_true 16777216 (word order 2 b) x.0) x.1
+      | inr x ↦ absurd (no_whole (ltb (length b) (min (record_size order b) 1048604)) packet (record_size order b) next f x.1)
+    ]
 
 other_fault : (order : Order) (known : List Interface) (b : List ℕ) (f : FileFault) → 8 ≤ length b → number32 order b ≢ section_type
     → read_other order known (number32 order b) (word order 1 b) b ≡ Faulty f → AreBytes b → HasFault (Pcapng order known) b f
@@ -59,13 +77,17 @@ other_fault order known b f le ns e fits =
       total_fits = word-lt order 1 b fits;
       other = ns;
     } in
-    elim (unless (ltb total 12) Length (cond (ltb (total - 12) (least kind)) (Faulty TooShort) (whole total b packet next)) f e) [
+    let long = cond (ltb (most kind) (total - 12)) (Faulty Length) (whole total b packet next) in
+    elim (unless (ltb total 12) Length (cond (ltb (total - 12) (least kind)) (Faulty TooShort) long) f e) [
       | inl x ↦ short_block order known kind total refl begins (lt_true total 12 x.0) x.1
       | inr x ↦
           let lo : 12 ≤ total = lt_false total 12 x.0 in
-          elim (unless (ltb (total - 12) (least kind)) TooShort (whole total b packet next) f x.1) [
+          elim (unless (ltb (total - 12) (least kind)) TooShort long f x.1) [
             | inl y ↦ short_body order known kind total refl begins lo (omega (arith, lt_true (total - 12) (least kind) y.0, lo)) y.1
-            | inr y ↦ absurd (no_whole (ltb (length b) (min total 1048604)) packet total next f y.1)
+            | inr y ↦ elim (unless (ltb (most kind) (total - 12)) Length (whole total b packet next) f y.1) [
+              | inl z ↦ long_body order known kind total refl begins (omega (arith, lt_true (most kind) (total - 12) z.0)) z.1
+              | inr z ↦ absurd (no_whole (ltb (length b) (min total 1048604)) packet total next f z.1)
+            ]
           ]
     ]
 
@@ -225,5 +247,5 @@ first_fault b f e fits =
 
 pub fault_sound : (s : Format) (b : List ℕ) (f : FileFault) → next_item s b ≡ Faulty f → AreBytes b → HasFault s b f
 fault_sound Unknown b f e fits = first_fault b f e fits
-fault_sound (Pcap order scale link) b f e fits = absurd (no_record order scale link b f e)
+fault_sound (Pcap order scale link) b f e fits = record_fault order scale link b f e fits
 fault_sound (Pcapng order known) b f e fits = block_fault order known b f e fits

@@ -7,7 +7,7 @@ use Rattle.bt_pcap.specs.declared.numbers.Order.TheVariants.{Big}
 use Rattle.bt_pcap.specs.Numbers.{u32}
 use Rattle.bt_pcap.specs.Formats.{Format, Unknown, Pcap, Pcapng, Captured}
 use Rattle.bt_pcap.specs.Items.{section_type, IsItem}
-use Rattle.bt_pcap.specs.Faults.{foreign, unordered, short_section, short_block, short_body}
+use Rattle.bt_pcap.specs.Faults.{foreign, unordered, short_section, short_block, short_body, long_body, long_record}
 use Rattle.bt_pcap.specs.Captures.{IsCapture}
 use Rattle.bt_pcap.specs.Laws.{CutsDontMatter, FaultsStay, ItemsAreRead, ItemsAreUnique, ItemsHaveNoFault, joined, PacketsAreUnique}
 use Rattle.bt_pcap.specs.Reading.{Item, Undecided, Faulty, read_first, read_record, read_block, next_item}
@@ -52,6 +52,9 @@ longer_2 a c rest more b e = longer a (c ++ rest) more b e ∙ ap (λ (x : List 
 longer_3 : (a c d rest more : List ℕ) (b : List ℕ) → b ≡ a ++ (c ++ (d ++ rest)) → b ++ more ≡ a ++ (c ++ (d ++ (rest ++ more)))
 longer_3 a c d rest more b e = longer_2 a c (d ++ rest) more b e ∙ ap (λ (x : List ℕ). a ++ (c ++ x)) (append_assoc d rest more)
 
+longer_4 : (a c d e rest more : List ℕ) (b : List ℕ) → b ≡ a ++ (c ++ (d ++ (e ++ rest))) → b ++ more ≡ a ++ (c ++ (d ++ (e ++ (rest ++ more))))
+longer_4 a c d e rest more b h = longer_3 a c d (e ++ rest) more b h ∙ ap (λ (x : List ℕ). a ++ (c ++ (d ++ x))) (append_assoc e rest more)
+
 pub faults_stay : FaultsStay
 faults_stay s b more f (foreign first rest es eb i ef) = foreign first (rest ++ more) es (longer first rest more b eb) i ef
 faults_stay s b more f (unordered may h ef) = unordered may (record {
@@ -84,6 +87,24 @@ faults_stay s b more f (short_body order known kind total es h le lt ef) = short
   total_fits = h.total_fits;
   other = h.other;
 }) le lt ef
+faults_stay s b more f (long_body order known kind total es h lt ef) = long_body order known kind total es (record {
+  rest = h.rest ++ more;
+  whole = longer_2 (u32 order kind) (u32 order total) h.rest more b h.whole;
+  kind_fits = h.kind_fits;
+  total_fits = h.total_fits;
+  other = h.other;
+}) lt ef
+faults_stay s b more f (long_record order scale link captured es h lt ef) = long_record order scale link captured es (record {
+  seconds = h.seconds;
+  fraction = h.fraction;
+  original = h.original;
+  rest = h.rest ++ more;
+  whole = longer_4 (u32 order h.seconds) (u32 order h.fraction) (u32 order captured) (u32 order h.original) h.rest more b h.whole;
+  seconds_fit = h.seconds_fit;
+  fraction_fits = h.fraction_fits;
+  captured_fits = h.captured_fits;
+  original_fits = h.original_fits;
+}) lt ef
 
 -- ---- whole files
 

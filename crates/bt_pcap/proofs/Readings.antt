@@ -6,11 +6,11 @@ use Rattle.bt_pcap.specs.declared.numbers.Order.{Order}
 use Rattle.bt_pcap.specs.declared.numbers.Order.TheVariants.{Little, Big}
 use Rattle.bt_pcap.specs.declared.interfaces.Interface.{Interface}
 use Rattle.bt_pcap.specs.declared.fault.FileFault.{FileFault}
-use Rattle.bt_pcap.specs.declared.fault.FileFault.TheVariants.{ByteOrder, Length, TooShort}
+use Rattle.bt_pcap.specs.declared.fault.FileFault.TheVariants.{ByteOrder, Length, TooShort, RecordLength}
 use Rattle.bt_pcap.specs.Numbers.{number32}
 use Rattle.bt_pcap.specs.Formats.{Format, Pcap, Pcapng, Captured}
 use Rattle.bt_pcap.specs.Reading.{Answer, Item, Undecided, Faulty, word, whole, read_header, record_size, record_packet, read_record, read_packet}
-use Rattle.bt_pcap.specs.Reading.{read_interfaces, least, body_of, read_other, read_section_in, read_section, read_block}
+use Rattle.bt_pcap.specs.Reading.{read_interfaces, least, most, body_of, read_other, read_section_in, read_section, read_block}
 
 pub chosen : {X : Type 0} (b : Bool) (x y z : X) → cond b x y ≡ z → ((b ≡ true) × (x ≡ z)) ⊎ ((b ≡ false) × (y ≡ z))
 chosen true x y z e = inl (refl, e)
@@ -76,26 +76,43 @@ pub header_made : (order : Order) (scale : ℕ) (a : List ℕ) → 24 ≤ length
 unfolding read_header
 header_made order scale a le = let f : ltb (length a) 24 ≡ false = ge_false (length a) 24 le in rw f refl
 
+pub record RecordItem (order : Order) (scale link : ℕ) (a : List ℕ) (p : Option Captured) (n : ℕ) (s : Format) : Type 0 where
+  pub enough : min (record_size order a) 1048604 ≤ length a
+  pub packet_is : Some (record_packet order scale link a) ≡ p
+  pub size_is : record_size order a ≡ n
+  pub next_is : Pcap order scale link ≡ s
+  pub fits : word order 2 a ≤ 16777216
+
 pub record_item : (order : Order) (scale link : ℕ) (a : List ℕ) (p : Option Captured) (n : ℕ) (s : Format)
-    → read_record order scale link a ≡ Item p n s
-    → (min (record_size order a) 1048604 ≤ length a) × (Some (record_packet order scale link a) ≡ p) × (record_size order a ≡ n) × (Pcap order scale link ≡ s)
+    → read_record order scale link a ≡ Item p n s → RecordItem order scale link a p n s
 unfolding read_record
 record_item order scale link a p n s e =
-    let d = decided (ltb (length a) 16) (whole (record_size order a) a (Some (record_packet order scale link a)) (Pcap order scale link)) p n s e in
-    whole_item (record_size order a) a (Some (record_packet order scale link a)) (Pcap order scale link) p n s d.1
+    let made = whole (record_size order a) a (Some (record_packet order scale link a)) (Pcap order scale link) in
+    let d = decided (ltb (length a) 16) (cond (ltb 16777216 (word order 2 a)) (Faulty RecordLength) made) p n s e in
+    let t = faultless (ltb 16777216 (word order 2 a)) RecordLength made p n s d.1 in
+    let w = whole_item (record_size order a) a (Some (record_packet order scale link a)) (Pcap order scale link) p n s t.1 in
+    record {
+      enough = w.0;
+      packet_is = w.1;
+      size_is = w.2;
+      next_is = w.3;
+      fits = lt_false 16777216 (word order 2 a) t.0;
+    }
 
-pub record_made : (order : Order) (scale link : ℕ) (a : List ℕ) → min (record_size order a) 1048604 ≤ length a
+pub record_made : (order : Order) (scale link : ℕ) (a : List ℕ) → word order 2 a ≤ 16777216 → min (record_size order a) 1048604 ≤ length a
     → read_record order scale link a ≡ Item (Some (record_packet order scale link a)) (record_size order a) (Pcap order scale link)
 unfolding read_record
-record_made order scale link a le =
+record_made order scale link a fits le =
     let f : ltb (length a) 16 ≡ false = ge_false (length a) 16 (omega arith) in
-    rw f (whole_made (record_size order a) a (Some (record_packet order scale link a)) (Pcap order scale link) le)
+    let g : ltb 16777216 (word order 2 a) ≡ false = ge_false 16777216 (word order 2 a) fits in
+    rw (f, g) (whole_made (record_size order a) a (Some (record_packet order scale link a)) (Pcap order scale link) le)
 
 -- ---- pcapng
 
 pub record OtherItem (order : Order) (known : List Interface) (kind total : ℕ) (a : List ℕ) (p : Option Captured) (n : ℕ) (s : Format) : Type 0 where
   pub least_total : 12 ≤ total
   pub least_fits : least kind ≤ total - 12
+  pub most_fits : total - 12 ≤ most kind
   pub enough : min total 1048604 ≤ length a
   pub packet_is : read_packet order known kind (body_of total a) ≡ p
   pub size_is : total ≡ n
@@ -107,26 +124,31 @@ unfolding read_other
 other_item order known kind total a p n s e =
     let packet = read_packet order known kind (body_of total a) in
     let next = Pcapng order (read_interfaces order known kind (body_of total a)) in
-    let d = faultless (ltb total 12) Length (cond (ltb (total - 12) (least kind)) (Faulty TooShort) (whole total a packet next)) p n s e in
-    let t = faultless (ltb (total - 12) (least kind)) TooShort (whole total a packet next) p n s d.1 in
-    let w = whole_item total a packet next p n s t.1 in
+    let short = cond (ltb (most kind) (total - 12)) (Faulty Length) (whole total a packet next) in
+    let d = faultless (ltb total 12) Length (cond (ltb (total - 12) (least kind)) (Faulty TooShort) short) p n s e in
+    let t = faultless (ltb (total - 12) (least kind)) TooShort short p n s d.1 in
+    let m = faultless (ltb (most kind) (total - 12)) Length (whole total a packet next) p n s t.1 in
+    let w = whole_item total a packet next p n s m.1 in
     record {
       least_total = lt_false total 12 d.0;
       least_fits = lt_false (total - 12) (least kind) t.0;
+      most_fits = lt_false (most kind) (total - 12) m.0;
       enough = w.0;
       packet_is = w.1;
       size_is = w.2;
       next_is = w.3;
     }
 
-pub other_made : (order : Order) (known : List Interface) (kind total : ℕ) (a : List ℕ) → 12 ≤ total → least kind ≤ total - 12 → min total 1048604 ≤ length a
+pub other_made : (order : Order) (known : List Interface) (kind total : ℕ) (a : List ℕ) → 12 ≤ total → least kind ≤ total - 12 → total - 12 ≤ most kind
+    → min total 1048604 ≤ length a
     → read_other order known kind total a ≡ Item (read_packet order known kind (body_of total a)) total (Pcapng order
     (read_interfaces order known kind (body_of total a)))
 unfolding read_other
-other_made order known kind total a lo fits le =
+other_made order known kind total a lo fits most_fits le =
     let f : ltb total 12 ≡ false = ge_false total 12 lo in
     let g : ltb (total - 12) (least kind) ≡ false = ge_false (total - 12) (least kind) fits in
-    rw (f, g) (whole_made total a (read_packet order known kind (body_of total a)) (Pcapng order (read_interfaces order known kind (body_of total a))) le)
+    let h : ltb (most kind) (total - 12) ≡ false = ge_false (most kind) (total - 12) most_fits in
+    rw (f, g, h) (whole_made total a (read_packet order known kind (body_of total a)) (Pcapng order (read_interfaces order known kind (body_of total a))) le)
 
 -- the byte-order magic, read in big-endian order
 abbrev pub magic_of : Order → ℕ

@@ -39,7 +39,7 @@ record_same : (order : Order) (scale link : ℕ) (a b : List ℕ) (p : Option Ca
     → read_record order scale link a ≡ Item p n s → read_record order scale link b ≡ Item p n s
 record_same order scale link a b p n s f e =
     let i = record_item order scale link a p n s e in
-    let size : record_size order a ≡ n = i.2 in
+    let size : record_size order a ≡ n = i.size_is in
     let le : 16 ≤ min n 1048604 = omega (arith, size) in
     let w0 : word order 0 b ≡ word order 0 a = sym (word-same order 0 (min n 1048604) a b f.same (omega arith)) in
     let w1 : word order 1 b ≡ word order 1 a = sym (word-same order 1 (min n 1048604) a b f.same (omega arith)) in
@@ -51,15 +51,17 @@ record_same order scale link a b p n s f e =
     let packets : record_packet order scale link b ≡ record_packet order scale link a =
     recorded_same scale link (word order 0 b) (word order 1 b) (word order 3 b) (word order 0 a) (word order 1 a) (word order 3 a)
     (drop 16 (front (record_size order b) b)) (drop 16 (front (record_size order a) a)) w0 w1 w3 (ap (drop 16) fronts) in
-    record_made order scale link b (subst (λ (k : ℕ). min k 1048604 ≤ length b) (sym same_size) f.enough)
-    ∙ same_item (Some (record_packet order scale link b)) p (record_size order b) n (Pcap order scale link) s (ap Some packets ∙ i.1) same_size i.3
+    let fits : word order 2 b ≤ 16777216 = subst (λ (k : ℕ). k ≤ 16777216) (sym w2) i.fits in
+    record_made order scale link b fits (subst (λ (k : ℕ). min k 1048604 ≤ length b) (sym same_size) f.enough)
+    ∙ same_item (Some (record_packet order scale link b)) p (record_size order b) n (Pcap order scale link) s
+    (ap Some packets ∙ i.packet_is) same_size i.next_is
 
 pub other_same : (order : Order) (known : List Interface) (kind total : ℕ) (a b : List ℕ) (p : Option Captured) (n : ℕ) (s : Format) → SameFront n a b
     → OtherItem order known kind total a p n s → read_other order known kind total b ≡ Item p n s
 other_same order known kind total a b p n s f i =
     let bodies : body_of total b ≡ body_of total a =
     ap (λ (x : List ℕ). take (total - 12) (drop 8 x)) (ap (λ (k : ℕ). front k b) i.size_is ∙ (sym f.same ∙ ap (λ (k : ℕ). front k a) (sym i.size_is))) in
-    other_made order known kind total b i.least_total i.least_fits (subst (λ (k : ℕ). min k 1048604 ≤ length b) (sym i.size_is) f.enough)
+    other_made order known kind total b i.least_total i.least_fits i.most_fits (subst (λ (k : ℕ). min k 1048604 ≤ length b) (sym i.size_is) f.enough)
     ∙ same_item (read_packet order known kind (body_of total b)) p total n (Pcapng order (read_interfaces order known kind (body_of total b))) s
     (ap (read_packet order known kind) bodies ∙ i.packet_is) i.size_is (ap (λ (x : List ℕ). Pcapng order
     (read_interfaces order known kind x)) bodies ∙ i.next_is)

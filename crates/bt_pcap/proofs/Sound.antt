@@ -1,5 +1,5 @@
 -- What is read as an item is one.
-use Rattle.std.proofs.Common.{◌≡◌, ◌≢◌, ℕ, ◌+◌, ◌-◌, ◌%◌, ◌^◌, ◌<◌, min, List, ◌++◌, length, take, drop, refl, sym, ap, subst, ◌∙◌, arith, inl, inr}
+use Rattle.std.proofs.Common.{◌≡◌, ◌≢◌, ℕ, ◌+◌, ◌-◌, ◌%◌, ◌^◌, ◌≤◌, ◌<◌, min, List, ◌++◌, length, take, drop, refl, sym, ap, subst, ◌∙◌, arith, inl, inr}
 use Rattle.std.proofs.Common.{Option, Some, None, append_assoc}
 use Rattle.std.proofs.lemmas.List.{length-append, length-drop, length-take-le, take-append-drop, take_all}
 use Rattle.bt_pcap.specs.declared.numbers.Order.{Order}
@@ -63,7 +63,7 @@ record_sound : (order : Order) (scale link : ℕ) (w : List ℕ) (p : Option Cap
     → (t ≡ Pcap order scale link) × IsRecorded order scale link w p
 record_sound order scale link w p t e f =
     let i = record_item order scale link w p (length w) t e in
-    let size : record_size order w ≡ length w = i.2 in
+    let size : record_size order w ≡ length w = i.size_is in
     let octets = drop 4 (drop 4 (drop 4 (drop 4 w))) in
     let len : length octets ≡ word order 2 w =
     ap (length {A = ℕ}) (sym (drop_16 w)) ∙ omega (arith, length-drop 16 w, size) in
@@ -77,7 +77,7 @@ record_sound order scale link w p t e f =
     ap (λ (x : List ℕ). recorded scale link (word order 0 w) (word order 1 w) x (word order 3 w)) d
     ∙ recorded_cut scale link (word order 0 w) (word order 1 w) (word order 3 w) (take (min (16 + length octets) 1048604 - 16) octets) octets
     (octets_kept octets) in (
-      sym i.3,
+      sym i.next_is,
       record {
         seconds = word order 0 w;
         fraction = word order 1 w;
@@ -88,10 +88,10 @@ record_sound order scale link w p t e f =
               ∙ ap (λ (k : ℕ). u32 order (word order 0 w) ++ (u32 order (word order 1 w) ++ (u32 order k ++ (u32 order (word order 3 w) ++ octets)))) (sym len);
           seconds_fit = word-lt order 0 w f;
           fraction_fits = word-lt order 1 w f;
-          captured_fits = subst (λ (k : ℕ). k < 2 ^ 32) (sym len) (word-lt order 2 w f);
+          captured_fits = subst (λ (k : ℕ). k ≤ 16777216) (sym len) i.fits;
           original_fits = word-lt order 3 w f;
         };
-        handed = sym i.1 ∙ ap Some packet;
+        handed = sym i.packet_is ∙ ap Some packet;
       },
     )
 
@@ -177,7 +177,7 @@ other_sound order known w p t ns i f =
     let next : read_interfaces order known kind (body_of (word order 1 w) w) ≡ read_interfaces order known kind body =
     ap (read_interfaces order known kind) bodies ∙ interfaces_cut order known kind body in
     let says : Says order known kind body (read_packet order known kind body) (read_interfaces order known kind body) =
-    says_sound order known kind body (omega (arith, i.least_fits, size)) ns (AreBytes-take (n - 12) w2 f2) in
+    says_sound order known kind body (omega (arith, i.least_fits, size)) (omega (arith, i.most_fits, size)) ns (AreBytes-take (n - 12) w2 f2) in
     same_section kind body (read_interfaces order known kind body) (record {
       trailer = trailer;
       whole = split32 order w (omega (arith, lo, total)) f ∙ ap (λ (y : List ℕ). u32 order kind ++ y) e1;

@@ -42,7 +42,7 @@ first_enough b p n t e =
 pub item_enough : (b : List ℕ) (p : Option Captured) (n : ℕ) (t : Format) (s : Format) → next_item s b ≡ Item p n t → min n 1048604 ≤ length b
 item_enough b p n t Unknown e = first_enough b p n t e
 item_enough b p n t (Pcap order scale link) e =
-    let i = record_item order scale link b p n t e in subst (λ (k : ℕ). min k 1048604 ≤ length b) i.2 i.0
+    let i = record_item order scale link b p n t e in subst (λ (k : ℕ). min k 1048604 ≤ length b) i.size_is i.enough
 item_enough b p n t (Pcapng order known) e =
     elim (block_item order known b p n t e) [
       | inl x ↦ x.1.enough

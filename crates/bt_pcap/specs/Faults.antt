@@ -4,11 +4,12 @@ use Rattle.bt_pcap.specs.declared.numbers.Order.{Order}
 use Rattle.bt_pcap.specs.declared.numbers.Order.TheVariants.{Big}
 use Rattle.bt_pcap.specs.declared.interfaces.Interface.{Interface}
 use Rattle.bt_pcap.specs.declared.fault.FileFault.{FileFault}
-use Rattle.bt_pcap.specs.declared.fault.FileFault.TheVariants.{NoCapture, ByteOrder, Length, TooShort}
+use Rattle.bt_pcap.specs.declared.fault.FileFault.TheVariants.{NoCapture, ByteOrder, Length, TooShort, RecordLength}
+use Rattle.bt_pcap.specs.Sizes.{longest}
 use Rattle.bt_pcap.specs.Numbers.{u32}
 use Rattle.bt_pcap.specs.Formats.{Format, Unknown, Pcap, Pcapng}
 use Rattle.bt_pcap.specs.Items.{section_type}
-use Rattle.bt_pcap.specs.Reading.{least}
+use Rattle.bt_pcap.specs.Reading.{least, most}
 
 -- A section may begin here: at the file's first byte, or after a block.
 abbrev pub MayBegin : Format → Type 0
@@ -49,6 +50,18 @@ pub record BeginsBlock (order : Order) (kind total : ℕ) (bytes : List ℕ) : T
   pub total_fits : total < 2 ^ 32
   pub other : kind ≢ section_type
 
+-- A record of a pcap file with this captured length.
+pub record BeginsRecord (order : Order) (captured : ℕ) (bytes : List ℕ) : Type 0 where
+  pub seconds : ℕ
+  pub fraction : ℕ
+  pub original : ℕ
+  pub rest : List ℕ
+  pub whole : bytes ≡ u32 order seconds ++ (u32 order fraction ++ (u32 order captured ++ (u32 order original ++ rest)))
+  pub seconds_fit : seconds < 2 ^ 32
+  pub fraction_fits : fraction < 2 ^ 32
+  pub captured_fits : captured < 2 ^ 32
+  pub original_fits : original < 2 ^ 32
+
 pub data HasFault (s : Format) (bytes : List ℕ) (f : FileFault) : Type 0 where
   foreign : (first rest : List ℕ) → s ≡ Unknown → bytes ≡ first ++ rest → IsForeign first → f ≡ NoCapture → HasFault s bytes f
   unordered : MayBegin s → HasNoOrder bytes → f ≡ ByteOrder → HasFault s bytes f
@@ -57,3 +70,7 @@ pub data HasFault (s : Format) (bytes : List ℕ) (f : FileFault) : Type 0 where
       → total < 12 → f ≡ Length → HasFault s bytes f
   short_body : (order : Order) (known : List Interface) (kind total : ℕ) → s ≡ Pcapng order known → BeginsBlock order kind total bytes
       → 12 ≤ total → total < 12 + least kind → f ≡ TooShort → HasFault s bytes f
+  long_body : (order : Order) (known : List Interface) (kind total : ℕ) → s ≡ Pcapng order known → BeginsBlock order kind total bytes
+      → 12 + most kind < total → f ≡ Length → HasFault s bytes f
+  long_record : (order : Order) (scale link captured : ℕ) → s ≡ Pcap order scale link → BeginsRecord order captured bytes
+      → longest < captured → f ≡ RecordLength → HasFault s bytes f

@@ -1,6 +1,6 @@
 -- The items of a capture file as they are written, field after field.
-use Rattle.std.specs.Prelude.{◌≡◌, ◌≢◌, ℕ, ◌+◌, ◌*◌, ◌%◌, ◌^◌, ◌<◌, ◌⊎◌, List, [], ◌++◌, length, take, slice_get, Option, Some, None}
-use Rattle.bt_pcap.specs.Sizes.{keep}
+use Rattle.std.specs.Prelude.{◌≡◌, ◌≢◌, ℕ, ◌+◌, ◌*◌, ◌%◌, ◌^◌, ◌<◌, ◌≤◌, ◌⊎◌, List, [], ◌++◌, length, take, slice_get, Option, Some, None}
+use Rattle.bt_pcap.specs.Sizes.{keep, longest}
 use Rattle.bt_pcap.specs.declared.numbers.Order.{Order}
 use Rattle.bt_pcap.specs.declared.interfaces.Interface.{Interface}
 use Rattle.bt_pcap.specs.Numbers.{u16, u32}
@@ -27,11 +27,12 @@ pub record IsHeader (order : Order) (scale link : ℕ) (bytes : List ℕ) : Type
   pub low : link ≡ network % 65536
 
 -- A record: seconds, fraction, captured length, length on the wire, and as many bytes as were captured (draft-ietf-opsawg-pcap 5).
+-- No link has packets of more than 2 ^ 24 bytes.
 pub record IsRecord (order : Order) (seconds fraction original : ℕ) (octets bytes : List ℕ) : Type 0 where
   pub whole : bytes ≡ u32 order seconds ++ (u32 order fraction ++ (u32 order (length octets) ++ (u32 order original ++ octets)))
   pub seconds_fit : seconds < 2 ^ 32
   pub fraction_fits : fraction < 2 ^ 32
-  pub captured_fits : length octets < 2 ^ 32
+  pub captured_fits : length octets ≤ longest
   pub original_fits : original < 2 ^ 32
 
 -- ---- pcapng
@@ -64,6 +65,7 @@ pub record IsInterface (order : Order) (i : Interface) (body : List ℕ) : Type 
   pub resolution : HasResolution order (take keep options) i.resolution
 
 -- The rest of a packet block: upper and lower half of the time stamp, captured length, length on the wire, packet data (draft-ietf-opsawg-pcapng 4.3).
+-- The data, with padding and options, are at most 2 ^ 24 bytes.
 pub record IsStamped (order : Order) (on : Option Interface) (packet : Option Captured) (bytes : List ℕ) : Type 0 where
   pub high : ℕ
   pub low : ℕ
@@ -75,6 +77,7 @@ pub record IsStamped (order : Order) (on : Option Interface) (packet : Option Ca
   pub low_fits : low < 2 ^ 32
   pub captured_fits : captured < 2 ^ 32
   pub original_fits : original < 2 ^ 32
+  pub octets_fit : length octets ≤ longest
   pub handed : packet ≡ packet_on on (high * 2 ^ 32 + low) (take captured octets) original
 
 -- An enhanced packet block: the interface's number in four bytes (draft-ietf-opsawg-pcapng 4.3).
@@ -95,11 +98,13 @@ pub record IsObsolete (order : Order) (known : List Interface) (packet : Option 
   pub stamped : IsStamped order (slice_get known number) packet rest
 
 -- A simple packet block, of the first interface: the length on the wire and the packet data, without a time (draft-ietf-opsawg-pcapng 4.4).
+-- The data, with padding, are at most 2 ^ 24 bytes.
 pub record IsSimple (order : Order) (known : List Interface) (packet : Option Captured) (body : List ℕ) : Type 0 where
   pub original : ℕ
   pub octets : List ℕ
   pub whole : body ≡ u32 order original ++ octets
   pub fits : original < 2 ^ 32
+  pub octets_fit : length octets ≤ longest
   pub handed : packet ≡ packet_on (slice_get known 0) 0 (take original octets) original
 
 -- What a block of that type says in a section with these interfaces: its packet, and the interfaces after it. Other types are passed over.

@@ -1,12 +1,12 @@
 -- The item at the front of bytes as a value.
 use Rattle.std.specs.Prelude.{ℕ, zero, suc, ◌+◌, ◌-◌, ◌*◌, ◌%◌, ◌^◌, ◌==◌, min, List, [], length, take, drop, slice_get, Option, Some, None, if◌then◌else◌}
 use Rattle.std.specs.Prelude.{nat_lt}
-use Rattle.bt_pcap.specs.Sizes.{keep, need}
+use Rattle.bt_pcap.specs.Sizes.{keep, need, longest}
 use Rattle.bt_pcap.specs.declared.numbers.Order.{Order}
 use Rattle.bt_pcap.specs.declared.numbers.Order.TheVariants.{Little, Big}
 use Rattle.bt_pcap.specs.declared.interfaces.Interface.{Interface}
 use Rattle.bt_pcap.specs.declared.fault.FileFault.{FileFault}
-use Rattle.bt_pcap.specs.declared.fault.FileFault.TheVariants.{NoCapture, ByteOrder, Length, TooShort}
+use Rattle.bt_pcap.specs.declared.fault.FileFault.TheVariants.{NoCapture, ByteOrder, Length, TooShort, RecordLength}
 use Rattle.bt_pcap.specs.Numbers.{number16, number32}
 use Rattle.bt_pcap.specs.Interfaces.{noted}
 use Rattle.bt_pcap.specs.Packets.{recorded, packet_on}
@@ -49,6 +49,7 @@ record_packet order scale link bytes =
 unfoldable pub read_record : Order → ℕ → ℕ → List ℕ → Answer
 read_record order scale link bytes =
     if nat_lt (length bytes) 16 then Undecided
+    else if nat_lt longest (word order 2 bytes) then Faulty RecordLength
     else whole (record_size order bytes) bytes (Some (record_packet order scale link bytes)) (Pcap order scale link)
 
 -- ---- pcapng
@@ -76,6 +77,10 @@ read_interfaces order known kind body = if kind == 1 then noted known (read_inte
 unfoldable pub least : ℕ → ℕ
 least kind = if kind == 1 then 8 else if kind == 2 then 20 else if kind == 3 then 4 else if kind == 6 then 20 else 0
 
+-- the longest body of a block of that type: a packet's fields and 2 ^ 24 bytes; of the others, more than a total length can say
+unfoldable pub most : ℕ → ℕ
+most kind = if kind == 2 then 20 + longest else if kind == 3 then 4 + longest else if kind == 6 then 20 + longest else 2 ^ 32 - 1
+
 -- the body of a block, as far as it is looked at
 abbrev pub body_of : ℕ → List ℕ → List ℕ
 body_of total bytes = take (total - 12) (drop 8 (front total bytes))
@@ -85,6 +90,7 @@ unfoldable pub read_other : Order → List Interface → ℕ → ℕ → List �
 read_other order known kind total bytes =
     if nat_lt total 12 then Faulty Length
     else if nat_lt (total - 12) (least kind) then Faulty TooShort
+    else if nat_lt (most kind) (total - 12) then Faulty Length
     else whole total bytes (read_packet order known kind (body_of total bytes)) (Pcapng order (read_interfaces order known kind (body_of total bytes)))
 
 abbrev pub read_section_in : Order → ℕ → List ℕ → Answer

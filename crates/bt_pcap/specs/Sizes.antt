@@ -6,3 +6,7 @@ keep = 1048576
 
 abbrev pub need : ℕ
 need = 1048604
+
+-- The most bytes of a packet, 2 ^ 24: no link has longer ones. Of a pcapng block its padding and options count too.
+abbrev pub longest : ℕ
+longest = 16777216

@@ -3,10 +3,10 @@ ghost use Rattle.std.specs.Prelude.{◌≡◌, ◌≤◌, length};
 ghost use Rattle.std.specs.Option.{option_map};
 ghost use Rattle.bt_pcap.specs.Interfaces.{interfaces_of};
 ghost use Rattle.bt_pcap.specs.Packets.{packet_on};
-ghost use Rattle.bt_pcap.specs.Reading.{read_stamped, read_packet, read_interface, read_interfaces, least};
+ghost use Rattle.bt_pcap.specs.Reading.{read_stamped, read_packet, read_interface, read_interfaces, least, most};
 ghost use Rattle.bt_pcap.specs.Steps.{captured};
 
-use crate::fronts::{KEEP, Packet};
+use crate::fronts::{KEEP, LONGEST, Packet};
 use crate::interfaces::{Interface, Interfaces};
 use crate::numbers::{Order, at_most, u16_at, u32_at};
 use crate::options::{nanos, resolution};
@@ -30,6 +30,18 @@ pub(crate) fn least_body(kind: u32) -> u32
         OBSOLETE | ENHANCED => 20,
         SIMPLE => 4,
         _ => 0,
+    }
+}
+
+/// Returns the length that a body of that type has at most.
+#[tactic(auto, unfolding(crate::specs::Reading::most))]
+pub(crate) fn most_body(kind: u32) -> u32
+    ensures { result ≡ most kind }
+{
+    match kind {
+        OBSOLETE | ENHANCED => 20 + LONGEST,
+        SIMPLE => 4 + LONGEST,
+        _ => u32::MAX,
     }
 }
 

@@ -9,10 +9,12 @@ pub enum FileFault {
     NoCapture,
     /// The byte-order magic of a pcapng section is unknown.
     ByteOrder,
-    /// The total length of a pcapng block has no place for what each block has.
+    /// The total length of a pcapng block has no place for what each block has, or is more than a packet takes.
     Length,
     /// The body of a pcapng block has no place for the fields of its type.
     TooShort,
+    /// The captured length of a pcap record is more than a packet has.
+    RecordLength,
 }
 
 impl FileFault {
@@ -28,6 +30,7 @@ impl FileFault {
             FileFault::ByteOrder => "a section of a pcapng file has an unknown byte order",
             FileFault::Length => "a block of a pcapng file has an impossible length",
             FileFault::TooShort => "a block of a pcapng file is too short",
+            FileFault::RecordLength => "a record of a pcap file has an impossible length",
         }
     }
 }

@@ -7,7 +7,7 @@ ghost use Rattle.bt_pcap.specs.Reading.{read_header, read_first, read_section, r
 ghost use Rattle.bt_pcap.specs.Steps.{Gives};
 ghost use Rattle.bt_pcap.specs.Captures.{Answers, GoesOn};
 
-use crate::blocks::{least_body, note, packet_of};
+use crate::blocks::{least_body, most_body, note, packet_of};
 use crate::fault::FileFault;
 use crate::fronts::{Step, front, item};
 use crate::interfaces::Interfaces;
@@ -131,6 +131,9 @@ impl CaptureFile {
         if total - 12 < least_body(kind) {
             return Err(FileFault::TooShort);
         }
+        if total - 12 > most_body(kind) {
+            return Err(FileFault::Length);
+        }
         let Some(front) = front(bytes, total as usize) else {
             return Ok(Step::More);
         };
@@ -186,7 +189,7 @@ impl CaptureFile {
                 order,
                 fraction,
                 link,
-            } => Ok(record(order, scale(fraction), link, bytes)),
+            } => record(order, scale(fraction), link, bytes),
             Kind::Pcapng { order } => self.block(order, bytes),
         }
     }

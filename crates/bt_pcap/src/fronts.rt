@@ -8,6 +8,9 @@ pub const KEEP: usize = 1_048_576;
 /// The most bytes that a step needs: `CaptureFile::step` never asks for more of them.
 pub const NEED: usize = KEEP + 28;
 
+/// The most bytes of a packet: a longer one is a fault of the file.
+pub(crate) const LONGEST: u32 = 16_777_216;
+
 /// A packet as it was captured.
 #[derive(Clone, Copy, Debug, PartialEq, Eq)]
 pub struct Packet<'a> {

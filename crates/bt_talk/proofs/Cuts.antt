@@ -4,6 +4,7 @@ use Rattle.std.proofs.lemmas.Bool.{cases_lt}
 use Rattle.std.proofs.lemmas.List.{drop-take, drop_all, take-append-le, take_all}
 use Rattle.bt_ext.specs.declared.ids.Rules.TheVariants.{Free}
 use Rattle.bt_intro.specs.declared.settling.Receiver.{Receiver}
+use Rattle.bt_judge.proofs.Both.{free_now}
 use Rattle.bt_judge.specs.declared.judge.Judge.{Judge}
 use Rattle.bt_judge.specs.Judges.{AreJudged, under}
 use Rattle.bt_judge.specs.Readings.{IsStanding}
@@ -34,27 +35,33 @@ nothing_by o xs ys e f i = subst (λ (k : Option Refusal). IsLastBy k ys Nothing
 -- The stream is refused.
 pub last_refused : (own : Own) (b : List ℕ) (xs ys : List (ℕ × Item)) (judge : Judge) (o : Option Refusal) (r : Refusal) → AreJudged own b xs ys judge
     → IsStanding (under Free own) b o → o ≡ Some r → IsLastIn own b (Refused r)
-last_refused own b xs ys judge o r j h e = record {
-  verdict = j.free.now;
-  is = j.free.is;
-  by = last_by j.free.now.refusal r j.free.now.items (standing (under Free own) b j.free.now o j.free.is h ∙ e);
-}
+last_refused own b xs ys judge o r j h e =
+    let now = free_now own b xs ys judge j in
+    record {
+      verdict = now.now;
+      is = now.is;
+      by = last_by now.now.refusal r now.now.items (standing (under Free own) b now.now o now.is h ∙ e);
+    }
 
 pub last_item : (own : Own) (b : List ℕ) (xs ys : List (ℕ × Item)) (judge : Judge) (o : Option Refusal) (said : Said) → AreJudged own b xs ys judge
     → IsStanding (under Free own) b o → o ≡ None → IsLast xs (Some said) → IsLastIn own b (LastItem said)
-last_item own b xs ys judge o said j h e i = record {
-  verdict = j.free.now;
-  is = j.free.is;
-  by = item_by j.free.now.refusal xs j.free.now.items said (standing (under Free own) b j.free.now o j.free.is h ∙ e) j.free.items i;
-}
+last_item own b xs ys judge o said j h e i =
+    let now = free_now own b xs ys judge j in
+    record {
+      verdict = now.now;
+      is = now.is;
+      by = item_by now.now.refusal xs now.now.items said (standing (under Free own) b now.now o now.is h ∙ e) now.items i;
+    }
 
 pub last_nothing : (own : Own) (b : List ℕ) (xs ys : List (ℕ × Item)) (judge : Judge) (o : Option Refusal) → AreJudged own b xs ys judge
     → IsStanding (under Free own) b o → o ≡ None → xs ≡ [] → IsLastIn own b Nothing
-last_nothing own b xs ys judge o j h e i = record {
-  verdict = j.free.now;
-  is = j.free.is;
-  by = nothing_by j.free.now.refusal xs j.free.now.items (standing (under Free own) b j.free.now o j.free.is h ∙ e) j.free.items i;
-}
+last_nothing own b xs ys judge o j h e i =
+    let now = free_now own b xs ys judge j in
+    record {
+      verdict = now.now;
+      is = now.is;
+      by = nothing_by now.now.refusal xs now.now.items (standing (under Free own) b now.now o now.is h ∙ e) now.items i;
+    }
 
 -- ---- further bytes
 

@@ -4,7 +4,9 @@ use Rattle.std.proofs.lemmas.Bool.{cases_lt}
 use Rattle.bt_ext.specs.declared.ids.Rules.TheVariants.{Free}
 use Rattle.bt_feed.specs.Pumps.{Took}
 use Rattle.bt_intro.specs.Hellos.{IsFirstHello}
+use Rattle.bt_judge.proofs.Both.{free_now}
 use Rattle.bt_judge.specs.declared.judge.Judge.{Judge}
+use Rattle.bt_judge.proofs.Both.{free_now}
 use Rattle.bt_judge.specs.Judges.{under}
 use Rattle.bt_wire.specs.declared.context.Own.{Own}
 use Rattle.bt_wire.specs.declared.item.Item.{Item}
@@ -34,20 +36,16 @@ items_only own p xs ys limit i j =
 
 -- the items that a judge has read
 pub judged_items : (own : Own) (p : Past) (judge : Judge) (j : IsJudgedBy own p judge) → AreItems own p j.free
-judged_items own p judge j = record {
-  start = j.start;
-  first = j.first;
-  verdict = j.judged.free.now;
-  is = j.judged.free.is;
-  items = j.judged.free.items;
-}
+judged_items own p judge j =
+    let now = free_now own (drop j.start p.out) j.free j.bep judge j.judged in
+    record { start = j.start; first = j.first; verdict = now.now; is = now.is; items = now.items }
 
 -- A judge has read further items.
 pub judged_more_items : (own : Own) (p q : Past) (more : List (ℕ × Item)) (old new : Judge) (w w' : Watch) (j : IsJudgedBy own p old)
     (k : IsJudgedBy own q new) → k.free ≡ j.free ++ more → Took Watches w more w' → (xs : List (ℕ × Item)) → AreItems own p xs
     → (later : List (ℕ × Item)) × AreItems own q (xs ++ later) × Took Watches w later w'
 judged_more_items own p q more old new w w' j k e took xs i =
-    let same : j.free ≡ xs = items_only own p j.free xs j.judged.free.limit (judged_items own p old j) i in
+    let same : j.free ≡ xs = items_only own p j.free xs j.judged.bep.limit (judged_items own p old j) i in
     let all : k.free ≡ xs ++ more = e ∙ ap (λ (l : List (ℕ × Item)). l ++ more) same in
     (more, subst (λ (l : List (ℕ × Item)). AreItems own q l) all (judged_items own q new k), took)
 
@@ -74,7 +72,7 @@ items_same own p q xs e f i = record {
 -- What a side has said stays when it is acknowledged.
 pub items_stay : (s : Stage) (p q : Past) (xs : List (ℕ × Item)) → q.front ≡ p.front → q.out ≡ p.out → AreItemsIn s p xs → AreItemsIn s q xs
 items_stay (Opening front) p q xs e f i = i
-items_stay (Open j) p q xs e f i = items_same j.receiver.own p q xs e f i
+items_stay (Open j) p q xs e f i = items_same j.value.receiver.own p q xs e f i
 items_stay Stranger p q xs e f i = i
 
 pub nothing_more : (xs : List (ℕ × Item)) → xs ≡ [] → xs ++ [] ≡ []

@@ -3,7 +3,7 @@ use Rattle.std.proofs.Common.{◌≡◌, ℕ, Bool, List, [], ◌∷◌, ◌++�
 use Rattle.bt_tcp.specs.Heard.{Took}
 use Rattle.bt_flow.specs.declared.flow.Flow.{Flow}
 use Rattle.bt_flow.specs.declared.flow.Given.{Given}
-use Rattle.bt_flow.specs.Flows.{IsFlow, FlowTakes, HasTaken, sent_at, with_segment}
+use Rattle.bt_flow.specs.Flows.{IsFlow, FlowTakes, FlowTakesNext, HasTaken, sent_at, with_segment}
 use Rattle.bt_talk.specs.Pasts.{Past, IsFlowOf, Adds}
 
 -- the past after a segment, whose bytes were appended to these
@@ -36,3 +36,8 @@ by_taken g opening p flow given flow' given' t (inr h) = record {
 pub more_by : (g : Given) (opening : Bool) (p : Past) (flow : Flow) (given : List ℕ) (flow' : Flow) (given' : List ℕ) → IsFlowOf p flow
     → FlowTakes g flow given flow' given' → More g opening p flow given flow' given'
 more_by g opening p flow given flow' given' f t = by_taken g opening p flow given flow' given' t (t.taken p.heard p.segs p.out f)
+
+-- as above, if its bytes come in two parts
+pub more_next : (g : Given) (opening : Bool) (p : Past) (flow : Flow) (fresh later : List ℕ) (flow' : Flow) (later' : List ℕ) → IsFlowOf p flow
+    → (t : FlowTakesNext g flow fresh later flow' later') → More g opening p flow [] flow' (fresh ++ t.rest)
+more_next g opening p flow fresh later flow' later' f t = more_by g opening p flow [] flow' (fresh ++ t.rest) f (t.more [])

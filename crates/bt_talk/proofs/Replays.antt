@@ -20,7 +20,7 @@ use Rattle.bt_talk.specs.declared.watch.Watch.{Watch}
 use Rattle.bt_talk.specs.Cuts.{IsCutNow, IsLastIn, IsLastOf, cut_length}
 use Rattle.bt_talk.specs.Pasts.{Past}
 use Rattle.bt_talk.specs.Receivers.{IsJudgedBy}
-use Rattle.bt_talk.specs.Replays.{IsJudgedTo, IsReplay, IsReplayBy, IsReplayOf, IsReplayed, IsParted, IsFollowed, upto, close_length}
+use Rattle.bt_talk.specs.Replays.{Held, IsJudgedTo, IsReplay, IsReplayBy, IsReplayOf, IsReplayed, IsParted, IsFollowed, upto, close_length}
 use Rattle.bt_talk.specs.Shown.{IsSeen, ShowsOthers}
 use Rattle.bt_talk.specs.Watching.{IsLast, IsWatched, Watches, notes_of, tell, with_items}
 use Rattle.bt_talk.proofs.Items.{first_only}
@@ -56,7 +56,7 @@ judged_all p xs j i = (
 -- ---- up to the close
 
 -- Further bytes are judged, on this side of the close.
-pub nearer : (p : Past) (receiver : Option Receiver) (cut : Option ℕ) (xs : List (ℕ × Item)) (left left' : List ℕ) (judged judged' : Option Judged)
+pub nearer : (p : Past) (receiver : Option Receiver) (cut : Option ℕ) (xs : List (ℕ × Item)) (left left' : List ℕ) (judged judged' : Option Held)
     (close : Close) (w w' : Watch) → ((q : Past) → IsReplayBy q receiver xs left judged
     → (more : List (ℕ × Item)) × IsReplayBy q receiver (xs ++ more) left' judged' × Took Watches w more w')
     → IsReplayOf p receiver cut xs left judged close
@@ -66,7 +66,7 @@ nearer p receiver cut xs left left' judged judged' (Passed (Some c)) w w' f i = 
 nearer p receiver cut xs left left' judged judged' (Ahead n after) w w' f i = let m = f (upto n p) i.1 in (m.0, (i.0, m.1, i.2), m.2)
 
 -- All up to the close is judged, and what follows it is left.
-pub past_close : (p : Past) (n : ℕ) (receiver : Option Receiver) (xs : List (ℕ × Item)) (after : List ℕ) (judged : Option Judged) → IsFollowed p n after
+pub past_close : (p : Past) (n : ℕ) (receiver : Option Receiver) (xs : List (ℕ × Item)) (after : List ℕ) (judged : Option Held) → IsFollowed p n after
     → IsReplayBy (upto n p) receiver xs [] judged → IsReplayBy p receiver xs after judged
 past_close p n receiver xs after None f i = i
 past_close p n receiver xs after (Some j) f i =
@@ -89,9 +89,9 @@ follows p start n after first e = λ k f.
     subst (λ (m : ℕ). drop m p.out ≡ drop m (take n p.out) ++ after) same e
 
 -- No byte is judged.
-pub begun : (p : Past) (cut : Option ℕ) (start : ℕ) (left : List ℕ) (j : Judged) (close : Close) → IsFirstHello p.front start
-    → AreJudged j.receiver.own [] [] [] j.judge → IsParted start p.out left close → close_length close ≡ cut
-    → IsReplayOf p (Some j.receiver) cut [] left (Some j) close
+pub begun : (p : Past) (cut : Option ℕ) (start : ℕ) (left : List ℕ) (j : Held) (close : Close) → IsFirstHello p.front start
+    → AreJudged j.value.receiver.own [] [] [] j.value.judge → IsParted start p.out left close → close_length close ≡ cut
+    → IsReplayOf p (Some j.value.receiver) cut [] left (Some j) close
 begun p cut start left j (Passed None) first judged parts e = (
   sym e,
   (refl, record { start = start; first = first; taken = []; whole = sym parts.1; bep = []; judged = judged }),
@@ -104,7 +104,7 @@ begun p cut start left j (Ahead n after) first judged parts e = (
 )
 
 -- Once all is judged the last before the close is known.
-pub ended : (p : Past) (receiver : Option Receiver) (cut : Option ℕ) (xs : List (ℕ × Item)) (judged : Option Judged) (o : Option Cut)
+pub ended : (p : Past) (receiver : Option Receiver) (cut : Option ℕ) (xs : List (ℕ × Item)) (judged : Option Held) (o : Option Cut)
     → IsReplayOf p receiver cut xs [] judged (Passed o) → (cut_length o ≡ cut) × IsReplayBy p receiver xs [] judged × IsCutNow receiver p.front p.out o
 ended p receiver cut xs judged None i = (sym i.0, i.1, tt)
 ended p receiver cut xs judged (Some c) i = (sym i.0, i.1, i.2)

@@ -1,5 +1,5 @@
 -- The bytes that are handed out.
-use Rattle.std.proofs.Common.{◌≡◌, ◌∙◌, ℕ, ◌≤◌, Bool, true, false, List, [], ◌++◌, append-nil, drop, length, Option, Some, None, unwrap_or, refl, sym, ap, subst, arith}
+use Rattle.std.proofs.Common.{◌≡◌, ◌∙◌, ℕ, ◌≤◌, Bool, true, false, if◌then◌else◌, List, [], ◌++◌, append-nil, drop, length, Option, Some, None, unwrap_or, refl, sym, ap, subst, arith}
 use Rattle.std.proofs.lemmas.List.{drop-append-le}
 use Rattle.bt_intro.specs.Hellos.{IsStartOf}
 use Rattle.bt_packet.specs.declared.tcp.Segment.{Segment}
@@ -9,28 +9,35 @@ use Rattle.bt_remarks.specs.declared.events.Side.TheVariants.{A, B}
 use Rattle.bt_remarks.specs.Said.{other}
 use Rattle.bt_talk.specs.declared.talk.Talk.{Talk}
 use Rattle.bt_talk.specs.Pasts.{Past, HasSent, HasSentBy, IsAcked, given_of}
-use Rattle.bt_talk.specs.Sent.{IsReady, IsSent, SendsOn}
+use Rattle.bt_talk.specs.Sent.{IsReady, IsSent, SendsOn, is_wanted}
 use Rattle.bt_talk.specs.Talks.{IsTalk, of_side}
 use Rattle.bt_talk.proofs.Receivers.{start_within}
 use Rattle.bt_talk.proofs.Talks.{acked_same, front_kept}
 
 -- ---- a segment's bytes
 
-ready_same : (opening : Bool) (p q : Past) (l m : List ℕ) → m ≡ l → IsReady opening p q l → IsReady opening p q m
-ready_same opening p q l m e r = subst (λ (x : List ℕ). IsReady opening p q x) (sym e) r
+pub ready_none : (opening wanted : Bool) (p q : Past) (l : List ℕ) → q.out ≡ p.out → l ≡ [] → IsReady opening wanted p q l
+ready_none true wanted p q l e f = f
+ready_none false true p q l e f = e ∙ sym (append-nil p.out) ∙ ap (λ (x : List ℕ). p.out ++ x) (sym f)
+ready_none false false p q l e f = f
 
-pub ready_none : (opening : Bool) (p q : Past) (l : List ℕ) → q.out ≡ p.out → l ≡ [] → IsReady opening p q l
-ready_none true p q l e f = f
-ready_none false p q l e f = e ∙ sym (append-nil p.out) ∙ ap (λ (x : List ℕ). p.out ++ x) (sym f)
+-- After the opening
+pub ready_now : (wanted : Bool) (p q : Past) (more l : List ℕ) → q.out ≡ p.out ++ more → l ≡ (if wanted then more else []) → IsReady false wanted p q l
+ready_now true p q more l e f = e ∙ ap (λ (x : List ℕ). p.out ++ x) (sym f)
+ready_now false p q more l e f = f
 
--- Only the sender's bytes are kept, if it is the wanted side.
-pub ready_kept : (opening : Bool) (side wanted : Side) (a b a' b' : Past) (l m : List ℕ) → IsReady opening (of_side side a b) (of_side side a' b') l
-    → (of_side (other side) a' b').out ≡ (of_side (other side) a b).out → (wanted ≡ side → m ≡ l) → (wanted ≡ other side → m ≡ [])
-    → IsReady opening (of_side wanted a b) (of_side wanted a' b') m
-ready_kept opening A A a b a' b' l m r e f g = ready_same opening a a' l m (f refl) r
-ready_kept opening B B a b a' b' l m r e f g = ready_same opening b b' l m (f refl) r
-ready_kept opening A B a b a' b' l m r e f g = ready_none opening b b' m e (g refl)
-ready_kept opening B A a b a' b' l m r e f g = ready_none opening a a' m e (g refl)
+unready : (opening : Bool) (p q : Past) (l : List ℕ) → IsReady opening false p q l → l ≡ []
+unready true p q l r = r
+unready false p q l r = r
+
+-- If the wanted side didn't send the segment, nothing is handed out.
+pub ready_kept : (opening : Bool) (side wanted : Side) (a b a' b' : Past) (l : List ℕ)
+    → IsReady opening (is_wanted side (Some wanted)) (of_side side a b) (of_side side a' b') l
+    → (of_side (other side) a' b').out ≡ (of_side (other side) a b).out → IsReady opening true (of_side wanted a b) (of_side wanted a' b') l
+ready_kept opening A A a b a' b' l r e = r
+ready_kept opening B B a b a' b' l r e = r
+ready_kept opening A B a b a' b' l r e = ready_none opening true b b' l e (unready opening a a' l r)
+ready_kept opening B A a b a' b' l r e = ready_none opening true a a' l e (unready opening b b' l r)
 
 sent_front : (reset : Bool) (s : Segment) (opening : Bool) (p : Past) (flow : Flow) (q : Past) (flow' : Flow) → HasSentBy reset s opening p flow q flow'
     → opening ≡ false → q.front ≡ p.front
@@ -63,7 +70,7 @@ sends_after p q later more e f g before i = record {
 }
 
 -- What was ready is handed out, or what came in the opening, which ends.
-pub sends_on : (opening opening' : Bool) (p q : Past) (later ready more : List ℕ) → p.out ≡ p.front ++ later → IsReady opening p q ready
+pub sends_on : (opening opening' : Bool) (p q : Past) (later ready more : List ℕ) → p.out ≡ p.front ++ later → IsReady opening true p q ready
     → (opening ≡ false → q.front ≡ p.front) → (opening ≡ false → opening' ≡ false) → (opening ≡ false → more ≡ ready)
     → (opening ≡ true → ready ≡ [] → IsSent opening' q more) → SendsOn opening p opening' q more
 sends_on true opening' p q later ready more e r f o s h before i =

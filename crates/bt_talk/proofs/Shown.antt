@@ -1,5 +1,6 @@
 -- Rows show further items.
-use Rattle.std.proofs.Common.{◌≡◌, ◌∙◌, ℕ, Bool, true, List, [], ◌∷◌, ◌++◌, append-nil, append_assoc, Option, Some, None, unwrap_or, ◌-◌, Result, Ok, Err, OnErr, refl, sym, ap, subst, if◌then◌else◌}
+use Rattle.std.proofs.Common.{◌≡◌, ◌∙◌, ℕ, Bool, true, List, [], ◌∷◌, ◌++◌, append-nil, append_assoc, Option, Some, None}
+use Rattle.std.proofs.Common.{◌-◌, Result, Ok, Err, OnErr, refl, sym, ap, subst, if◌then◌else◌}
 use Rattle.std.specs.List.{filter}
 use Rattle.std.proofs.lemmas.Grind.{flat_map-append}
 use Rattle.std.proofs.lemmas.List.Elements.{filter-append}
@@ -18,7 +19,7 @@ use Rattle.bt_talk.specs.declared.closing.When.{When}
 use Rattle.bt_talk.specs.declared.rows.Heading.{Heading}
 use Rattle.bt_talk.specs.declared.rows.Rows.{Rows}
 use Rattle.bt_talk.specs.declared.watch.Watch.{Watch}
-use Rattle.bt_talk.specs.Courses.{refusal_rows, close_rows, gap_rows, no_remarks}
+use Rattle.bt_talk.specs.Courses.{refusal_rows, close_rows, gap_rows, rows_at, no_remarks}
 use Rattle.bt_talk.specs.Inside.{inside_rows}
 use Rattle.bt_talk.specs.Rows.{Shown, row_at, shown_text, shown_texts, is_item}
 use Rattle.bt_talk.specs.Shows.{Appends}
@@ -217,33 +218,40 @@ shows_others w w' h when side before now offset closed i = record {
 
 pub gaps_none : (h : Heading) (when : Option When) (side : Side) (start : ℕ) (gap : Option Gap) → filter is_item (gap_rows h when side start gap) ≡ []
 gaps_none h when side start None = refl
-gaps_none h when side start (Some gap) = refl
+gaps_none h None side start (Some gap) = refl
+gaps_none h (Some w) side start (Some gap) = refl
 
-pub gap_shown : (r r' : Rows) (grown : Option When) (side : Side) (start : ℕ) (first : Option Gap) (gap : Gap) (when : When) (offset : ℕ) → first ≡ Some gap
-    → when ≡ unwrap_or grown (record { nanos = r.heading.start; packet = 0 }) → offset ≡ gap.place - start
-    → Appends (row_at r.heading when side offset (deed.Gap gap.length) no_remarks ∷ []) r r' → Appends (gap_rows r.heading grown side start first) r r'
-gap_shown r r' grown side start first gap when offset e f g i =
-    subst (λ (o : Option Gap). Appends (gap_rows r.heading grown side start o) r r') (sym e)
-    (subst (λ (w : When). Appends (row_at r.heading w side (gap.place - start) (deed.Gap gap.length) no_remarks ∷ []) r r') f
-    (subst (λ (n : ℕ). Appends (row_at r.heading when side n (deed.Gap gap.length) no_remarks ∷ []) r r') g i))
+-- a row at a packet
+pub at_packet : (r r' : Rows) (end : Option When) (row : When → Shown) (when : When) → end ≡ Some when → Appends (row when ∷ []) r r'
+    → Appends (rows_at end row) r r'
+at_packet r r' end row when e i = subst (λ (o : Option When). Appends (rows_at o row) r r') (sym e) i
 
-pub gap_unshown : (r : Rows) (grown : Option When) (side : Side) (start : ℕ) (first : Option Gap) → first ≡ None
-    → Appends (gap_rows r.heading grown side start first) r r
-gap_unshown r grown side start first e = subst (λ (o : Option Gap). Appends (gap_rows r.heading grown side start o) r r) (sym e) (appends_none r)
+pub at_none : (r : Rows) (end : Option When) (row : When → Shown) → end ≡ None → Appends (rows_at end row) r r
+at_none r end row e = subst (λ (o : Option When). Appends (rows_at o row) r r) (sym e) (appends_none r)
+
+pub gap_shown : (r r' : Rows) (end : Option When) (side : Side) (start : ℕ) (first : Option Gap) (gap : Gap) (offset : ℕ)
+    → first ≡ Some gap → offset ≡ gap.place - start
+    → Appends (rows_at end (λ when. row_at r.heading when side offset (deed.Gap gap.length) no_remarks)) r r'
+    → Appends (gap_rows r.heading end side start first) r r'
+gap_shown r r' end side start first gap offset e g i =
+    subst (λ (o : Option Gap). Appends (gap_rows r.heading end side start o) r r') (sym e)
+    (subst (λ (n : ℕ). Appends (rows_at end (λ when. row_at r.heading when side n (deed.Gap gap.length) no_remarks)) r r') g i)
+
+pub gap_unshown : (r : Rows) (end : Option When) (side : Side) (start : ℕ) (first : Option Gap) → first ≡ None
+    → Appends (gap_rows r.heading end side start first) r r
+gap_unshown r end side start first e = subst (λ (o : Option Gap). Appends (gap_rows r.heading end side start o) r r) (sym e) (appends_none r)
 
 pub inside_none : (h : Heading) (when : Option When) (side : Side) (r : Option Refusal) → filter is_item (inside_rows h when side r) ≡ []
 inside_none h when side None = refl
-inside_none h when side (Some r) = refl
+inside_none h None side (Some r) = refl
+inside_none h (Some w) side (Some r) = refl
 
-pub inside_shown : (r r' : Rows) (grown : Option When) (side : Side) (o : Option Refusal) (f : Refusal) (when : When) → o ≡ Some f
-    → when ≡ unwrap_or grown (record { nanos = r.heading.start; packet = 0 }) → Appends (row_at r.heading when side f.at (deed.Refused f) no_remarks ∷ []) r r'
-    → Appends (inside_rows r.heading grown side o) r r'
-inside_shown r r' grown side o f when e g i =
-    subst (λ (x : Option Refusal). Appends (inside_rows r.heading grown side x) r r') (sym e)
-    (subst (λ (w : When). Appends (row_at r.heading w side f.at (deed.Refused f) no_remarks ∷ []) r r') g i)
+pub inside_shown : (r r' : Rows) (end : Option When) (side : Side) (o : Option Refusal) (f : Refusal) → o ≡ Some f
+    → Appends (rows_at end (λ when. row_at r.heading when side f.at (deed.Refused f) no_remarks)) r r' → Appends (inside_rows r.heading end side o) r r'
+inside_shown r r' end side o f e i = subst (λ (x : Option Refusal). Appends (inside_rows r.heading end side x) r r') (sym e) i
 
-pub inside_unshown : (r : Rows) (grown : Option When) (side : Side) (o : Option Refusal) → o ≡ None → Appends (inside_rows r.heading grown side o) r r
-inside_unshown r grown side o e = subst (λ (x : Option Refusal). Appends (inside_rows r.heading grown side x) r r) (sym e) (appends_none r)
+pub inside_unshown : (r : Rows) (end : Option When) (side : Side) (o : Option Refusal) → o ≡ None → Appends (inside_rows r.heading end side o) r r
+inside_unshown r end side o e = subst (λ (x : Option Refusal). Appends (inside_rows r.heading end side x) r r) (sym e) (appends_none r)
 
 -- Rows were appended before an error.
 pub rows_before : {A E : Type 0} (r : Result A E) (rows : List Shown) (old new : Rows) → Appends rows old new → OnErr r ((xs : List Shown) × Appends xs old new)

@@ -17,14 +17,17 @@ use Rattle.bt_talk.proofs.Receivers.{receiver_same, judged_same}
 pub stage_same : (terms : Terms) (p q p' q' : Past) (s : Stage) → p'.out ≡ p.out → p'.front ≡ p.front → q'.front ≡ q.front → IsStage terms p q s
     → IsStage terms p' q' s
 stage_same terms p q p' q' (Opening front) o e f i = (i.0 ∙ sym o, e ∙ i.1 ∙ sym o)
-stage_same terms p q p' q' (Open j) o e f i = (receiver_same terms p q p' q' (Some j.receiver) e f i.0, judged_same j.receiver.own p p' j.judge e o i.1)
+stage_same terms p q p' q' (Open j) o e f i = (
+  receiver_same terms p q p' q' (Some j.value.receiver) e f i.0,
+  judged_same j.value.receiver.own p p' j.value.judge e o i.1,
+)
 stage_same terms p q p' q' Stranger o e f i = receiver_same terms p q p' q' None e f i
 
 -- The other side's front matters only after the opening.
 pub stage_beside : (terms : Terms) (p q q' : Past) (s : Stage) → (is_opening s ≡ false → q'.front ≡ q.front) → IsStage terms p q s
     → IsStage terms p q' s
 stage_beside terms p q q' (Opening front) f i = i
-stage_beside terms p q q' (Open j) f i = (receiver_same terms p q p q' (Some j.receiver) refl (f refl) i.0, i.1)
+stage_beside terms p q q' (Open j) f i = (receiver_same terms p q p q' (Some j.value.receiver) refl (f refl) i.0, i.1)
 stage_beside terms p q q' Stranger f i = receiver_same terms p q p q' None refl (f refl) i
 
 pub beside : (terms : Terms) (p q q' : Past) (d : Direction) → (is_opening d.stage ≡ false → q'.front ≡ q.front) → IsDirection terms p q d

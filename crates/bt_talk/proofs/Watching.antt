@@ -12,10 +12,10 @@ use Rattle.bt_remarks.specs.Remarked.{remarks_on, tally_of, tally_after, found_a
 use Rattle.bt_remarks.specs.Said.{Told, Message, is_same}
 use Rattle.bt_told.specs.declared.said.Said.{Said}
 use Rattle.bt_wire.specs.declared.item.Item.{Item}
-use Rattle.bt_talk.specs.declared.watch.Notes.{Notes}
 use Rattle.bt_talk.specs.declared.watch.Watch.{Watch}
 use Rattle.bt_talk.specs.Events.{event_of}
-use Rattle.bt_talk.specs.Watching.{IsSaid, told_of, tell, said_by, messages_of, IsAmong, IsItemAt, AreNoted, notes_of, IsWatched, with_items, first_said, noted, Watches}
+use Rattle.bt_talk.specs.Watching.{IsSaid, told_of, tell, said_by, messages_of, IsAmong, IsItemAt, AreNoted, notes_of, IsWatched, with_items, Watches}
+use Rattle.bt_talk.specs.Kept.{Kept, first_said, noted}
 
 -- ---- the first item with a remark
 
@@ -67,7 +67,7 @@ tally_next : (side : Side) (e : Told) (events : List Told) (b : Bool) → is_sam
 tally_next side e events b is =
     ap (λ (k : Bool). if k then tally_after (remarks_on e events) e.mark (tally_of side events) else tally_of side events) is
 
-noted_mine : (s : Side) (e : Told) (events : List Told) (xs : List (ℕ × Item)) (x : ℕ × Item) (n : Notes) (said : Said) → is_same e.side s ≡ true
+noted_mine : (s : Side) (e : Told) (events : List Told) (xs : List (ℕ × Item)) (x : ℕ × Item) (n : Kept) (said : Said) → is_same e.side s ≡ true
     → e.mark ≡ x.0 → e.message ≡ event_of x.1 → IsSaid x said → AreNoted s events xs n
     → AreNoted s (e ∷ events) (xs ++ x ∷ []) (noted (remarks_on e events) said n)
 noted_mine s e events xs x n said same mark message is i =
@@ -80,38 +80,38 @@ noted_mine s e events xs x n said same mark message is i =
           ∙ ap (λ (k : ℕ). messages_of xs ++ (k, e.message) ∷ []) mark ∙ ap (λ (m : Message). messages_of xs ++ (x.0, m) ∷ []) message
           ∙ sym (messages_more xs x);
       last = (xs, x, refl, is);
-      unasked = subst (λ (t : Tally). IsItemAt (xs ++ x ∷ []) t.unasked.first (first_said r.unasked said n.unasked)) (sym tally)
-          (first_more xs x r.unasked old.unasked n.unasked said is i.unasked);
-      choked = subst (λ (t : Tally). IsItemAt (xs ++ x ∷ []) t.choked.first (first_said r.choked said n.choked)) (sym tally)
-          (first_more xs x r.choked old.choked n.choked said is i.choked);
-      again = subst (λ (t : Tally). IsItemAt (xs ++ x ∷ []) t.again.first (first_said r.again said n.again)) (sym tally)
-          (first_more xs x r.again old.again n.again said is i.again);
-      elsewhere = subst (λ (t : Tally). IsItemAt (xs ++ x ∷ []) t.elsewhere.first (first_said r.elsewhere said n.elsewhere)) (sym tally)
-          (first_more xs x r.elsewhere old.elsewhere n.elsewhere said is i.elsewhere);
+      unasked = subst (λ (t : Tally). IsItemAt (xs ++ x ∷ []) t.unasked.first (first_said r.unasked said n.firsts.unasked)) (sym tally)
+          (first_more xs x r.unasked old.unasked n.firsts.unasked said is i.unasked);
+      choked = subst (λ (t : Tally). IsItemAt (xs ++ x ∷ []) t.choked.first (first_said r.choked said n.firsts.choked)) (sym tally)
+          (first_more xs x r.choked old.choked n.firsts.choked said is i.choked);
+      again = subst (λ (t : Tally). IsItemAt (xs ++ x ∷ []) t.again.first (first_said r.again said n.firsts.again)) (sym tally)
+          (first_more xs x r.again old.again n.firsts.again said is i.again);
+      elsewhere = subst (λ (t : Tally). IsItemAt (xs ++ x ∷ []) t.elsewhere.first (first_said r.elsewhere said n.firsts.elsewhere)) (sym tally)
+          (first_more xs x r.elsewhere old.elsewhere n.firsts.elsewhere said is i.elsewhere);
     }
 
-noted_theirs : (s : Side) (e : Told) (events : List Told) (xs : List (ℕ × Item)) (n : Notes) → is_same e.side s ≡ false → AreNoted s events xs n
+noted_theirs : (s : Side) (e : Told) (events : List Told) (xs : List (ℕ × Item)) (n : Kept) → is_same e.side s ≡ false → AreNoted s events xs n
     → AreNoted s (e ∷ events) xs n
 noted_theirs s e events xs n same i =
     let tally = tally_next s e events false same in
     record {
       said = said_next s e events false same ∙ i.said;
       last = i.last;
-      unasked = subst (λ (t : Tally). IsItemAt xs t.unasked.first n.unasked) (sym tally) i.unasked;
-      choked = subst (λ (t : Tally). IsItemAt xs t.choked.first n.choked) (sym tally) i.choked;
-      again = subst (λ (t : Tally). IsItemAt xs t.again.first n.again) (sym tally) i.again;
-      elsewhere = subst (λ (t : Tally). IsItemAt xs t.elsewhere.first n.elsewhere) (sym tally) i.elsewhere;
+      unasked = subst (λ (t : Tally). IsItemAt xs t.unasked.first n.firsts.unasked) (sym tally) i.unasked;
+      choked = subst (λ (t : Tally). IsItemAt xs t.choked.first n.firsts.choked) (sym tally) i.choked;
+      again = subst (λ (t : Tally). IsItemAt xs t.again.first n.firsts.again) (sym tally) i.again;
+      elsewhere = subst (λ (t : Tally). IsItemAt xs t.elsewhere.first n.firsts.elsewhere) (sym tally) i.elsewhere;
     }
 
-noted_step : (s side : Side) (known : Bool) (events : List Told) (xs : List (ℕ × Item)) (x : ℕ × Item) (n n' : Notes) (said : Said) (r : Remarks) (b : Bool)
+noted_step : (s side : Side) (known : Bool) (events : List Told) (xs : List (ℕ × Item)) (x : ℕ × Item) (n n' : Kept) (said : Said) (r : Remarks) (b : Bool)
     → is_same side s ≡ b → IsSaid x said → r ≡ remarks_on (told_of side known x) events → n' ≡ (if b then noted r said n else n) → AreNoted s events xs n
     → AreNoted s (told_of side known x ∷ events) (if b then xs ++ x ∷ [] else xs) n'
 noted_step s side known events xs x n n' said r true same is remarks e i =
     let now : n' ≡ noted (remarks_on (told_of side known x) events) said n = e ∙ ap (λ (k : Remarks). noted k said n) remarks in
-    subst (λ (m : Notes). AreNoted s (told_of side known x ∷ events) (xs ++ x ∷ []) m) (sym now)
+    subst (λ (m : Kept). AreNoted s (told_of side known x ∷ events) (xs ++ x ∷ []) m) (sym now)
     (noted_mine s (told_of side known x) events xs x n said same refl refl is i)
 noted_step s side known events xs x n n' said r false same is remarks e i =
-    subst (λ (m : Notes). AreNoted s (told_of side known x ∷ events) xs m) (sym e) (noted_theirs s (told_of side known x) events xs n same i)
+    subst (λ (m : Kept). AreNoted s (told_of side known x ∷ events) xs m) (sym e) (noted_theirs s (told_of side known x) events xs n same i)
 
 watched_one : (events : List Told) (items : Side → List (ℕ × Item)) (w : Watch) (x : ℕ × Item) (w' : Watch) → IsWatched events items w → Watches w x w'
     → IsWatched (told_of w.side w.known x ∷ events) (with_items w.side (x ∷ []) items) w'
@@ -168,7 +168,7 @@ pub turned : (side : Side) (known : Bool) (events : List Told) (items : Side →
     → IsWatched events items (record w { side = side; known = known })
 turned side known events items w i = record {
   matched = i.matched;
-  notes = λ s. subst (λ (n : Notes). AreNoted s events (items s) n) (notes_same s side known w) (i.notes s);
+  notes = λ s. subst (λ (n : Kept). AreNoted s events (items s) n) (notes_same s side known w) (i.notes s);
 }
 
 -- What else a watch has doesn't matter.
@@ -176,7 +176,7 @@ pub watched_same : (events : List Told) (items : Side → List (ℕ × Item)) (w
     → IsWatched events items w → IsWatched events items v
 watched_same events items w v e f g i = record {
   matched = subst (λ (m : Matcher). IsMatched events m) (sym e) i.matched;
-  notes = λ s. subst (λ (n : Notes). AreNoted s events (items s) n) (sym (notes_like s w v f g)) (i.notes s);
+  notes = λ s. subst (λ (n : Kept). AreNoted s events (items s) n) (sym (notes_like s w v f g)) (i.notes s);
 }
 
 pub nothing_watched : (side : Side) (events : List Told) (items : Side → List (ℕ × Item)) (w : Watch) → IsWatched events items w

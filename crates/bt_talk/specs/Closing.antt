@@ -1,5 +1,5 @@
 -- How a connection is closed (RFC 9293 3.5.2, 3.6).
-use Rattle.std.specs.Prelude.{◌≡◌, ℕ, ◌-◌, Bool, false, ◌||◌, ◌&&◌, not, nat_eq, nat_le, nat_lt, Option, Some, None}
+use Rattle.std.specs.Prelude.{◌≡◌, ℕ, ◌-◌, Bool, false, ◌||◌, ◌&&◌, not, nat_eq, nat_le, nat_lt, Option, Some, None, is_some}
 use Rattle.std.specs.Bool.{then_some}
 use Rattle.std.specs.Option.{option_or}
 use Rattle.bt_remarks.specs.declared.events.Side.{Side}
@@ -20,9 +20,9 @@ still_open = record { closed = None; over = None }
 abbrev pub closed_after : Option Closed → Flags → Closed → Option Closed
 closed_after old flags now = option_or old (then_some (flags.fin || flags.rst) now)
 
--- The first RST ends a connection, or what comes when both FINs were reached and acknowledged.
+-- A RST ends a connection, or what comes when both FINs were reached and acknowledged; what follows puts its end off.
 abbrev pub over_after : Option ℕ → Bool → ℕ → Option ℕ
-over_after old over nanos = option_or old (then_some over nanos)
+over_after old over nanos = then_some (is_some old || over) nanos
 
 -- Four seconds later no segment is awaited.
 abbrev pub is_quiet : Option ℕ → ℕ → Bool

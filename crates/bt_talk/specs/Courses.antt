@@ -1,5 +1,5 @@
 -- What rows need to know of each side besides its items.
-use Rattle.std.specs.Prelude.{ℕ, ◌-◌, Bool, true, false, ◌||◌, List, [], ◌∷◌, Option, Some, None, unwrap_or, if◌then◌else◌}
+use Rattle.std.specs.Prelude.{ℕ, ◌-◌, Bool, true, false, ◌||◌, List, [], ◌∷◌, Option, Some, None, if◌then◌else◌}
 use Rattle.std.specs.Bool.{then_some}
 use Rattle.std.specs.Option.{option_or}
 use Rattle.bt_packet.specs.declared.tcp.Flags.{Flags}
@@ -23,6 +23,10 @@ not_begun = record { is_closed = false; grown = None }
 abbrev pub course_of : Side → Courses → Course
 course_of A c = c.a
 course_of B c = c.b
+
+-- the packet with which a side's stream grew last; without a byte of the side, the connection's first packet
+abbrev pub end_of : Side → Courses → Option When
+end_of side c = option_or (course_of side c).grown c.first
 
 -- a RST closes, or else a FIN
 abbrev pub means_of : Flags → Means
@@ -52,7 +56,12 @@ abbrev pub close_rows : Heading → When → Side → ℕ → Option Means → L
 close_rows h when side offset None = []
 close_rows h when side offset (Some by) = row_at h when side offset (deed.Closed by) no_remarks ∷ []
 
+-- a row at a packet, if one came
+abbrev pub rows_at : Option When → (When → Shown) → List Shown
+rows_at None row = []
+rows_at (Some when) row = row when ∷ []
+
 -- the row of a side's first gap, if it has one, at the packet with which the last byte before it came
 abbrev pub gap_rows : Heading → Option When → Side → ℕ → Option Gap → List Shown
 gap_rows h when side start None = []
-gap_rows h when side start (Some gap) = row_at h (unwrap_or when (record { nanos = h.start; packet = 0 })) side (gap.place - start) (deed.Gap gap.length) no_remarks ∷ []
+gap_rows h when side start (Some gap) = rows_at when (λ w. row_at h w side (gap.place - start) (deed.Gap gap.length) no_remarks)

@@ -1,5 +1,5 @@
 -- A stream that ends inside an item, though nothing cut it.
-use Rattle.std.specs.Prelude.{◌≡◌, Bool, true, false, List, [], ◌∷◌, Option, Some, None, unwrap_or}
+use Rattle.std.specs.Prelude.{◌≡◌, Bool, true, false, List, [], Option, Some, None}
 use Rattle.bt_flow.specs.Flows.{AreGapsOf}
 use Rattle.bt_remarks.specs.declared.events.Side.{Side}
 use Rattle.bt_remarks.specs.Said.{other}
@@ -16,7 +16,7 @@ use Rattle.bt_talk.specs.declared.refused.Judgement.{Judgement}
 use Rattle.bt_talk.specs.declared.rows.Heading.{Heading}
 use Rattle.bt_talk.specs.declared.rows.Rows.{Rows}
 use Rattle.bt_talk.specs.declared.talk.Talk.{Talk}
-use Rattle.bt_talk.specs.Courses.{course_of, no_remarks}
+use Rattle.bt_talk.specs.Courses.{end_of, rows_at, no_remarks}
 use Rattle.bt_talk.specs.Pasts.{Past}
 use Rattle.bt_talk.specs.Receivers.{AreVerdicts}
 use Rattle.bt_talk.specs.Rows.{Shown, row_at}
@@ -50,9 +50,9 @@ pub record EndsInside (side : Side) (a b : Past) (t : Talk) (r : Option Refusal)
 -- its row, at the packet with which its last byte came
 abbrev pub inside_rows : Heading → Option When → Side → Option Refusal → List Shown
 inside_rows h when side None = []
-inside_rows h when side (Some r) = row_at h (unwrap_or when (record { nanos = h.start; packet = 0 })) side r.at (deed.Refused r) no_remarks ∷ []
+inside_rows h when side (Some r) = rows_at when (λ w. row_at h w side r.at (deed.Refused r) no_remarks)
 
 pub record ShowsInside (side : Side) (t : Talk) (r r' : Rows) : Type 0 where
   pub refusal : Option Refusal
   pub is : (a b : Past) → IsTalk a b t → EndsInside side a b t refusal
-  pub appends : Appends (inside_rows r.heading (course_of side t.courses).grown side refusal) r r'
+  pub appends : Appends (inside_rows r.heading (end_of side t.courses) side refusal) r r'

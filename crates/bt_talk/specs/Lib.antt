@@ -18,3 +18,4 @@ pub mod Closing
 pub mod Talks
 pub mod Unanswered
 pub mod Inside
+pub mod Kept

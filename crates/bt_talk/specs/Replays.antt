@@ -1,6 +1,7 @@
 -- How far the bytes of the opening are judged, at its end.
 use Rattle.bt_talk.specs.declared.terms.Terms.{Terms}
-use Rattle.std.specs.Prelude.{◌≡◌, ℕ, Bool, true, false, List, [], ◌++◌, drop, take, Option, Some, None}
+use Rattle.std.specs.Prelude.{◌≡◌, ℕ, Bool, true, false, List, [], ◌++◌, drop, take, Option, Some, None, Box}
+use Rattle.std.specs.declared.alloc.Global.{Global}
 use Rattle.std.specs.List.{filter}
 use Rattle.bt_intro.specs.declared.settling.Receiver.{Receiver}
 use Rattle.bt_intro.specs.Hellos.{IsFirstHello}
@@ -36,9 +37,13 @@ pub record IsJudgedTo (p : Past) (xs : List (ℕ × Item)) (left : List ℕ) (j 
   pub bep : List (ℕ × Item)
   pub judged : AreJudged j.receiver.own taken xs bep j.judge
 
-abbrev pub IsReplayBy : Past → Option Receiver → List (ℕ × Item) → List ℕ → Option Judged → Type 0
+-- a stream with its receiver, in memory of its own
+abbrev pub Held : Type 0
+Held = Box Judged Global
+
+abbrev pub IsReplayBy : Past → Option Receiver → List (ℕ × Item) → List ℕ → Option Held → Type 0
 IsReplayBy p receiver xs left None = (receiver ≡ None) × (xs ≡ [])
-IsReplayBy p receiver xs left (Some j) = (receiver ≡ Some j.receiver) × IsJudgedTo p xs left j
+IsReplayBy p receiver xs left (Some j) = (receiver ≡ Some j.value.receiver) × IsJudgedTo p xs left j.value
 
 -- ---- up to the close
 
@@ -64,7 +69,7 @@ abbrev pub IsFollowed : Past → ℕ → List ℕ → Type 0
 IsFollowed p n after = (start : ℕ) → IsFirstHello p.front start → drop start p.out ≡ drop start (take n p.out) ++ after
 
 -- The connection was closed after so many bytes of the side: up to there its bytes are judged first, or the last of them is known.
-abbrev pub IsReplayOf : Past → Option Receiver → Option ℕ → List (ℕ × Item) → List ℕ → Option Judged → Close → Type 0
+abbrev pub IsReplayOf : Past → Option Receiver → Option ℕ → List (ℕ × Item) → List ℕ → Option Held → Close → Type 0
 IsReplayOf p receiver cut xs left judged (Passed None) = (cut ≡ None) × IsReplayBy p receiver xs left judged
 IsReplayOf p receiver cut xs left judged (Passed (Some c)) =
     (cut ≡ Some c.length) × IsReplayBy p receiver xs left judged × IsCutBy receiver p.front (take c.length p.out) c.last

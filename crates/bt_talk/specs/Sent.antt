@@ -1,5 +1,7 @@
 -- The bytes of one side's stream that are handed out, as they come.
-use Rattle.std.specs.Prelude.{◌≡◌, ℕ, Bool, true, false, List, [], ◌++◌, drop, Option, unwrap_or}
+use Rattle.std.specs.Prelude.{◌≡◌, ℕ, Bool, true, false, List, [], ◌++◌, drop, Option, Some, None, unwrap_or}
+use Rattle.bt_remarks.specs.declared.events.Side.{Side}
+use Rattle.bt_remarks.specs.Said.{is_same}
 use Rattle.bt_intro.specs.Hellos.{IsStartOf}
 use Rattle.bt_talk.specs.Pasts.{Past}
 
@@ -20,7 +22,12 @@ SendsOn opening p opening' p' more = (before : List ℕ) → IsSent opening p be
 
 -- ---- for private contracts
 
--- After the opening the bytes that a segment adds are ready; in it there are none.
-abbrev pub IsReady : Bool → Past → Past → List ℕ → Type 0
-IsReady true p p' bytes = bytes ≡ []
-IsReady false p p' bytes = p'.out ≡ p.out ++ bytes
+abbrev pub is_wanted : Side → Option Side → Bool
+is_wanted side None = false
+is_wanted side (Some wanted) = is_same wanted side
+
+-- After the opening the bytes that a segment adds are ready, if they are wanted; in it there are none.
+abbrev pub IsReady : Bool → Bool → Past → Past → List ℕ → Type 0
+IsReady true wanted p p' bytes = bytes ≡ []
+IsReady false true p p' bytes = p'.out ≡ p.out ++ bytes
+IsReady false false p p' bytes = bytes ≡ []

@@ -31,19 +31,19 @@ is_opening Stranger = false
 -- by whom the stream is judged
 abbrev pub receiver_in : Stage → Option Receiver
 receiver_in (Opening front) = None
-receiver_in (Open judged) = Some judged.receiver
+receiver_in (Open judged) = Some judged.value.receiver
 receiver_in Stranger = None
 
 -- In the opening all bytes belong to it, and are kept; then they are judged by the receiver, if there is one.
 abbrev pub IsStage : Terms → Past → Past → Stage → Type 0
 IsStage terms p other (Opening front) = (front.items ≡ p.out) × (p.front ≡ p.out)
-IsStage terms p other (Open judged) = IsReceiver terms p other (Some judged.receiver) × IsJudgedBy judged.receiver.own p judged.judge
+IsStage terms p other (Open judged) = IsReceiver terms p other (Some judged.value.receiver) × IsJudgedBy judged.value.receiver.own p judged.value.judge
 IsStage terms p other Stranger = IsReceiver terms p other None
 
 -- The refusal that stands of what the side sent, by its receiver under the lenient rules; none in the opening, and without a receiver.
 abbrev pub IsRefusedIn : Stage → Past → Option Refusal → Type 0
 IsRefusedIn (Opening front) p r = r ≡ None
-IsRefusedIn (Open judged) p r = (start : ℕ) × IsFirstHello p.front start × IsStanding (under Free judged.receiver.own) (drop start p.out) r
+IsRefusedIn (Open judged) p r = (start : ℕ) × IsFirstHello p.front start × IsStanding (under Free judged.value.receiver.own) (drop start p.out) r
 IsRefusedIn Stranger p r = r ≡ None
 
 -- This was captured of a side, and this of the other one.
@@ -59,7 +59,7 @@ pub record IsDirection (terms : Terms) (p other : Past) (d : Direction) : Type 0
 -- the items that were judged of a side: none in the opening, and none without a receiver
 abbrev pub AreItemsIn : Stage → Past → List (ℕ × Item) → Type 0
 AreItemsIn (Opening front) p xs = xs ≡ []
-AreItemsIn (Open judged) p xs = AreItems judged.receiver.own p xs
+AreItemsIn (Open judged) p xs = AreItems judged.value.receiver.own p xs
 AreItemsIn Stranger p xs = xs ≡ []
 
 -- Further items of a side came, and the watch took them.

@@ -24,7 +24,7 @@ use Rattle.bt_talk.specs.Rows.{Shown, is_item}
 use Rattle.bt_talk.specs.Shows.{Appends}
 use Rattle.bt_talk.specs.Shown.{GoesShown, IsShown}
 use Rattle.bt_talk.specs.Closing.{Closes}
-use Rattle.bt_talk.specs.Courses.{course_of, gap_rows}
+use Rattle.bt_talk.specs.Courses.{end_of, gap_rows}
 use Rattle.bt_talk.specs.Cuts.{cut_length, cut_after}
 use Rattle.bt_talk.specs.Replays.{HasOpened}
 use Rattle.bt_talk.specs.Stages.{IsDirection, IsHeard, is_opening}
@@ -54,6 +54,10 @@ ends_of t = t.ends
 
 abbrev pub terms_of : Talk → Terms
 terms_of t = t.terms
+
+-- the connection's first packet, once one was taken
+abbrev pub began_with : Talk → Option When
+began_with t = t.courses.first
 
 abbrev pub closing_of : Talk → Closing
 closing_of t = t.closing
@@ -164,4 +168,4 @@ pub record ShowsGap (side : Side) (t : Talk) (r r' : Rows) : Type 0 where
   pub gaps : Gaps
   pub start : Option ℕ
   pub are : (a b : Past) → IsTalk a b t → let p = of_side side a b in AreGapsOf p.heard p.segs p.out (flow_of side t) gaps × IsStartOf p.front start
-  pub appends : Appends (gap_rows r.heading (course_of side t.courses).grown side (unwrap_or start 0) gaps.first) r r'
+  pub appends : Appends (gap_rows r.heading (end_of side t.courses) side (unwrap_or start 0) gaps.first) r r'

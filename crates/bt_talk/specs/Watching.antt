@@ -14,9 +14,9 @@ use Rattle.bt_told.specs.declared.rows.Deed.TheVariants as deed
 use Rattle.bt_told.specs.declared.said.Said.{Said}
 use Rattle.bt_told.specs.Said.{words_text}
 use Rattle.bt_wire.specs.declared.item.Item.{Item}
-use Rattle.bt_talk.specs.declared.watch.Notes.{Notes}
 use Rattle.bt_talk.specs.declared.watch.Watch.{Watch}
 use Rattle.bt_talk.specs.Events.{event_of}
+use Rattle.bt_talk.specs.Kept.{Kept, noted}
 use Rattle.bt_talk.specs.Rows.{row_at}
 use Rattle.bt_talk.specs.Shows.{Appends}
 
@@ -69,13 +69,13 @@ IsLast xs None = xs ≡ []
 IsLast xs (Some said) = (before : List (ℕ × Item)) × (x : ℕ × Item) × (xs ≡ before ++ x ∷ []) × IsSaid x said
 
 -- The events of a side are its items; of these the last one is kept, and the first one with each remark.
-pub record AreNoted (side : Side) (events : List Told) (xs : List (ℕ × Item)) (notes : Notes) : Type 0 where
+pub record AreNoted (side : Side) (events : List Told) (xs : List (ℕ × Item)) (notes : Kept) : Type 0 where
   pub said : said_by side events ≡ messages_of xs
   pub last : IsLast xs notes.last
-  pub unasked : IsItemAt xs (tally_of side events).unasked.first notes.unasked
-  pub choked : IsItemAt xs (tally_of side events).choked.first notes.choked
-  pub again : IsItemAt xs (tally_of side events).again.first notes.again
-  pub elsewhere : IsItemAt xs (tally_of side events).elsewhere.first notes.elsewhere
+  pub unasked : IsItemAt xs (tally_of side events).unasked.first notes.firsts.unasked
+  pub choked : IsItemAt xs (tally_of side events).choked.first notes.firsts.choked
+  pub again : IsItemAt xs (tally_of side events).again.first notes.firsts.again
+  pub elsewhere : IsItemAt xs (tally_of side events).elsewhere.first notes.firsts.elsewhere
 
 -- as many items have a remark, and the first of them is this one
 abbrev pub IsNoted : Found → List (ℕ × Item) → Option Noted → Type 0
@@ -90,7 +90,7 @@ pub record AreRemarked (side : Side) (events : List Told) (xs : List (ℕ × Ite
   pub again : IsNoted (tally_of side events).again xs r.again
   pub elsewhere : IsNoted (tally_of side events).elsewhere xs r.elsewhere
 
-abbrev pub notes_of : Side → Watch → Notes
+abbrev pub notes_of : Side → Watch → Kept
 notes_of A w = w.a
 notes_of B w = w.b
 
@@ -103,22 +103,7 @@ pub record IsWatched (events : List Told) (items : Side → List (ℕ × Item)) 
 abbrev pub with_items : Side → List (ℕ × Item) → (Side → List (ℕ × Item)) → Side → List (ℕ × Item)
 with_items side more items s = if is_same side s then items s ++ more else items s
 
--- ---- one item, for private contracts
-
--- the first one that has the remark
-abbrev pub first_said : Bool → Said → Option Said → Option Said
-first_said has said (Some first) = Some first
-first_said true said None = Some said
-first_said false said None = None
-
-abbrev pub noted : Remarks → Said → Notes → Notes
-noted remarks said notes = record {
-  last = Some said;
-  unasked = first_said remarks.unasked said notes.unasked;
-  choked = first_said remarks.choked said notes.choked;
-  again = first_said remarks.again said notes.again;
-  elsewhere = first_said remarks.elsewhere said notes.elsewhere;
-}
+-- ---- one item
 
 -- One item more, of the side whose bytes are read, and its row.
 pub record Watches (old : Watch) (x : ℕ × Item) (new : Watch) : Type 0 where

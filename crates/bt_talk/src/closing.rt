@@ -1,12 +1,12 @@
 //! How a connection was closed.
-ghost use Rattle.std.specs.Prelude.{◌≡◌, ◌||◌, ◌&&◌};
+ghost use Rattle.std.specs.Prelude.{◌≡◌, ◌||◌, ◌&&◌, is_some};
 ghost use Rattle.bt_talk.specs.Cuts.{closes_first};
 ghost use Rattle.bt_talk.specs.Closing.{still_open, closed_after, over_after, is_quiet, high_at, opens_by};
 
 use bt_packet::Flags;
 use bt_remarks::Side;
 
-/// How long after its end a connection may still have segments, in nanoseconds.
+/// How long a connection that has ended may be without a segment until it is over, in nanoseconds.
 const QUIET: u64 = 4_000_000_000;
 
 /// Where a packet stands in a capture.
@@ -45,7 +45,7 @@ impl Closed {
 #[derive(Clone, Copy)]
 pub(crate) struct Closing {
     pub(crate) closed: Option<Closed>,
-    /// The clock at the first RST, or when both FINs were reached and acknowledged.
+    /// The clock of the last segment, once there was a RST, or both FINs were reached and acknowledged.
     pub(crate) over: Option<u64>,
 }
 
@@ -83,7 +83,14 @@ impl Closing {
         ensures closed { self.new.closed ≡ self.old.closed }
         ensures over { self.new.over ≡ over_after self.old.over over nanos }
     {
-        self.over = self.over.or(over.then_some(nanos));
+        self.over = (self.over.is_some() || over).then_some(nanos);
+    }
+
+    /// Tells whether the connection has ended.
+    pub(crate) fn has_ended(&self) -> bool
+        ensures { result ≡ is_some self.now.over }
+    {
+        self.over.is_some()
     }
 
     /// Tells whether no segment is awaited any more.

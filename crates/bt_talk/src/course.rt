@@ -1,7 +1,8 @@
 //! What rows need to know of each side besides its items.
-ghost use Rattle.std.specs.Prelude.{◌≡◌, if◌then◌else◌};
+ghost use Rattle.std.specs.Prelude.{◌≡◌, if◌then◌else◌, Some, None};
 ghost use Rattle.bt_remarks.specs.declared.events.Side.{Side};
-ghost use Rattle.bt_talk.specs.Courses.{means_of, closes_by, course_of, course_after, not_begun};
+ghost use Rattle.std.specs.Option.{option_or};
+ghost use Rattle.bt_talk.specs.Courses.{means_of, closes_by, course_of, course_after, end_of, not_begun};
 ghost use Rattle.bt_remarks.specs.Said.{is_same};
 
 use crate::closing::When;
@@ -29,6 +30,8 @@ const NOT_BEGUN: Course = Course {
 pub(crate) struct Courses {
     pub(crate) a: Course,
     pub(crate) b: Course,
+    /// The connection's first packet.
+    pub(crate) first: Option<When>,
 }
 
 /// Returns by which flag a segment closes.
@@ -59,11 +62,13 @@ impl Course {
 impl Courses {
     /// Returns those of a connection of which nothing came.
     pub(crate) fn new() -> Courses
-        ensures { (side : Side) → course_of side result ≡ not_begun }
+        ensures sides { (side : Side) → course_of side result ≡ not_begun }
+        ensures first { result.first ≡ None }
     {
         Courses {
             a: NOT_BEGUN,
             b: NOT_BEGUN,
+            first: None,
         }
     }
 
@@ -77,6 +82,13 @@ impl Courses {
         }
     }
 
+    /// Returns the packet with which a side's stream grew last; without a byte of the side, the connection's first packet.
+    pub(crate) fn end(&self, side: Side) -> Option<When>
+        ensures { result ≡ end_of side self.now }
+    {
+        self.of(side).grown.or(self.first)
+    }
+
     /// Notes a segment of a side, and returns how the side closes with it, if it hasn't closed before.
     ///
     /// `grows` says whether its stream grew, or its first byte came.
@@ -88,8 +100,11 @@ impl Courses {
         when: When,
     ) -> Option<Means>
         ensures closes { result ≡ closes_by flags (course_of side self.old).is_closed }
-        ensures after { (s : Side) → course_of s self.new ≡ (if is_same side s then course_after flags grows when (course_of s self.old) else course_of s self.old) }
+        ensures after { (s : Side) → course_of s self.new
+            ≡ (if is_same side s then course_after flags grows when (course_of s self.old) else course_of s self.old) }
+        ensures first { self.new.first ≡ option_or self.old.first (Some when) }
     {
+        self.first = self.first.or(Some(when));
         let closes = close_by(flags, self.of(side).is_closed);
         match side {
             Side::A => self.a.take(flags, grows, when),

@@ -1,9 +1,10 @@
 //! One direction of a captured connection.
 ghost use Rattle.bt_talk.specs.declared.terms.Terms.{Terms};
-ghost use Rattle.std.specs.Prelude.{◌≡◌, ◌<◌, ◌≤◌, ◌++◌, ◌∷◌, ℕ, List, [], Bool, false, true, length, drop, unwrap_or, OnOk, IfOk, IfSome, Option, Some};
+ghost use Rattle.std.specs.Prelude.{◌≡◌, ◌<◌, ◌≤◌, ◌++◌, ◌∷◌, ℕ, List, [], Bool, false, true, length, drop, unwrap_or, if◌then◌else◌, OnOk, IfOk, IfSome, Option, Some};
 ghost use Rattle.bt_flow.specs.declared.flow.Flow.{Flow};
 ghost use Rattle.bt_intro.specs.Hearing.{IsHeardOf, HasNoMemory};
 ghost use Rattle.bt_intro.specs.Hellos.{IsStartOf};
+ghost use Rattle.bt_judge.specs.Judges.{AreJudged};
 ghost use Rattle.bt_feed.specs.Pumps.{Took};
 ghost use Rattle.bt_tcp.specs.Heard.{Acked};
 ghost use Rattle.bt_wire.specs.declared.context.Own.{Own};
@@ -18,7 +19,7 @@ ghost use Rattle.bt_talk.specs.Watching.{IsLast, Watches};
 
 use crate::refused::{Judgement, judgement_of};
 use crate::replay::{Opened, Replay};
-use crate::stage::{Cut, PAGE, Stage, judge_bytes};
+use crate::stage::{Cut, Judged, PAGE, Stage, judge_bytes};
 use crate::watch::Watch;
 use bt_flow::{Flow, Given};
 use bt_intro::{Introduction, Receiver};
@@ -26,6 +27,7 @@ use bt_judge::Judge;
 use bt_told::{Last, Said};
 use bt_wire::Refusal;
 use std::alloc::{AllocError, Global};
+use std::mem::size_of;
 
 /// One direction of a captured connection: its stream, what its sender announces, and what is done with its bytes.
 #[derive(Drop)]
@@ -54,32 +56,72 @@ fn take_opening(
     Ok(())
 }
 
-/// Takes a segment of a stream that is judged.
+/// Judges bytes, and those that follow them. Mostly none do.
+fn judge_parts(
+    judge: &mut Judge,
+    fresh: &[u8],
+    later: &[u8],
+    watch: &mut Watch,
+) -> Result<(), AllocError>
+    ensures { OnOk result ((own : Own) (b : List ℕ) (xs ys : List (ℕ × Item)) → AreJudged own b xs ys judge.old
+        → (more strict : List (ℕ × Item)) × AreJudged own (b ++ (fresh.now ++ later.now)) (xs ++ more) (ys ++ strict) judge.new
+        × Took Watches watch.old more watch.new) }
+{
+    judge_bytes(judge, fresh, watch)?;
+    if later.is_empty() {
+        return Ok(());
+    }
+    judge_bytes(judge, later, watch)?;
+    Ok(())
+}
+
+/// Puts bytes before those that follow them, if they are wanted; otherwise it drops these.
+fn put_first(fresh: &[u8], is_wanted: bool, out: &mut Vec<u8>) -> Result<(), AllocError>
+    ensures { OnOk result (out.new.items ≡ (if is_wanted then fresh.now ++ out.old.items else [])) }
+{
+    if !is_wanted {
+        out.clear();
+        return Ok(());
+    }
+    out.extend_from_slice(fresh)?;
+    out.rotate_right(fresh.len());
+    Ok(())
+}
+
+/// Takes a segment of a stream that is judged, and hands its bytes out if they are wanted.
 fn take_judged(
     flow: &mut Flow,
     judge: &mut Judge,
     given: &Given,
     watch: &mut Watch,
+    is_wanted: bool,
     out: &mut Vec<u8>,
 ) -> Result<(), AllocError>
     ensures { OnOk result ((own : Own) (p : Past) (later : List ℕ) → IsFlowOf p flow.old → p.out ≡ p.front ++ later → IsJudgedBy own p judge.old
         → (q : Past) × IsFlowOf q flow.new × IsJudgedBy own q judge.new × Adds given.now false p flow.old q flow.new
         × ((xs : List (ℕ × Item)) → AreItems own p xs → (more : List (ℕ × Item)) × AreItems own q (xs ++ more) × Took Watches watch.old more watch.new)
-        × (q.out ≡ p.out ++ out.new.items)) }
+        × IsReady false is_wanted p q out.new.items) }
 {
     out.clear();
-    flow.take(given, out)?;
-    judge_bytes(judge, out, watch)?;
+    let fresh = flow.take_next(given, out)?;
+    judge_parts(judge, fresh, out, watch)?;
+    put_first(fresh, is_wanted, out)?;
     Ok(())
 }
 
-/// Takes a segment of a stream that isn't judged.
-fn take_only(flow: &mut Flow, given: &Given, out: &mut Vec<u8>) -> Result<(), AllocError>
+/// Takes a segment of a stream that isn't judged, and hands its bytes out if they are wanted.
+fn take_only(
+    flow: &mut Flow,
+    given: &Given,
+    is_wanted: bool,
+    out: &mut Vec<u8>,
+) -> Result<(), AllocError>
     ensures { OnOk result ((p : Past) → IsFlowOf p flow.old → (q : Past) × IsFlowOf q flow.new × Adds given.now false p flow.old q flow.new
-        × (q.out ≡ p.out ++ out.new.items)) }
+        × IsReady false is_wanted p q out.new.items) }
 {
     out.clear();
-    flow.take(given, out)?;
+    let fresh = flow.take_next(given, out)?;
+    put_first(fresh, is_wanted, out)?;
     Ok(())
 }
 
@@ -142,18 +184,19 @@ impl Direction {
         self.flow.hear(acked, opens);
     }
 
-    /// Takes a segment that this side sent, which has no RST.
+    /// Takes a segment that this side sent, which has no RST, and hands its bytes out if they are wanted.
     pub(crate) fn take(
         &mut self,
         alloc: Global,
         given: &Given,
         watch: &mut Watch,
+        is_wanted: bool,
         out: &mut Vec<u8>,
     ) -> Result<(), AllocError>
         ensures taken { OnOk result ((terms : Terms) (p other : Past) → IsDirection terms p other self.old
             → (q : Past) × IsDirection terms q other self.new × Adds given.now (is_opening self.old.stage) p self.old.flow q self.new.flow
             × Speaks self.old.stage p watch.old self.new.stage q watch.new
-            × (out.old.items ≡ [] → IsReady (is_opening self.old.stage) p q out.new.items)) }
+            × (out.old.items ≡ [] → IsReady (is_opening self.old.stage) is_wanted p q out.new.items)) }
         ensures stage { OnOk result (is_opening self.new.stage ≡ is_opening self.old.stage) }
         ensures cut { OnOk result (self.new.cut ≡ self.old.cut) }
     {
@@ -163,12 +206,13 @@ impl Direction {
                 Ok(())
             }
             Stage::Open(judged) => {
-                take_judged(&mut self.flow, &mut judged.judge, given, watch, out)?;
+                let flow = &mut self.flow;
+                take_judged(flow, &mut judged.judge, given, watch, is_wanted, out)?;
                 self.used = self.used.max(judged.used());
                 Ok(())
             }
             Stage::Stranger => {
-                take_only(&mut self.flow, given, out)?;
+                take_only(&mut self.flow, given, is_wanted, out)?;
                 Ok(())
             }
         }
@@ -280,7 +324,7 @@ impl Direction {
     {
         match &self.stage {
             Stage::Opening(_) => None,
-            Stage::Open(judged) => judged.judge.free.refusal(),
+            Stage::Open(judged) => judged.judge.refusal(),
             Stage::Stranger => None,
         }
     }
@@ -311,9 +355,11 @@ impl Direction {
     pub(crate) fn size(&self) -> usize {
         let stage = match &self.stage {
             Stage::Opening(front) => front.capacity().saturating_add(self.reader_size()),
-            Stage::Open(judged) => judged.size(self.used),
+            Stage::Open(judged) => judged.size(self.used).saturating_add(size_of::<Judged>()),
             Stage::Stranger => 0,
         };
-        stage.saturating_add(self.flow.size())
+        stage
+            .saturating_add(self.intro.size())
+            .saturating_add(self.flow.size())
     }
 }

@@ -8,6 +8,7 @@ mod course;
 mod direction;
 mod ends;
 mod inside;
+mod notes;
 mod refused;
 mod replay;
 mod room;

@@ -61,7 +61,7 @@ pub(crate) struct Replay<'a> {
     rest: &'a [u8],
     /// How many bytes of the side's stream come before them.
     at: u64,
-    judged: Option<Judged>,
+    judged: Option<Box<Judged>>,
     close: Close<'a>,
 }
 
@@ -88,7 +88,7 @@ pub(crate) struct Opened {
 }
 
 /// Returns the last of a stream up to here, if it is judged; `item` is its last item.
-fn last_of(judged: &Option<Judged>, item: &Option<Said>) -> Last
+fn last_of(judged: &Option<Box<Judged>>, item: &Option<Said>) -> Last
     ensures { (p : Past) (receiver : Option Receiver) (xs : List (ℕ × Item)) → IsReplayBy p receiver xs [] judged.now → IsLast xs item.now
         → IsCutBy receiver p.front p.out result }
 {
@@ -100,7 +100,7 @@ fn last_of(judged: &Option<Judged>, item: &Option<Said>) -> Last
 
 /// Judges the next bytes, if the stream is judged.
 fn judge_more(
-    judged: &mut Option<Judged>,
+    judged: &mut Option<Box<Judged>>,
     bytes: &[u8],
     watch: &mut Watch,
 ) -> Result<(), AllocError>
@@ -156,12 +156,13 @@ impl<'a> Replay<'a> {
             return Ok(Replay::none(start, *cut));
         };
         let judge = Judge::new(alloc, receiver.own)?;
+        let judged = Box::new(alloc, Judged { receiver, judge })?;
         let (rest, close) = part_at(bytes, begin as u64, cut);
         Ok(Replay {
             start,
             rest,
             at: begin as u64,
-            judged: Some(Judged { receiver, judge }),
+            judged: Some(judged),
             close,
         })
     }
@@ -177,7 +178,7 @@ impl<'a> Replay<'a> {
     /// Returns the refusal of the stream under the lenient rules, if there is one.
     fn refusal(&self) -> Option<Refusal> {
         match &self.judged {
-            Some(judged) => judged.judge.free.refusal(),
+            Some(judged) => judged.judge.refusal(),
             None => None,
         }
     }
@@ -270,7 +271,7 @@ fn cut_in(close: Close) -> Option<Cut>
 }
 
 /// Returns what is done with the bytes that follow, once all are judged.
-fn after_opening(judged: Option<Judged>, close: Close) -> Opened
+fn after_opening(judged: Option<Box<Judged>>, close: Close) -> Opened
     ensures open { is_opening result.stage ≡ false }
     ensures opened { (terms : Terms) (p q : Past) (receiver : Option Receiver) (cut : Option ℕ) (xs : List (ℕ × Item)) → IsReceiver terms p q receiver
         → IsReplayOf p receiver cut xs [] judged close.entry → is_passed close.entry ≡ true → IsOpened terms p q cut result × AreItemsIn result.stage p xs }

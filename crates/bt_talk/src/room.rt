@@ -1,13 +1,12 @@
 //! Memory for the bytes of one segment.
 use crate::rows::{Heading, NO_HEADING, Rows, Showing};
-use crate::unanswered::other;
 use bt_remarks::Side;
 use std::alloc::Global;
 
 /// Memory for the bytes of one segment, which all connections share.
 #[derive(Drop)]
 pub struct Room {
-    /// What a segment makes ready.
+    /// What a segment makes ready, if it is handed out; while that is judged, what follows its own bytes.
     pub(crate) out: Vec<u8>,
     /// What a segment shows.
     pub(crate) rows: Rows,
@@ -16,9 +15,9 @@ pub struct Room {
 }
 
 impl Room {
-    ghost use Rattle.std.specs.Prelude.{◌≡◌, [], Some};
-    ghost use Rattle.bt_remarks.specs.Said.{other};
+    ghost use Rattle.std.specs.Prelude.{◌≡◌, []};
     ghost use Rattle.bt_talk.specs.Rooms.{rows_in, heading_by, wanted_in, sent_in};
+    ghost use Rattle.bt_talk.specs.Sent.{is_wanted};
 
     /// Makes room.
     pub fn new(alloc: Global) -> Room
@@ -61,14 +60,10 @@ impl Room {
         self.out.as_slice()
     }
 
-    /// Drops the bytes of a segment, unless the wanted side sent it.
-    pub(crate) fn keep_of(&mut self, side: Side)
-        ensures kept { self.old.wanted ≡ Some side → self.new.out.items ≡ self.old.out.items }
-        ensures dropped { self.old.wanted ≡ Some (other side) → self.new.out.items ≡ [] }
-        ensures rest { self.new ≡ record self.old { out = self.new.out } }
+    /// Tells whether the bytes of a side are handed out.
+    pub(crate) fn wants(&self, side: Side) -> bool
+        ensures { result ≡ is_wanted side self.now.wanted }
     {
-        if self.wanted == Some(other(side)) {
-            self.out.clear();
-        }
+        self.wanted == Some(side)
     }
 }

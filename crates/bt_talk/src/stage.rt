@@ -31,7 +31,7 @@ pub(crate) struct Judged {
 impl Judged {
     /// Tells whether the stream isn't refused under the lenient rules.
     pub(crate) fn is_known(&self) -> bool {
-        self.judge.free.refusal().is_none()
+        self.judge.refusal().is_none()
     }
 
     /// Returns how many bytes a parser's buffer has.
@@ -43,21 +43,23 @@ impl Judged {
     ///
     /// A message that begins and ends in the same segment isn't copied.
     pub(crate) fn used(&self) -> usize {
-        self.judge.free.awaited().max(self.judge.bep.awaited())
+        self.judge.awaited()
     }
 
-    /// Returns about how many bytes of memory its two parsers take, of which at most `used` bytes each were in use.
+    /// Returns about how many bytes of memory its parsers take, of which at most `used` bytes each were in use.
     ///
     /// The rest of a buffer is reserved, and was never written.
     pub(crate) fn size(&self, used: usize) -> usize {
-        used.min(self.room()).saturating_add(PAGE).saturating_mul(2)
+        used.min(self.room())
+            .saturating_add(PAGE)
+            .saturating_mul(self.judge.parsers())
     }
 
     /// Returns the last of the stream up to here: the refusal under the lenient rules, or else its last item, which is this one.
     pub(crate) fn last(&self, item: &Option<Said>) -> Last
         ensures { (own : Own) (b : List ℕ) (xs ys : List (ℕ × Item)) → AreJudged own b xs ys self.now.judge → IsLast xs item.now → IsLastIn own b result }
     {
-        if let Some(refusal) = self.judge.free.refusal() {
+        if let Some(refusal) = self.judge.refusal() {
             return Last::Refused(refusal);
         }
         match item {
@@ -81,8 +83,8 @@ pub(crate) struct Cut {
 pub(crate) enum Stage {
     /// They are kept, until both sides have described themselves.
     Opening(Vec<u8>),
-    /// They are judged from the handshake on.
-    Open(Judged),
+    /// They are judged from the handshake on, in memory of its own: a connection that says nothing needs none of it.
+    Open(Box<Judged>),
     /// They aren't judged: there is no handshake.
     Stranger,
 }

@@ -1,9 +1,9 @@
 //! What a connection tells of its sides, and the rows at its end.
-ghost use Rattle.std.specs.Prelude.{◌≡◌, [], ◌-◌, ℕ, List, length, OnOk, OnErr, Option};
+ghost use Rattle.std.specs.Prelude.{is_some, ◌≡◌, [], ◌-◌, ℕ, List, length, OnOk, OnErr, Option};
 ghost use Rattle.bt_talk.specs.Pasts.{Past};
 ghost use Rattle.bt_remarks.specs.declared.events.Side.{Side};
 
-use crate::closing::{Closed, When, opens};
+use crate::closing::{Closed, opens};
 use crate::inside::ended_inside;
 use crate::refused::Judgement;
 use crate::replay::Mark;
@@ -38,10 +38,29 @@ impl Talk {
     ghost use Rattle.std.specs.List.{filter};
     ghost use Rattle.bt_talk.specs.Inside.{EndsInside, ShowsInside};
     ghost use Rattle.bt_talk.specs.Rooms.{rows_in};
-    ghost use Rattle.bt_talk.specs.Rows.{Shown, is_item};
+    ghost use Rattle.bt_talk.specs.Courses.{end_of, no_remarks, rows_at};
+    ghost use Rattle.bt_talk.specs.Rows.{Shown, is_item, row_at};
     ghost use Rattle.bt_talk.specs.Shows.{Appends};
     ghost use Rattle.bt_talk.specs.Watching.{AreRemarked};
     ghost use Rattle.bt_talk.specs.Unanswered.{HaveFast, IsEnding, AreUnanswered};
+
+    /// Appends to the rows of the room a row at the packet with which a side's stream grew last.
+    fn show_end(
+        &self,
+        side: Side,
+        offset: u64,
+        deed: Deed,
+        room: &mut Room,
+    ) -> Result<(), AllocError>
+        ensures row { OnOk result (Appends (rows_at (end_of side self.now.courses) (λ when. row_at room.old.rows.heading when side offset deed no_remarks))
+            (rows_in room.old) (rows_in room.new)) }
+        ensures err { OnErr result (Appends [] (rows_in room.old) (rows_in room.new)) }
+    {
+        match self.courses.end(side) {
+            Some(when) => room.rows.put(when, side, offset, deed, NO_REMARKS),
+            None => Ok(()),
+        }
+    }
 
     /// Appends to the rows of the room the row of a side's first gap, if it has one.
     fn show_gap(&self, side: Side, room: &mut Room) -> Result<(), AllocError>
@@ -53,14 +72,8 @@ impl Talk {
             return Ok(());
         };
         let start = start.unwrap_or(0) as u64;
-        let begin = When {
-            nanos: room.rows.heading.start,
-            packet: 0,
-        };
-        let when = self.courses.of(side).grown.unwrap_or(begin);
         let offset = gap.place.saturating_sub(start);
-        let deed = Deed::Gap(gap.length);
-        room.rows.put(when, side, offset, deed, NO_REMARKS)?;
+        self.show_end(side, offset, Deed::Gap(gap.length), room)?;
         Ok(())
     }
 
@@ -81,13 +94,7 @@ impl Talk {
         let Some(refusal) = self.end_inside(side) else {
             return Ok(());
         };
-        let begin = When {
-            nanos: room.rows.heading.start,
-            packet: 0,
-        };
-        let when = self.courses.of(side).grown.unwrap_or(begin);
-        let deed = Deed::Refused(refusal);
-        room.rows.put(when, side, refusal.at, deed, NO_REMARKS)?;
+        self.show_end(side, refusal.at, Deed::Refused(refusal), room)?;
         Ok(())
     }
 
@@ -101,7 +108,8 @@ impl Talk {
         Ok(())
     }
 
-    /// Appends to the rows of the room the row of each side's first gap, at the packet with which the last byte before it came.
+    /// Appends to the rows of the room the row of each side's first gap, at the packet with which the last byte before it came, or
+    /// at the connection's first packet if no byte of the side was captured.
     ///
     /// If a side closed first and its stream, which has no gap, ends inside an item, that refusal has a row in its place. Without a
     /// handshake there are none.
@@ -291,9 +299,16 @@ impl Talk {
         self.direction(side).last_before()
     }
 
+    /// Tells whether the connection has ended: there was a RST, or both FINs were reached and acknowledged.
+    pub fn has_ended(&self) -> bool
+        ensures { result ≡ is_some (closing_of self.now).over }
+    {
+        self.closing.has_ended()
+    }
+
     /// Tells whether the connection is over at this time, so that no segment of it is awaited.
     ///
-    /// That is four seconds after the first RST, and four seconds after both FINs were reached and acknowledged.
+    /// That is after four seconds without a segment, once there was a RST, or both FINs were reached and acknowledged.
     pub fn is_over(&self, nanos: u64) -> bool
         ensures { result ≡ is_quiet (closing_of self.now).over nanos }
     {
@@ -318,6 +333,6 @@ impl Talk {
             .size()
             .saturating_add(self.b.size())
             .saturating_add(marks)
-            .saturating_add(self.watch.matcher.size())
+            .saturating_add(self.watch.size())
     }
 }

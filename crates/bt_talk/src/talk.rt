@@ -2,7 +2,7 @@
 ghost use Rattle.bt_talk.specs.declared.terms.Terms.{Terms};
 ghost use Rattle.std.specs.Prelude.{◌≡◌, [], List, true, false, length, IfOk, OnOk, OnErr, Option, alloc_error};
 ghost use Rattle.bt_talk.specs.Pasts.{Past, no_past, IsAcked, given_of as given_by};
-ghost use Rattle.bt_talk.specs.Sent.{IsReady};
+ghost use Rattle.bt_talk.specs.Sent.{IsReady, is_wanted};
 ghost use Rattle.bt_remarks.specs.declared.events.Side.{Side};
 ghost use Rattle.bt_remarks.specs.declared.events.Side.TheVariants.{A, B};
 ghost use Rattle.bt_talk.specs.Stages.{IsDirection, SpeaksAs, is_opening};
@@ -71,7 +71,7 @@ fn turn(
     ensures taken { OnOk result ((terms : Terms) (p q : Past) → IsDirection terms p q from.old → IsDirection terms q p to.old
         → is_opening from.old.stage ≡ is_opening to.old.stage → (t : Turns segment.now terms p q from.old to.old from.new to.new)
         × SpeaksAs side from.old.stage p watch.old from.new.stage t.p' watch.new
-        × (room.old.out.items ≡ [] → IsReady (is_opening from.old.stage) p t.p' room.new.out.items)) }
+        × (room.old.out.items ≡ [] → IsReady (is_opening from.old.stage) (is_wanted side room.old.wanted) p t.p' room.new.out.items)) }
     ensures from { OnOk result (is_opening from.new.stage ≡ is_opening from.old.stage) }
     ensures to { OnOk result (to.new.stage ≡ to.old.stage) }
     ensures cut { OnOk result (from.new.cut ≡ from.old.cut) }
@@ -83,7 +83,9 @@ fn turn(
     }
     hear(to, segment);
     watch.turn_to(side, to.is_known());
-    from.take(alloc, &given_of(segment), watch, &mut room.out)?;
+    let is_wanted = room.wants(side);
+    let given = given_of(segment);
+    from.take(alloc, &given, watch, is_wanted, &mut room.out)?;
     Ok(())
 }
 
@@ -124,10 +126,12 @@ pub struct Talk {
 }
 
 impl Talk {
-    ghost use Rattle.std.specs.Prelude.{Err, Some};
+    ghost use Rattle.std.specs.Prelude.{Err, Some, None};
+    ghost use Rattle.std.specs.Option.{option_or};
     ghost use Rattle.bt_talk.specs.Closing.{Closes, still_open};
     ghost use Rattle.bt_talk.specs.Ends.{ends_by};
     ghost use Rattle.bt_talk.specs.Talks.{IsTalk, HasSaid, Shows, Opens, HasSettled, Exchanges, Takes, Settles, ends_of, terms_of, closing_of, IsSender, is_in_opening, is_lost, flow_of, cut_of, direction_of, of_side};
+    ghost use Rattle.bt_talk.specs.Talks.{began_with};
     ghost use Rattle.bt_talk.specs.Cuts.{cut_after};
     ghost use Rattle.bt_talk.specs.Courses.{closes_by, course_of};
     ghost use Rattle.bt_talk.specs.Replays.{IsOpened, HasOpened};
@@ -146,6 +150,7 @@ impl Talk {
         ensures terms { terms_of result ≡ terms }
         ensures opening { is_in_opening result ≡ true }
         ensures closing { closing_of result ≡ still_open }
+        ensures began { began_with result ≡ None }
         ensures there { is_lost result ≡ false }
     {
         Talk {
@@ -166,7 +171,7 @@ impl Talk {
     /// Takes a segment that one of the sides sent.
     fn exchange(&mut self, segment: &Segment, room: &mut Room) -> Result<(), AllocError>
         ensures taken { OnOk result ((a b : Past) → IsTalk a b self.old → (x : Exchanges segment.now a b self.old self.new)
-            × (room.old.out.items ≡ [] → IsReady (is_in_opening self.old) (of_side x.side a b) (of_side x.side x.a' x.b') room.new.out.items)) }
+            × (room.old.out.items ≡ [] → IsReady (is_in_opening self.old) (is_wanted x.side room.old.wanted) (of_side x.side a b) (of_side x.side x.a' x.b') room.new.out.items)) }
         ensures opening { OnOk result (is_in_opening self.new ≡ is_in_opening self.old) }
         ensures cuts { OnOk result ((side : Side) → cut_of side self.new ≡ cut_of side self.old) }
         ensures order { OnOk result ((a b : Past) → IsTalk a b self.old → HasSaid segment.now self.old self.new) }
@@ -208,15 +213,15 @@ impl Talk {
     }
 
     /// Notes a segment that a side sent, whose stream had this length before. It returns how the side closes with it.
-    fn go_on(&mut self, side: Side, length: u64, segment: &Segment) -> Option<Means>
+    fn go_on(&mut self, side: Side, length: u64, segment: &Segment, when: When) -> Option<Means>
         ensures closes { result ≡ closes_by segment.now.flags (course_of side self.old.courses).is_closed }
+        ensures first { self.new.courses.first ≡ option_or self.old.courses.first (Some when) }
         ensures rest { self.new ≡ record self.old { courses = self.new.courses } }
     {
         let has_data = !segment.flags.rst && !segment.payload.is_empty();
         let begins = has_data && self.courses.of(side).grown.is_none();
         let grows = begins || self.length(side) > length;
-        self.courses
-            .take(side, segment.flags, grows, self.watch.when)
+        self.courses.take(side, segment.flags, grows, when)
     }
 
     /// Returns how far a side's stream is put together now.
@@ -330,6 +335,7 @@ impl Talk {
         ensures ends { self.new.ends ≡ self.old.ends }
         ensures terms { self.new.terms ≡ self.old.terms }
         ensures closing { self.new.closing ≡ self.old.closing }
+        ensures courses { self.new.courses ≡ self.old.courses }
         ensures is_lost { self.new.is_lost ≡ self.old.is_lost }
         ensures sent { OnOk result ((a b : Past) (side : Side) → IsTalk a b self.old → is_in_opening self.old ≡ true → room.old.wanted ≡ Some side
             → room.old.out.items ≡ [] → IsSent (is_in_opening self.new) (of_side side a b) room.new.out.items) }
@@ -358,6 +364,7 @@ impl Talk {
         ensures ends { self.new.ends ≡ self.old.ends }
         ensures terms { self.new.terms ≡ self.old.terms }
         ensures closing { self.new.closing ≡ self.old.closing }
+        ensures courses { self.new.courses ≡ self.old.courses }
         ensures is_lost { self.new.is_lost ≡ self.old.is_lost }
         ensures sent { OnOk result ((a b : Past) (side : Side) → IsTalk a b self.old → is_in_opening self.old ≡ true → room.old.wanted ≡ Some side
             → room.old.out.items ≡ [] → IsSent (is_in_opening self.new) (of_side side a b) room.new.out.items) }
@@ -386,12 +393,13 @@ impl Talk {
         ensures ends { self.new.ends ≡ self.old.ends }
         ensures terms { self.new.terms ≡ self.old.terms }
         ensures closing { self.new.closing ≡ self.old.closing }
+        ensures courses { self.new.courses ≡ self.old.courses }
         ensures segments { self.new.segments ≡ self.old.segments }
         ensures is_lost { self.new.is_lost ≡ self.old.is_lost }
     {
         if self.closing.closes_first(flags) {
-            self.a.close(&self.watch.a.last);
-            self.b.close(&self.watch.b.last);
+            self.a.close(self.watch.a.last());
+            self.b.close(self.watch.b.last());
         }
     }
 
@@ -432,6 +440,7 @@ impl Talk {
             → Shows segment.now self.old.watch.when self.old self.new self.old.watch.rows self.new.watch.rows) }
         ensures ends { self.new.ends ≡ self.old.ends }
         ensures terms { self.new.terms ≡ self.old.terms }
+        ensures began { OnOk result (self.new.courses.first ≡ option_or self.old.courses.first (Some when)) }
         ensures is_lost { self.new.is_lost ≡ self.old.is_lost }
         ensures room { room.new ≡ record room.old { out = room.new.out } }
     {
@@ -439,8 +448,7 @@ impl Talk {
         let before = self.direction(side).refusal();
         let length = self.length(side);
         self.exchange(segment, room)?;
-        room.keep_of(side);
-        let closed = self.go_on(side, length, segment);
+        let closed = self.go_on(side, length, segment, when);
         self.keep_mark(side, segment, closed)?;
         self.show(side, before, closed)?;
         self.cut(segment.flags);
@@ -473,6 +481,7 @@ impl Talk {
             × ((side : Side) → wanted_in room.old ≡ Some side
             → SendsOn (is_in_opening self.old) (of_side side a b) (is_in_opening self.new) (of_side side took.a' took.b') (sent_in room.new))) }
         ensures wanted { wanted_in room.new ≡ wanted_in room.old }
+        ensures began { OnOk result (began_with self.new ≡ option_or (began_with self.old) (Some when)) }
         ensures rows { OnOk result ((a b : Past) → IsTalk a b self.old → (rows : List Shown) × Appends rows (rows_in room.old) (rows_in room.new)) }
         ensures none { OnErr result (HasNone (rows_in room.old) (rows_in room.new)) }
         ensures there { OnOk result (is_lost self.new ≡ false) }
@@ -517,6 +526,7 @@ impl Talk {
         ensures flows { OnOk result ((side : Side) → flow_of side self.new ≡ flow_of side self.old) }
         ensures over { OnOk result (is_in_opening self.new ≡ false) }
         ensures closing { closing_of self.new ≡ closing_of self.old }
+        ensures began { began_with self.new ≡ began_with self.old }
         ensures opened { OnOk result ((a b : Past) → IsTalk a b self.old → is_in_opening self.old ≡ true
             → HasOpened a b self.new.a.stage self.new.b.stage self.new.watch (rows_in room.old) (rows_in room.new)) }
         ensures open_already { OnOk result (is_in_opening self.old ≡ false → rows_in room.new ≡ rows_in room.old) }

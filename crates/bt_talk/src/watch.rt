@@ -1,5 +1,5 @@
 //! What the items of both sides show together, as they come.
-ghost use Rattle.std.specs.Prelude.{◌≡◌, [], ◌++◌, ℕ, List, OnOk, IfSome, if◌then◌else◌};
+ghost use Rattle.std.specs.Prelude.{◌≡◌, [], ◌∷◌, ◌++◌, ℕ, List, OnOk, if◌then◌else◌};
 ghost use Rattle.bt_bencode.specs.Trees.{dictionary};
 ghost use Rattle.bt_ext.specs.Metadata.{kind_of};
 ghost use Rattle.bt_ext.specs.Payloads.{seen as seen_ext};
@@ -11,10 +11,14 @@ ghost use Rattle.bt_wire.specs.declared.item.Item.{Item};
 ghost use Rattle.bt_wire.specs.Messages.{message_of};
 ghost use Rattle.bt_talk.specs.Events.{block_of, metadata_event, extended_event, message_event, event_of as event_by};
 ghost use Rattle.bt_talk.specs.Courses.{refusal_rows, close_rows};
+ghost use Rattle.bt_talk.specs.Rows.{row_at};
 ghost use Rattle.bt_talk.specs.Shows.{Appends};
-ghost use Rattle.bt_talk.specs.Watching.{IsItemAt, IsNoted, first_said, noted as noted_by};
+ghost use Rattle.bt_told.specs.declared.rows.Deed.TheVariants as deed;
+ghost use Rattle.bt_talk.specs.Kept.{noted as noted_by};
+ghost use Rattle.bt_talk.specs.Watching.{IsItemAt, IsNoted};
 
 use crate::closing::When;
+use crate::notes::Notes;
 use crate::rows::{NO_HEADING, NO_REMARKS, Rows};
 use bt_bencode::DictRef;
 use bt_ext::{ExtView, Kind};
@@ -108,73 +112,23 @@ fn event_of<'a>(view: &View<'a>) -> Event<'a>
     }
 }
 
-/// Keeps the first item that has a remark.
-#[inline(always)]
-fn keep_first(first: &mut Option<Said>, has: bool, said: &Said)
-    ensures { first.new ≡ first_said has said.now first.old }
-{
-    if has && first.is_none() {
-        *first = Some(*said);
-    }
-}
-
 /// The packet of a connection that has none.
 const NO_PACKET: When = When {
     nanos: 0,
     packet: 0,
 };
 
-/// What is kept of a side's items.
-#[derive(Clone, Copy)]
-pub(crate) struct Notes {
-    pub(crate) last: Option<Said>,
-    // The first one with each remark.
-    pub(crate) unasked: Option<Said>,
-    pub(crate) choked: Option<Said>,
-    pub(crate) again: Option<Said>,
-    pub(crate) elsewhere: Option<Said>,
-}
-
-/// Those of no item.
-const NO_NOTES: Notes = Notes {
-    last: None,
-    unasked: None,
-    choked: None,
-    again: None,
-    elsewhere: None,
-};
-
-impl Notes {
-    /// Keeps the last item as the first one with each of its remarks, if no item had that one.
-    #[inline(never)]
-    fn keep(&mut self, remarks: Remarks)
-        ensures { IfSome self.old.last (λ said. self.new ≡ noted_by remarks said self.old) }
-    {
-        if let Some(said) = self.last {
-            keep_first(&mut self.unasked, remarks.unasked, &said);
-            keep_first(&mut self.choked, remarks.choked, &said);
-            keep_first(&mut self.again, remarks.again, &said);
-            keep_first(&mut self.elsewhere, remarks.elsewhere, &said);
-        }
-    }
-
-    /// Keeps an item with its remarks.
-    #[inline(always)]
-    fn note(&mut self, said: Said, remarks: Remarks)
-        ensures { self.new ≡ noted_by remarks said self.old }
-    {
-        self.last = Some(said);
-        if remarks.unasked || remarks.choked || remarks.again || remarks.elsewhere {
-            self.keep(remarks);
-        }
-    }
-}
-
 /// Keeps an item of a side with its remarks.
 #[inline(always)]
-fn note(side: Side, a: &mut Notes, b: &mut Notes, said: Said, remarks: Remarks)
-    ensures a { a.new ≡ (if is_same side sides.A then noted_by remarks said a.old else a.old) }
-    ensures b { b.new ≡ (if is_same side sides.B then noted_by remarks said b.old else b.old) }
+fn note(
+    side: Side,
+    a: &mut Notes,
+    b: &mut Notes,
+    said: Said,
+    remarks: Remarks,
+) -> Result<(), AllocError>
+    ensures a { OnOk result (a.new ≡ (if is_same side sides.A then noted_by remarks said a.old else a.old)) }
+    ensures b { OnOk result (b.new ≡ (if is_same side sides.B then noted_by remarks said b.old else b.old)) }
 {
     match side {
         Side::A => a.note(said, remarks),
@@ -222,8 +176,8 @@ impl Watch {
     {
         Watch {
             matcher: Matcher::new(alloc),
-            a: NO_NOTES,
-            b: NO_NOTES,
+            a: Notes::new(alloc),
+            b: Notes::new(alloc),
             side: Side::A,
             known: false,
             when: NO_PACKET,
@@ -248,8 +202,8 @@ impl Watch {
         ensures { result.now ≡ (notes_of self.now.side self.now).last }
     {
         match self.side {
-            Side::A => &self.a.last,
-            Side::B => &self.b.last,
+            Side::A => self.a.last(),
+            Side::B => self.b.last(),
         }
     }
 
@@ -259,13 +213,13 @@ impl Watch {
             → AreRemarked side events (items side) result }
     {
         let tally = self.matcher.tally(side);
-        let notes = self.notes(side);
+        let firsts = self.notes(side).firsts();
         Remarked {
-            unasked: noted(tally.unasked, &notes.unasked),
-            choked: noted(tally.choked, &notes.choked),
-            again: noted(tally.again, &notes.again),
+            unasked: noted(tally.unasked, &firsts.unasked),
+            choked: noted(tally.choked, &firsts.choked),
+            again: noted(tally.again, &firsts.again),
             unanswered: None,
-            elsewhere: noted(tally.elsewhere, &notes.elsewhere),
+            elsewhere: noted(tally.elsewhere, &firsts.elsewhere),
         }
     }
 
@@ -290,6 +244,26 @@ impl Watch {
         ensures { self.new ≡ record self.old { when = when } }
     {
         self.when = when;
+    }
+
+    /// Keeps an item of the side whose bytes are read, with its remarks, and appends its row.
+    #[inline(always)]
+    fn keep(&mut self, said: &Said, remarks: Remarks) -> Result<(), AllocError>
+        ensures a { OnOk result (self.new.a ≡ (if is_same self.old.side sides.A then noted_by remarks said.now self.old.a else self.old.a)) }
+        ensures b { OnOk result (self.new.b ≡ (if is_same self.old.side sides.B then noted_by remarks said.now self.old.b else self.old.b)) }
+        ensures rows { OnOk result (Appends (row_at self.old.rows.heading self.old.when self.old.side said.now.offset (deed.Item said.now.words) remarks ∷ [])
+            self.old.rows self.new.rows) }
+        ensures rest { self.new ≡ record self.old { a = self.new.a; b = self.new.b; rows = self.new.rows } }
+    {
+        note(self.side, &mut self.a, &mut self.b, *said, remarks)?;
+        self.rows.put_item(self.when, self.side, said, remarks)?;
+        Ok(())
+    }
+
+    /// Returns about how many bytes of memory it takes besides its own fields.
+    pub(crate) fn size(&self) -> usize {
+        let notes = self.a.size().saturating_add(self.b.size());
+        notes.saturating_add(self.matcher.size())
     }
 
     /// Appends the row of a refusal that stands now, if none stood before.
@@ -368,9 +342,8 @@ impl Sink for Watch {
     #[inline(always)]
     fn item(&mut self, at: u64, view: &View<'_>) -> Result<(), SinkFault> {
         self.calls = self.calls.saturating_add(1);
-        let side = self.side;
         let heard = Heard {
-            side,
+            side: self.side,
             event: event_of(view),
             known: self.known,
             mark: at,
@@ -381,8 +354,7 @@ impl Sink for Watch {
                     offset: at,
                     words: Words::of(view),
                 };
-                note(side, &mut self.a, &mut self.b, said, remarks);
-                match self.rows.put_item(self.when, self.side, &said, remarks) {
+                match self.keep(&said, remarks) {
                     Ok(()) => Ok(()),
                     Err(_) => {
                         self.failed = self.failed.saturating_add(1);

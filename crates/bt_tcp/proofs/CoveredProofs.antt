@@ -1,5 +1,6 @@
 -- Lemmas on spans, and on a span more.
-use Rattle.std.proofs.Common.{◌≡◌, ℕ, zero, suc, get_or, ◌+◌, ◌-◌, ◌<◌, ◌≤◌, Bool, true, false, List, [], ◌∷◌, ◌++◌, length, take, drop, set, refl, sym, ap, ◌∙◌, arith}
+use Rattle.std.proofs.Common.{◌≡◌, ℕ, zero, suc, ◌+◌, ◌-◌, ◌<◌, ◌≤◌, Bool, true, false, List, [], ◌∷◌, ◌++◌, length, get_or, take, drop, set}
+use Rattle.std.proofs.Common.{refl, sym, ap, ◌∙◌, arith}
 use Rattle.std.specs.Prelude.{if◌then◌else◌, nat_lt}
 use Rattle.std.proofs.lemmas.Grind.{common_steps}
 use Rattle.std.proofs.Common.{length-take, length-drop, length-append, append_assoc}
@@ -205,5 +206,5 @@ add-after s [] zero h p q = refl
 add-after s [] (suc n) h p q = absurd (omega arith)
 add-after s (t ∷ spans) zero h p q = ap (λ b. if b then t ∷ add s spans else join s (t ∷ spans)) (q 0 t (omega arith) (omega arith))
 add-after s (t ∷ spans) (suc n) h p q =
-    ap (λ b. if b then t ∷ add s spans else join s (t ∷ spans)) (p 0 t (omega arith) (omega arith))
-    ∙ ap (λ x. t ∷ x) (add-after s spans n (omega arith) (λ k d l m. p (suc k) d (omega arith) (omega arith)) (λ k d l m. q (suc k) d (omega arith) (omega arith)))
+    let more = add-after s spans n (omega arith) (λ k d l m. p (suc k) d (omega arith) (omega arith)) (λ k d l m. q (suc k) d (omega arith) (omega arith)) in
+    ap (λ b. if b then t ∷ add s spans else join s (t ∷ spans)) (p 0 t (omega arith) (omega arith)) ∙ ap (λ x. t ∷ x) more

@@ -1,5 +1,5 @@
 -- What a capture tells of one direction of a connection, beside its bytes: the segments that it sent, and the acknowledgements by the other side, newest last.
-use Rattle.std.specs.Prelude.{◌≡◌, ℕ, max, ◌+◌, ◌-◌, ◌%◌, ◌^◌, Bool, List, [], ◌∷◌, Option, Some, None, unwrap_or, if◌then◌else◌, nat_lt}
+use Rattle.std.specs.Prelude.{◌≡◌, ℕ, max, ◌+◌, ◌-◌, ◌%◌, ◌^◌, Bool, List, [], ◌∷◌, Option, Some, None, unwrap_or, IsSome, ◌⊎◌, if◌then◌else◌, nat_lt}
 use Rattle.std.specs.Bool.{then_some}
 use Rattle.std.specs.Option.{option_or}
 use Rattle.bt_tcp.specs.Places.{IsNearest}
@@ -141,3 +141,8 @@ pub record IsAfterSyn (heard : List Heard) (base : ℕ) : Type 0 where
 abbrev pub IsBase : List Heard → Option ℕ → Type 0
 IsBase heard None = opening_of heard ≡ None
 IsBase heard (Some base) = IsAfterSyn heard base
+
+-- where the stream may begin: the place after the SYN, or else that of the first number that is known
+abbrev pub IsStart : List Heard → Option ℕ → Type 0
+IsStart heard None = zero_of heard ≡ None
+IsStart heard (Some start) = IsAfterSyn heard start ⊎ ((opening_of heard ≡ None) × IsSome (zero_of heard) × (start ≡ 2 ^ 40))

@@ -32,12 +32,14 @@ IsPutOf capacity at bytes next ahead Full next' ahead' = (next + capacity < at +
 -- Whatever the window had taken and handed out: now it has taken this segment too, and handed out the fresh bytes after those.
 abbrev pub TakesOneMore : ℕ → List ℕ → ℕ → (ℕ → Option ℕ) → Put → ℕ → (ℕ → Option ℕ) → Type 0
 TakesOneMore at bytes next ahead (Taken from len) next' ahead' =
-    (segs : List Segment) (base : ℕ) (out : List ℕ) → IsTaken segs base out next ahead → IsTaken (segs ++ record { place = at; bytes = bytes } ∷ []) base (out ++ take len (drop from bytes)) next' ahead'
+    (segs : List Segment) (base : ℕ) (out : List ℕ) → IsTaken segs base out next ahead
+    → IsTaken (segs ++ record { place = at; bytes = bytes } ∷ []) base (out ++ take len (drop from bytes)) next' ahead'
 TakesOneMore at bytes next ahead Full next' ahead' = Unit {0}
 
 -- These bytes were handed out after those before.
 abbrev pub HandsOutMore : ℕ → (ℕ → Option ℕ) → List ℕ → ℕ → (ℕ → Option ℕ) → Type 0
-HandsOutMore next ahead more next' ahead' = (segs : List Segment) (base : ℕ) (out : List ℕ) → IsTaken segs base out next ahead → IsTaken segs base (out ++ more) next' ahead'
+HandsOutMore next ahead more next' ahead' =
+    (segs : List Segment) (base : ℕ) (out : List ℕ) → IsTaken segs base out next ahead → IsTaken segs base (out ++ more) next' ahead'
 
 -- With these the stream is handed out up to the first place that no segment covers.
 abbrev pub EndsStream : ℕ → (ℕ → Option ℕ) → List ℕ → Type 0

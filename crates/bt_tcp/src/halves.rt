@@ -43,7 +43,7 @@ fn data_number(sequence: u32, syn: bool) -> u32
 
 impl Half {
     ghost use Rattle.std.specs.Prelude.{ℕ, ◌<◌, List, [], IsTrue, ◌↔◌, IfOk, OnErr};
-    ghost use Rattle.bt_tcp.specs.Heard.{Heard, Took, Acked, sent_of, IsBase};
+    ghost use Rattle.bt_tcp.specs.Heard.{Heard, Took, Acked, sent_of, IsBase, IsStart};
     ghost use Rattle.bt_tcp.specs.Halves.{IsHalf, HearsMore, IsOutOfRange};
 
     /// Starts with nothing captured.
@@ -129,6 +129,17 @@ impl Half {
             return None;
         };
         Some(place(zero, FIRST, opening.wrapping_add(1)))
+    }
+
+    /// Returns the place after the SYN, or that of the first number that is known if the SYN's isn't.
+    pub fn start(&self) -> Option<u64>
+        ensures { (heard : List Heard) → IsHalf heard self.now → IsStart heard result }
+    {
+        match (self.base(), &self.zero) {
+            (Some(base), _) => Some(base),
+            (None, Some(_)) => Some(FIRST),
+            (None, None) => None,
+        }
     }
 
     /// Returns the place up to which bytes are known to be sent, if none from `next` on was captured.

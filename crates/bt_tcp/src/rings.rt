@@ -242,7 +242,8 @@ impl Ring {
         requires sound { IsSound self.old known.old bytes.old }
         requires end { at + length part.now < 2 ^ 64 }
         ensures sound { IsSound self.new known.new bytes.new }
-        ensures put { IsPutOf (places known.old) at part.now self.old.next (ahead self.old known.old bytes.old) result self.new.next (ahead self.new known.new bytes.new) }
+        ensures put { IsPutOf (places known.old) at part.now self.old.next (ahead self.old known.old bytes.old)
+            result self.new.next (ahead self.new known.new bytes.new) }
         ensures taken { TakesOneMore at part.now self.old.next (ahead self.old known.old bytes.old) result self.new.next (ahead self.new known.new bytes.new) }
     {
         let done = self.next.saturating_sub(at);

@@ -69,7 +69,8 @@ fn take(
     requires end { segment.now.place + length segment.now.bytes.now < 2 ^ 64 }
     ensures sound { IsSound ring.new known.new memory.new }
     ensures full { IfErr result (λ why. IsFull ring.old.next (places known.old) segment.now why) }
-    ensures taken { OnOk result (TakesAll segment.now.place segment.now.bytes.now ring.old known.old memory.old out.old.items ring.new known.new memory.new out.new.items) }
+    ensures taken { OnOk result (TakesAll segment.now.place segment.now.bytes.now ring.old known.old memory.old out.old.items
+        ring.new known.new memory.new out.new.items) }
 {
     match ring.put(known, memory, segment.place, segment.bytes) {
         Put::Full => Err(Failed::Full),

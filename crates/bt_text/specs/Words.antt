@@ -21,7 +21,7 @@ abbrev pub IsCounted : {B E : Type 0} → (E → Type 0) → MessageOver B E →
 IsCounted p (Extended e) = p e
 IsCounted p m = ⊤
 
--- the same of the message that an item may be
+-- what is asked of a message holds of the one that an item may be
 abbrev pub HasLengths : Item → Type 0
 HasLengths (items.Handshake h) = ⊤
 HasLengths (items.Message m) = IsCounted HasLength m

@@ -1,10 +1,11 @@
 -- Members of JSON objects (RFC 8259), each after a comma. An item has those of `show --json`, without texts of any length.
-use Rattle.std.specs.Prelude.{◌≡◌, ℕ, ◌==◌, ◌||◌, List, [], ◌∷◌, ◌++◌, codes, decimal, if◌then◌else◌, ⊤}
+use Rattle.std.specs.Prelude.{◌≡◌, ℕ, ◌==◌, ◌||◌, List, [], ◌∷◌, ◌++◌, Some, codes, decimal, if◌then◌else◌}
 use Rattle.hex.specs.Hex.{encode_lower}
+use Rattle.json.specs.Print.{token_text}
 use Rattle.bt_text.specs.declared.ended.Ended.{Ended}
 use Rattle.bt_text.specs.declared.ended.Ended.TheVariants.{Accepted, Refused}
 use Rattle.bt_json.specs.Members.{IsShort, rest_of_line}
-use Rattle.bt_json.specs.Objects.{message_fields}
+use Rattle.bt_json.specs.Objects.{handshake_fields, message_fields, text_or_null}
 use Rattle.bt_wire.specs.declared.context.Own.{Own}
 use Rattle.bt_wire.specs.declared.item.Item.{Item}
 use Rattle.bt_wire.specs.declared.item.Item.TheVariants as items
@@ -69,7 +70,7 @@ number_members name (Three n m k) = member (first_key name) n ++ (member (second
 abbrev pub words_members : Words → List ℕ
 words_members (words.Handshake h) =
     codes ",\"item\":\"handshake\",\"reserved\":\"" ++ (encode_lower (be64 h.reserved.0) ++ (codes "\",\"info_hash\":\"" ++ (encode_lower h.info_hash
-    ++ (codes "\",\"peer_id\":\"" ++ (encode_lower h.peer_id ++ codes "\"")))))
+    ++ (codes "\",\"peer_id\":\"" ++ (encode_lower h.peer_id ++ (codes "\",\"peer_id_text\":" ++ token_text (text_or_null (Some h.peer_id))))))))
 words_members (words.Announced dict rest size id) =
     (codes ",\"item\":\"ext-handshake\",\"dictionary\":" ++ (decimal dict ++ (codes ",\"rest\":" ++ decimal rest)))
     ++ (option_text (codes ",\"metadata_size\":") size ++ option_text (codes ",\"ut_metadata\":") id)
@@ -79,9 +80,8 @@ words_members (words.Message name numbers) = codes ",\"item\":\"" ++ (name_text 
 abbrev pub IsShown : Message → Words → Type 0
 IsShown m said = (own : Own) → IsShort m → words_members said ++ codes "}\n" ≡ rest_of_line (message_fields own m)
 
--- (of a handshake `show --json` has the peer id as text, too)
 abbrev pub IsItemShown : Item → Words → Type 0
-IsItemShown (items.Handshake h) said = ⊤
+IsItemShown (items.Handshake h) said = words_members said ++ codes "}\n" ≡ rest_of_line (handshake_fields h)
 IsItemShown (items.Message m) said = IsShown m said
 
 -- an item and its offset

@@ -23,7 +23,7 @@ told_text t =
     ++ (closing_text t.closed ++ (remarked_text A t.remarked_a ++ remarked_text B t.remarked_b)))
 
 abbrev pub body_text : Body → List ℕ
-body_text body.NotBitTorrent = codes "  no BitTorrent handshake: encrypted, another protocol, or begun before the capture\n"
+body_text body.NotBitTorrent = codes "  no BitTorrent handshake: encrypted, another protocol, or its start isn't in the capture\n"
 body_text (body.Told t) = codes "\n" ++ told_text t
 
 abbrev pub report_text : Report → List ℕ

@@ -12,6 +12,7 @@ mod members;
 mod names;
 mod numbers;
 mod objects;
+mod peer_text;
 mod printing;
 mod remarked;
 mod report;

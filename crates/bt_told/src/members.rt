@@ -7,6 +7,7 @@ ghost use Rattle.bt_told.specs.declared.said.Words.TheVariants as words;
 ghost use Rattle.bt_text.specs.declared.ended.Ended.TheVariants as ended_by;
 
 use crate::numbers::put_option;
+use crate::peer_text::put_peer_text;
 use crate::said::{Name, Numbers, Said, Words, put_name};
 use crate::sides::put_between;
 use bt_text::ended::Ended;
@@ -121,11 +122,11 @@ fn put_numbers(name: Name, numbers: Numbers, text: &mut [u8], at: usize) -> usiz
     }
 }
 
-/// Puts a handshake's three fields in hex.
+/// Puts a handshake's three fields in hex, and the peer id as text.
 #[inline(never)]
 fn put_handshake(handshake: &Handshake, text: &mut [u8], at: usize) -> usize
-    requires { at + 170 ≤ length text.old }
-    ensures room { (at ≤ result) × (result ≤ at + 170) }
+    requires { at + 300 ≤ length text.old }
+    ensures room { (at ≤ result) × (result ≤ at + 300) }
     ensures size { length text.new ≡ length text.old }
     ensures text { take result text.new ≡ take at text.old ++ words_members (words.Handshake handshake.now) }
 {
@@ -135,7 +136,8 @@ fn put_handshake(handshake: &Handshake, text: &mut [u8], at: usize) -> usize
     let at = put_hex(&handshake.info_hash, text, at);
     let at = put_word(b"\",\"peer_id\":\"", text, at);
     let at = put_hex(&handshake.peer_id, text, at);
-    put_word(b"\"", text, at)
+    let at = put_word(b"\",\"peer_id_text\":", text, at);
+    put_peer_text(&handshake.peer_id, text, at)
 }
 
 /// Puts what an extended handshake announces.
@@ -163,8 +165,8 @@ fn put_announced(
 /// Puts an item's kind and fields.
 #[inline(always)]
 pub(crate) fn put_item(words: &Words, text: &mut [u8], at: usize) -> usize
-    requires { at + 170 ≤ length text.old }
-    ensures room { (at ≤ result) × (result ≤ at + 170) }
+    requires { at + 300 ≤ length text.old }
+    ensures room { (at ≤ result) × (result ≤ at + 300) }
     ensures size { length text.new ≡ length text.old }
     ensures text { take result text.new ≡ take at text.old ++ words_members words.now }
 {
@@ -187,8 +189,8 @@ pub(crate) fn put_item(words: &Words, text: &mut [u8], at: usize) -> usize
 
 /// Puts an item and its offset as an object.
 pub(crate) fn put_said_object(said: &Said, text: &mut [u8], at: usize) -> usize
-    requires { at + 201 ≤ length text.old }
-    ensures room { (at ≤ result) × (result ≤ at + 201) }
+    requires { at + 331 ≤ length text.old }
+    ensures room { (at ≤ result) × (result ≤ at + 331) }
     ensures size { length text.new ≡ length text.old }
     ensures text { take result text.new ≡ take at text.old ++ said_object said.now }
 {

@@ -19,7 +19,7 @@ use bt_wire::Own;
 use std::alloc::AllocError;
 
 /// Room for the longest report, without its addresses.
-const ROOM: usize = 7000;
+const ROOM: usize = 8500;
 
 /// Puts who the sender is.
 fn put_sender(sender: &Sender, text: &mut [u8], at: usize) -> usize
@@ -220,8 +220,8 @@ fn put_noted<const N: usize>(
     text: &mut [u8],
     at: usize,
 ) -> usize
-    requires { at + (240 + length key.now) ≤ length text.old }
-    ensures room { (at ≤ result) × (result ≤ at + (240 + length key.now)) }
+    requires { at + (370 + length key.now) ≤ length text.old }
+    ensures room { (at ≤ result) × (result ≤ at + (370 + length key.now)) }
     ensures size { length text.new ≡ length text.old }
     ensures text { take result text.new ≡ take at text.old ++ noted_member key.now noted.now }
 {
@@ -235,8 +235,8 @@ fn put_noted<const N: usize>(
 
 /// Puts a side's remarks.
 fn put_remarked(remarked: &Remarked, text: &mut [u8], at: usize) -> usize
-    requires { at + 1350 ≤ length text.old }
-    ensures room { (at ≤ result) × (result ≤ at + 1350) }
+    requires { at + 2000 ≤ length text.old }
+    ensures room { (at ≤ result) × (result ≤ at + 2000) }
     ensures size { length text.new ≡ length text.old }
     ensures text { take result text.new ≡ take at text.old ++ remarked_members remarked.now }
 {
@@ -261,8 +261,8 @@ fn put_direction(
     text: &mut [u8],
     at: usize,
 ) -> usize
-    requires { at + 3100 ≤ length text.old }
-    ensures room { (at ≤ result) × (result ≤ at + 3100) }
+    requires { at + 3750 ≤ length text.old }
+    ensures room { (at ≤ result) × (result ≤ at + 3750) }
     ensures size { length text.new ≡ length text.old }
     ensures text { take result text.new ≡ take at text.old ++ direction_object side closer direction.now remarked.now }
 {
@@ -278,8 +278,8 @@ fn put_direction(
 
 /// Puts the last that a side had sent, if it had sent something.
 fn put_last(last: &Last, text: &mut [u8], at: usize) -> usize
-    requires { at + 220 ≤ length text.old }
-    ensures room { (at ≤ result) × (result ≤ at + 220) }
+    requires { at + 350 ≤ length text.old }
+    ensures room { (at ≤ result) × (result ≤ at + 350) }
     ensures size { length text.new ≡ length text.old }
     ensures text { take result text.new ≡ take at text.old ++ last_member last.now }
 {
@@ -304,8 +304,8 @@ fn put_before<const N: usize>(
     text: &mut [u8],
     at: usize,
 ) -> usize
-    requires { at + (250 + length key.now) ≤ length text.old }
-    ensures room { (at ≤ result) × (result ≤ at + (250 + length key.now)) }
+    requires { at + (380 + length key.now) ≤ length text.old }
+    ensures room { (at ≤ result) × (result ≤ at + (380 + length key.now)) }
     ensures size { length text.new ≡ length text.old }
     ensures text { take result text.new ≡ take at text.old ++ before_member key.now before.now }
 {
@@ -319,8 +319,8 @@ fn put_before<const N: usize>(
 
 /// Puts how a connection was closed, if it was.
 fn put_closed(closed: &Option<Closed>, text: &mut [u8], at: usize) -> usize
-    requires { at + 640 ≤ length text.old }
-    ensures room { (at ≤ result) × (result ≤ at + 640) }
+    requires { at + 900 ≤ length text.old }
+    ensures room { (at ≤ result) × (result ≤ at + 900) }
     ensures size { length text.new ≡ length text.old }
     ensures text { take result text.new ≡ take at text.old ++ closed_member closed.now }
 {
@@ -340,8 +340,8 @@ fn put_closed(closed: &Option<Closed>, text: &mut [u8], at: usize) -> usize
 
 /// Puts what is told of a BitTorrent connection.
 fn put_told(told: &Told, text: &mut [u8], at: usize) -> usize
-    requires { at + 6900 ≤ length text.old }
-    ensures room { (at ≤ result) × (result ≤ at + 6900) }
+    requires { at + 8450 ≤ length text.old }
+    ensures room { (at ≤ result) × (result ≤ at + 8450) }
     ensures size { length text.new ≡ length text.old }
     ensures text { take result text.new ≡ take at text.old ++ told_members told.now }
 {
@@ -356,8 +356,8 @@ fn put_told(told: &Told, text: &mut [u8], at: usize) -> usize
 
 /// Puts what comes after the addresses.
 fn put_body(body: &Body, text: &mut [u8], at: usize) -> usize
-    requires { at + 7000 ≤ length text.old }
-    ensures room { (at ≤ result) × (result ≤ at + 7000) }
+    requires { at + 8500 ≤ length text.old }
+    ensures room { (at ≤ result) × (result ≤ at + 8500) }
     ensures size { length text.new ≡ length text.old }
     ensures text { take result text.new ≡ take at text.old ++ body_members body.now }
 {

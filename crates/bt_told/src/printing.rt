@@ -49,7 +49,7 @@ fn put_body(body: &Body, text: &mut [u8], at: usize) -> usize
     match body {
         Body::NotBitTorrent => {
             let words =
-                b"  no BitTorrent handshake: encrypted, another protocol, or begun before the capture\n";
+                b"  no BitTorrent handshake: encrypted, another protocol, or its start isn't in the capture\n";
             put_word(words, text, at)
         }
         Body::Told(told) => {

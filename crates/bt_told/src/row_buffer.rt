@@ -13,7 +13,7 @@ use std::alloc::{AllocError, Global};
 use std::marker::Model;
 
 /// How many bytes of room the row of an item needs.
-const ROOM: usize = 440;
+const ROOM: usize = 570;
 
 /// How many bytes the text grows by if it has no room, besides the room.
 const GROWTH: usize = 1024;
@@ -46,7 +46,7 @@ impl Model for RowBuffer {
 #[inline(never)]
 fn make_room(bytes: &mut Vec<u8>, used: usize) -> Result<(), AllocError>
     requires { used ≤ vec_len bytes.old }
-    ensures ok { OnOk result (used + 440 ≤ vec_len bytes.new) }
+    ensures ok { OnOk result (used + 570 ≤ vec_len bytes.new) }
     ensures kept { (used ≤ vec_len bytes.new) × (take used bytes.new.items ≡ take used bytes.old.items) }
 {
     bytes.truncate(used);
@@ -71,8 +71,8 @@ fn end_line(words: &Words, remarks: &Remarks, text: &mut [u8], at: usize) -> usi
 /// Puts what follows the offset of an item in its object.
 #[inline(always)]
 fn end_object(words: &Words, remarks: &Remarks, text: &mut [u8], at: usize) -> usize
-    requires { at + 269 ≤ length text.old }
-    ensures room { (at ≤ result) × (result ≤ at + 269) }
+    requires { at + 399 ≤ length text.old }
+    ensures room { (at ≤ result) × (result ≤ at + 399) }
     ensures size { length text.new ≡ length text.old }
     ensures text { take result text.new ≡ take at text.old ++ object_end words.now remarks.now }
 {
@@ -91,8 +91,8 @@ fn put_item_row(
     text: &mut [u8],
     at: usize,
 ) -> usize
-    requires { at + 440 ≤ length text.old }
-    ensures room { (at ≤ result) × (result ≤ at + 440) }
+    requires { at + 570 ≤ length text.old }
+    ensures room { (at ≤ result) × (result ≤ at + 570) }
     ensures size { length text.new ≡ length text.old }
     ensures text { take result text.new ≡ take at text.old ++ text_by stamp.now.form stamp.now.packet (item_row stamp.now said.now remarks.now) }
 {

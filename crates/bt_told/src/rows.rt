@@ -216,8 +216,8 @@ pub fn put_row(row: &Row, out: &mut Vec<u8>) -> Result<(), AllocError>
 
 /// Puts what a side did as members.
 fn put_deed_members(offset: u64, deed: &Deed, text: &mut [u8], at: usize) -> usize
-    requires { at + 210 ≤ length text.old }
-    ensures room { (at ≤ result) × (result ≤ at + 210) }
+    requires { at + 340 ≤ length text.old }
+    ensures room { (at ≤ result) × (result ≤ at + 340) }
     ensures size { length text.new ≡ length text.old }
     ensures text { take result text.new ≡ take at text.old ++ deed_members offset deed.now }
 {
@@ -245,7 +245,7 @@ fn put_deed_members(offset: u64, deed: &Deed, text: &mut [u8], at: usize) -> usi
 
 /// Puts a row as an object.
 fn put_object(packet: u64, row: &Row, text: &mut [u8], at: usize) -> usize
-    requires { at + 420 ≤ length text.old }
+    requires { at + 550 ≤ length text.old }
     ensures size { length text.new ≡ length text.old }
     ensures text { take result text.new ≡ take at text.old ++ row_object packet row.now }
 {
@@ -262,13 +262,13 @@ fn put_object(packet: u64, row: &Row, text: &mut [u8], at: usize) -> usize
 /// Appends a row as a JSON object on a line: what `show --json` has of it, and its packet's number, counted from 1.
 ///
 /// # Errors
-/// `AllocError` if the capacity has no room for 420 bytes and out of memory; the text is then as before.
+/// `AllocError` if the capacity has no room for 550 bytes and out of memory; the text is then as before.
 pub fn put_row_object(packet: u64, row: &Row, out: &mut Vec<u8>) -> Result<(), AllocError>
     ensures ok { OnOk result (out.new.items ≡ out.old.items ++ row_object packet row.now) }
     ensures err { OnErr result (out.new.items ≡ out.old.items) }
-    ensures full { OnErr result (vec_capacity out.old < vec_len out.old + 420) }
+    ensures full { OnErr result (vec_capacity out.old < vec_len out.old + 550) }
 {
-    let place = grow(out, 420)?;
+    let place = grow(out, 550)?;
     let end = put_object(packet, row, out.as_mut_slice(), place);
     out.truncate(end);
     Ok(())

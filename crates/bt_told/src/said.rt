@@ -7,7 +7,7 @@ ghost use Rattle.bt_ext.specs.Metadata.{kind_of};
 ghost use Rattle.bt_ext.specs.Payloads.{seen as seen_ext};
 ghost use Rattle.bt_wire.specs.Messages.{message_of};
 ghost use Rattle.bt_json.specs.Members.{HasNoText, rest_of_line};
-ghost use Rattle.bt_json.specs.Objects.{ext_fields, metadata_fields};
+ghost use Rattle.bt_json.specs.Objects.{ext_fields, handshake_fields, metadata_fields};
 ghost use Rattle.bt_told.specs.Members.{IsItemShown, IsShown, words_members};
 ghost use Rattle.bt_told.specs.Said.{name_text, numbers_text, said_text, words_text};
 
@@ -239,6 +239,15 @@ fn message_in(message: &MessageView) -> Words
     }
 }
 
+/// Returns the words of a handshake.
+#[inline(always)]
+fn hello(handshake: Handshake) -> Words
+    ensures is { result ≡ Words.Handshake handshake }
+    ensures fields { words_members result ++ codes "}\n" ≡ rest_of_line (handshake_fields handshake) }
+{
+    Words::Handshake(handshake)
+}
+
 impl Words {
     /// Returns the words of an item.
     #[inline(always)]
@@ -247,7 +256,7 @@ impl Words {
         ensures fields { IsItemShown (item_of view.now) result }
     {
         match view {
-            View::Handshake(handshake) => Words::Handshake(*handshake),
+            View::Handshake(handshake) => hello(*handshake),
             View::Message(message) => message_in(message),
         }
     }

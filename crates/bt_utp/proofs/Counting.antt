@@ -1,5 +1,6 @@
 -- One more id: what is near it, and how many more of them have another one near.
-use Rattle.std.proofs.Common.{◌≡◌, ◌≢◌, ℕ, ◌+◌, ◌-◌, ◌^◌, ◌%◌, ◌<◌, ◌≤◌, inl, inr, Bool, true, false, ◌&&◌, ◌||◌, not, cond, if◌then◌else◌, nat_lt, List, [], ◌∷◌, ◌++◌}
+use Rattle.std.proofs.Common.{◌≡◌, ◌≢◌, ℕ, ◌+◌, ◌-◌, ◌^◌, ◌%◌, ◌<◌, ◌≤◌, inl, inr, Bool, true, false, ◌&&◌, ◌||◌, not, cond, if◌then◌else◌, nat_lt}
+use Rattle.std.proofs.Common.{List, [], ◌∷◌, ◌++◌}
 use Rattle.std.proofs.Common.{Option, Some, None, is_some, unwrap_or, refl, sym, ◌∙◌, ap, subst, arith, min}
 use Rattle.std.specs.Prelude.{count_by, ◌==◌}
 use Rattle.std.specs.List.{AllByRecursion, list_any}
@@ -41,7 +42,9 @@ or_swap false false false = refl
 
 -- which ids are near k, and to which ones k is near
 from_one : (k n l j : ℕ) → AreAround k n l → j < 65536 → is_near k j ≡ any_of k n l j
-from_one k n l j h g = ap (λ t. k == j || (t || (j + 1) % 65536 == k)) (ap (λ i. i == j) (sym h.1)) ∙ ap (λ t. k == j || (n == j || t)) (last_is j k l g h.2 h.3)
+from_one k n l j h g =
+    ap (λ t. k == j || (t || (j + 1) % 65536 == k)) (ap (λ i. i == j) (sym h.1))
+    ∙ ap (λ t. k == j || (n == j || t)) (last_is j k l g h.2 h.3)
 
 eqb_sym : (a b : ℕ) → (a == b) ≡ (b == a)
 eqb_sym a b = grind (arith, nat_tests)
@@ -158,7 +161,11 @@ alone_part false n c h le = elim (cases_eq n 0) [
   | inr some ↦ grind (arith, nat_tests, h, some)
 ]
 
-alone_count : (ids : List ℕ) (k : ℕ) → part (near_to k ids == 1) (same_as k ids) ≡ bit (unwrap_or (is_alone ids k) false)
+-- 1 for an id that came, and is alone
+abbrev lone : List ℕ → ℕ → ℕ
+lone ids k = bit (unwrap_or (is_alone ids k) false)
+
+alone_count : (ids : List ℕ) (k : ℕ) → part (near_to k ids == 1) (same_as k ids) ≡ lone ids k
 unfolding is_alone
 alone_count ids k = alone_part (list_any (λ j. k == j) ids) (same_as k ids) (near_to k ids) (any_counts (λ j. k == j) ids) (same_near k ids)
 
@@ -187,7 +194,10 @@ came_is k n l ids h small =
 
 crossing : (c : ℕ) (b : Bool) → bit (nat_lt 1 (c + bit b)) ≡ bit (nat_lt 1 c) + bit (b && (c == 1))
 crossing c true = elim (cases_eq c 1) [ inl one ↦ grind (arith, nat_tests, one) | inr other ↦ grind (arith, nat_tests, other) ]
-crossing c false = let zero_more : c + 0 ≡ c = omega arith in let same : bit (nat_lt 1 c) ≡ bit (nat_lt 1 c) + 0 = omega arith in ap (λ n. bit (nat_lt 1 n)) zero_more ∙ same
+crossing c false =
+    let zero_more : c + 0 ≡ c = omega arith in
+    let same : bit (nat_lt 1 c) ≡ bit (nat_lt 1 c) + 0 = omega arith in
+    ap (λ n. bit (nat_lt 1 n)) zero_more ∙ same
 
 own_near : (k : ℕ) → is_near k k ≡ true
 own_near k = same_is_near k k (grind (arith, nat_tests))
@@ -196,7 +206,7 @@ last_one : (k : ℕ) (ids : List ℕ) → nat_lt 1 (near_to k (ids ++ k ∷ []))
 last_one k ids = ap (nat_lt 1) (pushed (is_near k) ids k) ∙ ap (λ b. nat_lt 1 (near_to k ids + bit b)) (own_near k) ∙ grind (arith, nat_tests)
 
 counted : (k n l : ℕ) (ids : List ℕ) → AreAround k n l → AllByRecursion (λ j. j < 65536) ids
-    → count_near (ids ++ k ∷ []) ≡ count_near ids + (bit (unwrap_or (is_alone ids k) false) + (bit (unwrap_or (is_alone ids n) false) + bit (unwrap_or (is_alone ids l) false))) + bit (nat_lt 0 (near_to k ids))
+    → count_near (ids ++ k ∷ []) ≡ count_near ids + (lone ids k + (lone ids n + lone ids l)) + bit (nat_lt 0 (near_to k ids))
 unfolding count_near
 counted k n l ids h small =
     let now : ℕ → Bool = λ j. nat_lt 1 (near_to j (ids ++ k ∷ [])) in
@@ -237,37 +247,46 @@ or_true true = refl
 or_true false = refl
 
 -- an id, after another one
-after : (ids : List ℕ) (k q : ℕ) → is_alone (ids ++ k ∷ []) q ≡ (if list_any (λ j. q == j) ids || (q == k) then Some (near_to q ids + bit (is_near q k) == 1) else None)
+after : (ids : List ℕ) (k q : ℕ)
+    → is_alone (ids ++ k ∷ []) q ≡ (if list_any (λ j. q == j) ids || (q == k) then Some (near_to q ids + bit (is_near q k) == 1) else None)
 unfolding is_alone
 after ids k q =
-    ap (λ t. if t then Some (near_to q (ids ++ k ∷ []) == 1) else None) (list_any-append (λ j. q == j) ids (k ∷ []) ∙ ap (λ t. list_any (λ j. q == j) ids || t) (sym (or_false (q == k))))
+    let came = list_any-append (λ j. q == j) ids (k ∷ []) ∙ ap (λ t. list_any (λ j. q == j) ids || t) (sym (or_false (q == k))) in
+    ap (λ t. if t then Some (near_to q (ids ++ k ∷ []) == 1) else None) came
     ∙ ap (λ n. if list_any (λ j. q == j) ids || (q == k) then Some (n == 1) else None) (pushed (is_near q) ids k)
 
 after_own : (ids : List ℕ) (k : ℕ) (near : Bool) → near ≡ nat_lt 0 (near_to k ids) → Some (not near) ≡ is_alone (ids ++ k ∷ []) k
 after_own ids k near e =
+    let came = or_true (list_any (λ j. k == j) ids) ∙ ap (λ t. list_any (λ j. k == j) ids || t) (sym (eqb_self k)) in
     ap Some (one_more (near_to k ids) near e)
     ∙ ap (λ b. Some (near_to k ids + bit b == 1)) (sym (own_near k))
-    ∙ ap (λ t. if t then Some (near_to k ids + bit (is_near k k) == 1) else None) (or_true (list_any (λ j. k == j) ids) ∙ ap (λ t. list_any (λ j. k == j) ids || t) (sym (eqb_self k)))
+    ∙ ap (λ t. if t then Some (near_to k ids + bit (is_near k k) == 1) else None) came
     ∙ sym (after ids k k)
 
 after_near : (ids : List ℕ) (k q : ℕ) → (q == k) ≡ false → is_near q k ≡ true → option_map (λ _. false) (is_alone ids q) ≡ is_alone (ids ++ k ∷ []) q
 unfolding is_alone
 after_near ids k q other near =
+    let came = or_false (list_any (λ j. q == j) ids) ∙ ap (λ t. list_any (λ j. q == j) ids || t) (sym other) in
     no_more (list_any (λ j. q == j) ids) (near_to q ids) (same_as q ids) (any_counts (λ j. q == j) ids) (same_near q ids)
     ∙ ap (λ b. if list_any (λ j. q == j) ids then Some (near_to q ids + bit b == 1) else None) (sym near)
-    ∙ ap (λ t. if t then Some (near_to q ids + bit (is_near q k) == 1) else None) (or_false (list_any (λ j. q == j) ids) ∙ ap (λ t. list_any (λ j. q == j) ids || t) (sym other))
+    ∙ ap (λ t. if t then Some (near_to q ids + bit (is_near q k) == 1) else None) came
     ∙ sym (after ids k q)
 
 after_far : (ids : List ℕ) (k q : ℕ) → (q == k) ≡ false → is_near q k ≡ false → is_alone ids q ≡ is_alone (ids ++ k ∷ []) q
 unfolding is_alone
 after_far ids k q other far =
-    ap (λ c. if list_any (λ j. q == j) ids then Some (c == 1) else None) (let z : near_to q ids ≡ near_to q ids + 0 = omega arith in z ∙ ap (λ b. near_to q ids + bit b) (sym far))
-    ∙ ap (λ t. if t then Some (near_to q ids + bit (is_near q k) == 1) else None) (or_false (list_any (λ j. q == j) ids) ∙ ap (λ t. list_any (λ j. q == j) ids || t) (sym other))
+    let none_more : near_to q ids ≡ near_to q ids + 0 = omega arith in
+    let came = or_false (list_any (λ j. q == j) ids) ∙ ap (λ t. list_any (λ j. q == j) ids || t) (sym other) in
+    ap (λ c. if list_any (λ j. q == j) ids then Some (c == 1) else None) (none_more ∙ ap (λ b. near_to q ids + bit b) (sym far))
+    ∙ ap (λ t. if t then Some (near_to q ids + bit (is_near q k) == 1) else None) came
     ∙ sym (after ids k q)
 
 big_none : (q : ℕ) (ids : List ℕ) → 65536 ≤ q → AllByRecursion (λ j. j < 65536) ids → list_any (λ j. q == j) ids ≡ false
 big_none q [] big small = refl
-big_none q (x ∷ xs) big small = let other : q ≢ x = (λ e. omega (arith, e, big, small.0)) in let f : (q == x) ≡ false = grind (arith, nat_tests, other) in rw f (big_none q xs big small.1)
+big_none q (x ∷ xs) big small =
+    let other : q ≢ x = (λ e. omega (arith, e, big, small.0)) in
+    let f : (q == x) ≡ false = grind (arith, nat_tests, other) in
+    rw f (big_none q xs big small.1)
 
 none_alone : (q : ℕ) (ids : List ℕ) → list_any (λ j. q == j) ids ≡ false → is_alone ids q ≡ None
 unfolding is_alone
@@ -330,7 +349,8 @@ least_sum : (s t c d m : ℕ) → s ≡ min c m → t ≡ min (s + d) m → t �
 least_sum s t c d m h e = grind (arith, h, e)
 
 -- the count, after a step: before is what the map had of the next id and of the last one when they were looked at
-pub count_stepped : (k n l s t : ℕ) (near : Bool) (ids : List ℕ) (more : ℕ) → AreAround k n l → AllByRecursion (λ j. j < 65536) ids → near ≡ nat_lt 0 (near_to k ids)
+pub count_stepped : (k n l s t : ℕ) (near : Bool) (ids : List ℕ) (more : ℕ)
+    → AreAround k n l → AllByRecursion (λ j. j < 65536) ids → near ≡ nat_lt 0 (near_to k ids)
     → s ≡ min (count_near ids) (2 ^ 64 - 1) → t ≡ min (s + more) (2 ^ 64 - 1)
     → more ≡ bit near + bit (unwrap_or (is_alone ids k) false) + bit (unwrap_or (is_alone ids n) false) + bit (unwrap_or (is_alone ids l) false)
     → t ≡ min (count_near (ids ++ k ∷ [])) (2 ^ 64 - 1)
@@ -358,7 +378,8 @@ module _ (k n l : ℕ) (near : Bool) (ids : List ℕ) (before put_in mid end : �
       second l ∙ ap (λ t. if t then option_map (λ _. false) (put_in l) else put_in l) (no_test n l (apart k n l around).2)
       ∙ put_is l ∙ ap (λ t. cond t (Some (not near)) (is_alone ids l)) (no_test k l (apart k n l around).1)
 
-  pub each : AllByRecursion (λ j. j < 65536) ids → near ≡ nat_lt 0 (near_to k ids) → ((q : ℕ) → end q ≡ joined l q (mid q)) → (q : ℕ) → end q ≡ is_alone (ids ++ k ∷ []) q
+  pub each : AllByRecursion (λ j. j < 65536) ids → near ≡ nat_lt 0 (near_to k ids) → ((q : ℕ) → end q ≡ joined l q (mid q))
+      → (q : ℕ) → end q ≡ is_alone (ids ++ k ∷ []) q
   each small e third q =
       third q ∙ ap (joined l q) (second q ∙ ap (joined n q) (put_is q)) ∙ alone_stepped k n l q near ids around small e
 

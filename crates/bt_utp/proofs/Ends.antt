@@ -59,7 +59,9 @@ or_first a b h = ap (λ t. t || b) h
 
 pub same_self : (a : Utp) → same_ends a a ≡ true
 unfolding same_ends
-same_self a = or_first (is_from a.source a.target a) (is_from a.target a.source a) (ap (λ t. t && same_address a.target a.target) (laws.refl a.source) ∙ laws.refl a.target)
+same_self a =
+    let own = ap (λ t. t && same_address a.target a.target) (laws.refl a.source) ∙ laws.refl a.target in
+    or_first (is_from a.source a.target a) (is_from a.target a.source a) own
 
 and_comm : (a b : Bool) → (a && b) ≡ (b && a)
 and_comm true true = refl
@@ -116,7 +118,9 @@ id_ends d x h = (both (same_ends d x) (d.id == x.id) h).0
 -- what comes from the one end to the other has the same ends
 pub from_ends : (a b : Address) (d : Utp) → a ≡ d.source → b ≡ d.target → (x : Utp) → is_from a b x ≡ true → same_ends d x ≡ true
 unfolding same_ends
-from_ends a b d e g x h = or_first (is_from d.source d.target x) (is_from d.target d.source x) (ap (λ c. is_from c d.target x) (sym e) ∙ ap (λ c. is_from a c x) (sym g) ∙ h)
+from_ends a b d e g x h =
+    let from = ap (λ c. is_from c d.target x) (sym e) ∙ ap (λ c. is_from a c x) (sym g) ∙ h in
+    or_first (is_from d.source d.target x) (is_from d.target d.source x) from
 
 pub back_ends : (d x : Utp) → is_from d.target d.source x ≡ true → same_ends d x ≡ true
 unfolding same_ends
@@ -139,7 +143,8 @@ split d (x ∷ fs) =
     ap (λ t. same_ends d x || t) (split d fs)
     ∙ or_shuffle (is_from d.source d.target x) (is_from d.target d.source x) (list_any (is_from d.source d.target) fs) (list_any (is_from d.target d.source) fs)
 
-pub neither_way : (d : Utp) (fs : List Utp) → list_any (is_from d.source d.target) fs ≡ false → list_any (is_from d.target d.source) fs ≡ false → list_any (same_ends d) fs ≡ false
+pub neither_way : (d : Utp) (fs : List Utp) → list_any (is_from d.source d.target) fs ≡ false → list_any (is_from d.target d.source) fs ≡ false
+    → list_any (same_ends d) fs ≡ false
 neither_way d fs there back = split d fs ∙ none_of_both (list_any (is_from d.source d.target) fs) (list_any (is_from d.target d.source) fs) there back
 
 pub there_ends : (d x : Utp) → is_from d.source d.target x ≡ true → same_ends d x ≡ true

@@ -1,5 +1,6 @@
 -- The first ones of each kind, and which of the datagrams are kept, after one more.
-use Rattle.std.proofs.Common.{◌≡◌, ℕ, ◌+◌, ◌<◌, ◌≤◌, Bool, true, false, ◌&&◌, ◌||◌, cond, if◌then◌else◌, nat_lt, List, [], ◌∷◌, ◌++◌, length, map, refl, sym, ◌∙◌, ap, subst, arith, inl, inr}
+use Rattle.std.proofs.Common.{◌≡◌, ℕ, ◌+◌, ◌<◌, ◌≤◌, Bool, true, false, ◌&&◌, ◌||◌, cond, if◌then◌else◌, nat_lt, List, [], ◌∷◌, ◌++◌, length, map}
+use Rattle.std.proofs.Common.{refl, sym, ◌∙◌, ap, subst, arith, inl, inr}
 use Rattle.std.specs.Prelude.{◌==◌}
 use Rattle.std.specs.List.{filter, list_any, IsDistinct}
 use Rattle.std.specs.Cmp.{IsEquivalence}
@@ -42,11 +43,15 @@ kept_same ds d h = fold_push (λ ks e. if has_room ks e then ks ++ e ∷ [] else
 module _ (same : Utp → Utp → Bool) where
   pub known : (ds : List Utp) (d : Utp) → list_any (same d) (firsts same ds) ≡ true → firsts same (ds ++ d ∷ []) ≡ firsts same ds
   unfolding firsts
-  known ds d h = fold_push (λ fs e. if list_any (same e) fs then fs else fs ++ e ∷ []) [] ds d ∙ ap (λ t. if t then firsts same ds else firsts same ds ++ d ∷ []) h
+  known ds d h =
+      fold_push (λ fs e. if list_any (same e) fs then fs else fs ++ e ∷ []) [] ds d
+      ∙ ap (λ t. if t then firsts same ds else firsts same ds ++ d ∷ []) h
 
   pub fresh : (ds : List Utp) (d : Utp) → list_any (same d) (firsts same ds) ≡ false → firsts same (ds ++ d ∷ []) ≡ firsts same ds ++ d ∷ []
   unfolding firsts
-  fresh ds d h = fold_push (λ fs e. if list_any (same e) fs then fs else fs ++ e ∷ []) [] ds d ∙ ap (λ t. if t then firsts same ds else firsts same ds ++ d ∷ []) h
+  fresh ds d h =
+      fold_push (λ fs e. if list_any (same e) fs then fs else fs ++ e ∷ []) [] ds d
+      ∙ ap (λ t. if t then firsts same ds else firsts same ds ++ d ∷ []) h
 
 or_false : (b : Bool) → (b || false) ≡ b
 or_false true = refl
@@ -170,10 +175,12 @@ ids_with f ds d h =
 pub ids_without : (f : Utp) (ds : List Utp) (d : Utp) → same_ends f d ≡ false → ids_of f (ds ++ d ∷ []) ≡ ids_of f ds
 unfolding ids_of
 ids_without f ds d h =
-    ap (map (λ e. e.id)) (filter_push (same_ends f) ds d ∙ ap (λ t. filter (same_ends f) ds ++ (if t then d ∷ [] else [])) h ∙ append_none (filter (same_ends f) ds))
+    let own = filter (same_ends f) ds in
+    ap (map (λ e. e.id)) (filter_push (same_ends f) ds d ∙ ap (λ t. own ++ (if t then d ∷ [] else [])) h ∙ append_none own)
 
 -- those of a flow have an id exactly if one of the datagrams with the ends and the id of this one was there
-id_among : (b : Bool) (i : ℕ) (x : Utp) (xs : List Utp) → list_any (λ j. i == j) (map (λ e. e.id) (cond b (x ∷ xs) xs)) ≡ ((b && (i == x.id)) || list_any (λ j. i == j) (map (λ e. e.id) xs))
+id_among : (b : Bool) (i : ℕ) (x : Utp) (xs : List Utp)
+    → list_any (λ j. i == j) (map (λ e. e.id) (cond b (x ∷ xs) xs)) ≡ ((b && (i == x.id)) || list_any (λ j. i == j) (map (λ e. e.id) xs))
 id_among true i x xs = refl
 id_among false i x xs = refl
 

@@ -1,5 +1,6 @@
 -- The laws of the flows.
-use Rattle.std.proofs.Common.{◌≡◌, ℕ, ◌+◌, ◌-◌, ◌^◌, ◌≤◌, Bool, true, false, ◌||◌, nat_lt, List, [], ◌∷◌, ◌++◌, length, map, min, refl, sym, ◌∙◌, ap, subst, arith, inl, inr}
+use Rattle.std.proofs.Common.{◌≡◌, ℕ, ◌+◌, ◌-◌, ◌^◌, ◌≤◌, Bool, true, false, ◌||◌, nat_lt, List, [], ◌∷◌, ◌++◌, length, map, min}
+use Rattle.std.proofs.Common.{refl, sym, ◌∙◌, ap, subst, arith, inl, inr}
 use Rattle.std.specs.Prelude.{count_by}
 use Rattle.std.specs.List.{list_any}
 use Rattle.std.proofs.lemmas.Bool.{cases_Bool}
@@ -79,7 +80,8 @@ more_than n m h e = grind (arith, nat_tests, h, e)
 near_in : (a b : List ℕ) → IsIn a b → count_near a ≤ count_near b
 unfolding count_near
 near_in a b h =
-    let first = fewer (λ k. nat_lt 1 (count_by (is_near k) a)) (λ k. nat_lt 1 (count_by (is_near k) b)) (λ k e. more_than (count_by (is_near k) a) (count_by (is_near k) b) (h (is_near k)) e) a in
+    let among : List ℕ → ℕ → ℕ = λ l k. count_by (is_near k) l in
+    let first = fewer (λ k. nat_lt 1 (among a k)) (λ k. nat_lt 1 (among b k)) (λ k e. more_than (among a k) (among b k) (h (is_near k)) e) a in
     omega (arith, first, h (λ k. nat_lt 1 (count_by (is_near k) b)))
 
 module _ (f : Utp) where
@@ -110,7 +112,9 @@ least_of n m k h = grind (arith, h)
 
 pub none_too_much : NoneIsTooMuch
 unfolding flow
-none_too_much ds f = least_of (count_near (ids_of f (kept ds))) (count_near (ids_of f ds)) (2 ^ 64 - 1) (near_in (ids_of f (kept ds)) (ids_of f ds) (are_in f ds))
+none_too_much ds f =
+    let fewer_near = near_in (ids_of f (kept ds)) (ids_of f ds) (are_in f ds) in
+    least_of (count_near (ids_of f (kept ds))) (count_near (ids_of f ds)) (2 ^ 64 - 1) fewer_near
 
 -- ---- none was left out
 

@@ -1,5 +1,6 @@
 -- The flows, after one more datagram.
-use Rattle.std.proofs.Common.{◌≡◌, ℕ, ◌+◌, ◌-◌, ◌^◌, ◌<◌, ◌≤◌, zero, suc, Bool, true, false, ◌&&◌, ◌||◌, not, cond, if◌then◌else◌, nat_lt, List, [], ◌∷◌, ◌++◌, length, set, get_or, map, min, Option, Some, None, refl, sym, ◌∙◌, ap, subst, arith, inl, inr}
+use Rattle.std.proofs.Common.{◌≡◌, ℕ, ◌+◌, ◌-◌, ◌^◌, ◌<◌, ◌≤◌, zero, suc, Bool, true, false, ◌&&◌, ◌||◌, not, cond, if◌then◌else◌, nat_lt, min}
+use Rattle.std.proofs.Common.{List, [], ◌∷◌, ◌++◌, length, set, get_or, map, Option, Some, None, refl, sym, ◌∙◌, ap, subst, arith, inl, inr}
 use Rattle.std.specs.Prelude.{◌==◌}
 use Rattle.std.specs.Ordering.{is_eq}
 use Rattle.std.specs.BTreeMap.{BTreeMap, get}
@@ -19,7 +20,8 @@ use Rattle.bt_utp.specs.Ids.{AreIds}
 use Rattle.std.proofs.lemmas.Option.{slice_get-get_or}
 use Rattle.bt_utp.specs.States.{Takes, IsFlow, AreFlows, place, order, AreCounted, IsPlace}
 use Rattle.bt_utp.proofs.Ends.{ends_laws, id_laws, same_is, same_symm, same_self, key_test, address_symm, id_ends, from_ends, back_ends, neither_way}
-use Rattle.bt_utp.proofs.Firsts.{kept_more, kept_same, known, fresh, any_first, distinct, all_kept, room_left, ids_with, ids_without, same_ids, no_ids, at_most, length_push, length_ids}
+use Rattle.bt_utp.proofs.Firsts.{kept_more, kept_same, known, fresh, any_first, distinct, all_kept, room_left}
+use Rattle.bt_utp.proofs.Firsts.{ids_with, ids_without, same_ids, no_ids, at_most, length_push, length_ids}
 
 -- ---- places
 
@@ -62,7 +64,8 @@ none_passes p (x ∷ fs) h = elim (cases_Bool (p x)) [
   | inr f ↦ rw f (ap (option_map (λ k. k + 1)) (none_passes p fs (rw f at h)))
 ]
 
-later_or : (o : Option ℕ) (b : Bool) (n : ℕ) → option_map (λ k. k + 1) (option_or o (if b then Some n else None)) ≡ option_or (option_map (λ k. k + 1) o) (if b then Some (suc n) else None)
+later_or : (o : Option ℕ) (b : Bool) (n : ℕ)
+    → option_map (λ k. k + 1) (option_or o (if b then Some n else None)) ≡ option_or (option_map (λ k. k + 1) o) (if b then Some (suc n) else None)
 later_or (Some k) b n = refl
 later_or None true n = ap Some (omega arith)
 later_or None false n = refl
@@ -112,7 +115,10 @@ pub others : (ds : List Utp) (d : Utp) (fs : List Utp) (ws : List Flow) → list
 others ds d [] [] h are = tt
 others ds d [] (w ∷ ws) h are = are
 others ds d (f ∷ fs) [] h are = are
-others ds d (f ∷ fs) (w ∷ ws) h are = (other_flow ds d f w (first (same_ends d f) (list_any (same_ends d) fs) h) are.0, others ds d fs ws (second (same_ends d f) (list_any (same_ends d) fs) h) are.1)
+others ds d (f ∷ fs) (w ∷ ws) h are =
+    let away = first (same_ends d f) (list_any (same_ends d) fs) h in
+    let more = second (same_ends d f) (list_any (same_ends d) fs) h in
+    (other_flow ds d f w away are.0, others ds d fs ws more are.1)
 
 all_apart : (f d : Utp) (fs : List Utp) → same_ends d f ≡ true → AllByRecursion (λ y. same_ends f y ≡ false) fs → list_any (same_ends d) fs ≡ false
 all_apart f d [] h a = refl
@@ -123,7 +129,8 @@ passes_all P [] i f at a = cc
 passes_all P (x ∷ fs) zero f at a = let e : x ≡ f = cc in subst P e a.0
 passes_all P (x ∷ fs) (suc i) f at a = passes_all P fs i f at a.1
 
-pub changed : (ds : List Utp) (d : Utp) (fs : List Utp) (ws : List Flow) (i : ℕ) (f : Utp) (w' : Flow) → IsDistinct same_ends fs → slice_get fs i ≡ Some f → same_ends d f ≡ true
+pub changed : (ds : List Utp) (d : Utp) (fs : List Utp) (ws : List Flow) (i : ℕ) (f : Utp) (w' : Flow)
+    → IsDistinct same_ends fs → slice_get fs i ≡ Some f → same_ends d f ≡ true
     → AreFlows ds fs ws → IsFlow (ds ++ d ∷ []) f w' → AreFlows (ds ++ d ∷ []) fs (set ws i w')
 changed ds d [] ws i f w' apart at h are is = cc
 changed ds d (x ∷ fs) [] i f w' apart at h are is = absurd are
@@ -136,7 +143,8 @@ changed ds d (x ∷ fs) (w ∷ ws) (suc i) f w' apart at h are is =
     let away : same_ends d x ≡ false = ends_laws.congr d f x h ∙ same_symm f x ∙ off in
     (other_flow ds d x w away are.0, changed ds d fs ws i f w' (IsDistinct-tail same_ends x fs apart) at h are.1 is)
 
-pub flow_push : (ds : List Utp) (fs : List Utp) (ws : List Flow) (f : Utp) (w : Flow) → AreFlows ds fs ws → IsFlow ds f w → AreFlows ds (fs ++ f ∷ []) (ws ++ w ∷ [])
+pub flow_push : (ds : List Utp) (fs : List Utp) (ws : List Flow) (f : Utp) (w : Flow)
+    → AreFlows ds fs ws → IsFlow ds f w → AreFlows ds (fs ++ f ∷ []) (ws ++ w ∷ [])
 flow_push ds [] [] f w are is = (is, tt)
 flow_push ds [] (v ∷ ws) f w are is = absurd are
 flow_push ds (x ∷ fs) [] f w are is = absurd are
@@ -148,7 +156,8 @@ as_many ds [] (w ∷ ws) are = absurd are
 as_many ds (f ∷ fs) [] are = absurd are
 as_many ds (f ∷ fs) (w ∷ ws) are = omega (arith, as_many ds fs ws are.1)
 
-pub flow_at : (ds : List Utp) (fs : List Utp) (ws : List Flow) (i : ℕ) (f : Utp) (w : Flow) → AreFlows ds fs ws → slice_get fs i ≡ Some f → slice_get ws i ≡ Some w → IsFlow ds f w
+pub flow_at : (ds : List Utp) (fs : List Utp) (ws : List Flow) (i : ℕ) (f : Utp) (w : Flow)
+    → AreFlows ds fs ws → slice_get fs i ≡ Some f → slice_get ws i ≡ Some w → IsFlow ds f w
 flow_at ds [] ws i f w are at there = cc
 flow_at ds (x ∷ fs) [] i f w are at there = absurd are
 flow_at ds (x ∷ fs) (v ∷ ws) zero f w are at there =
@@ -237,14 +246,17 @@ ids_after ds d f n w w' adds own is takes =
     elim (cases_Bool (has_room (kept ds) d)) [
       | inl t ↦ counted_so (list_any (same_id d) (kept ds)) (nat_lt n 65536) adds n _ (room ∙ t) more
           (ids_taken ds d t ∙ ap (λ k. k + (if list_any (same_id d) (kept ds) then 0 else 1)) (sym is))
-      | inr e ↦ not_counted (list_any (same_id d) (kept ds)) (nat_lt n 65536) adds n (room ∙ e) more ∙ is ∙ ap (λ l. length (firsts same_id l)) (sym (kept_same ds d e))
+      | inr e ↦ not_counted (list_any (same_id d) (kept ds)) (nat_lt n 65536) adds n (room ∙ e) more
+          ∙ is ∙ ap (λ l. length (firsts same_id l)) (sym (kept_same ds d e))
     ]
 
 -- the first ones are as before
 first_ones : (ds : List Utp) (d f : Utp) (i : ℕ) → slice_get (firsts same_ends (kept ds)) i ≡ Some f → same_ends d f ≡ true
     → firsts same_ends (kept (ds ++ d ∷ [])) ≡ firsts same_ends (kept ds)
 first_ones ds d f i at own = elim (cases_Bool (has_room (kept ds) d)) [
-  | inl room ↦ ap (firsts same_ends) (kept_more ds d room) ∙ known same_ends (kept ds) d (any_passes_from_place (same_ends d) (firsts same_ends (kept ds)) i f at own)
+  | inl room ↦
+      let there = any_passes_from_place (same_ends d) (firsts same_ends (kept ds)) i f at own in
+      ap (firsts same_ends) (kept_more ds d room) ∙ known same_ends (kept ds) d there
   | inr full ↦ ap (firsts same_ends) (kept_same ds d full)
 ]
 
@@ -276,7 +288,9 @@ not_room n h = grind (arith, nat_tests, h)
 
 no_room : (ds : List Utp) (d : Utp) → list_any (same_ends d) (kept ds) ≡ false → 65536 ≤ length (firsts same_id (kept ds)) → has_room (kept ds) d ≡ false
 unfolding has_room
-no_room ds d none full = ap (λ t. t || nat_lt (length (firsts same_id (kept ds))) 65536) (none_of_id d (kept ds) none) ∙ not_room (length (firsts same_id (kept ds))) full
+no_room ds d none full =
+    let n : ℕ = length (firsts same_id (kept ds)) in
+    ap (λ t. t || nat_lt n 65536) (none_of_id d (kept ds) none) ∙ not_room n full
 
 -- without room it isn't counted, and nothing is told of it
 pub left_out : (ds : List Utp) (d : Utp) (s : UtpFlows) → AreCounted ds s → list_any (same_ends d) (firsts same_ends (kept ds)) ≡ false → 65536 ≤ s.ids
@@ -319,19 +333,27 @@ placed : (fs : List Utp) (d : Utp) (n : ℕ) (a b : Address) → list_any (same_
     → cond (is_eq (order (d.source, d.target) (a, b))) (Some n) (place (is_from a b) fs) ≡ place (is_from a b) (fs ++ d ∷ [])
 placed fs d n a b none is =
     let test : is_eq (order (d.source, d.target) (a, b)) ≡ is_from a b d =
-    key_test d.source d.target a b ∙ ap (λ t. t && same_address d.target b) (address_symm d.source a) ∙ ap (λ t. same_address a d.source && t) (address_symm d.target b) in
+    key_test d.source d.target a b
+    ∙ ap (λ t. t && same_address d.target b) (address_symm d.source a)
+    ∙ ap (λ t. same_address a d.source && t) (address_symm d.target b) in
     ap (λ t. cond t (Some n) (place (is_from a b) fs)) test
     ∙ elim (cases_Bool (is_from a b d)) [
       | inl t ↦
           let e = and_true (same_address a d.source) (same_address b d.target) t in
-          let missed : place (is_from a b) fs ≡ None = none_passes (is_from a b) fs (none_stricter (same_ends d) (is_from a b) (from_ends a b d (same_is a d.source e.0) (same_is b d.target e.1)) fs none) in
-          rw t (ap Some is ∙ sym (place_push (is_from a b) fs d ∙ ap (λ o. option_or o (if is_from a b d then Some (length fs) else None)) missed ∙ ap (λ t. if t then Some (length fs) else None) t))
-      | inr f ↦ rw f (none_added (place (is_from a b) fs) ∙ sym (place_push (is_from a b) fs d ∙ ap (λ t. option_or (place (is_from a b) fs) (if t then Some (length fs) else None)) f))
+          let ends = from_ends a b d (same_is a d.source e.0) (same_is b d.target e.1) in
+          let missed : place (is_from a b) fs ≡ None = none_passes (is_from a b) fs (none_stricter (same_ends d) (is_from a b) ends fs none) in
+          let pushed = place_push (is_from a b) fs d ∙ ap (λ o. option_or o (if is_from a b d then Some (length fs) else None)) missed in
+          rw t (ap Some is ∙ sym (pushed ∙ ap (λ t. if t then Some (length fs) else None) t))
+      | inr f ↦
+          let pushed = place_push (is_from a b) fs d ∙ ap (λ t. option_or (place (is_from a b) fs) (if t then Some (length fs) else None)) f in
+          rw f (none_added (place (is_from a b) fs) ∙ sym pushed)
     ]
 
-pub begins : (ds : List Utp) (d : Utp) (s s' : UtpFlows) (w : Flow) → AreCounted ds s → list_any (same_ends d) (firsts same_ends (kept ds)) ≡ false → s.ids < 65536
+pub begins : (ds : List Utp) (d : Utp) (s s' : UtpFlows) (w : Flow)
+    → AreCounted ds s → list_any (same_ends d) (firsts same_ends (kept ds)) ≡ false → s.ids < 65536
     → w.source ≡ d.source → w.target ≡ d.target → AreIds (d.id ∷ []) w.ids → w.is_least ≡ false → s'.flows.items ≡ s.flows.items ++ w ∷ []
-    → ((a b : Address) → get order s'.places (a, b) ≡ cond (is_eq (order (d.source, d.target) (a, b))) (Some (length s.flows.items)) (get order s.places (a, b)))
+    → ((a b : Address) → get order s'.places (a, b)
+    ≡ cond (is_eq (order (d.source, d.target) (a, b))) (Some (length s.flows.items)) (get order s.places (a, b)))
     → s'.ids ≡ s.ids + 1 → AreCounted (ds ++ d ∷ []) s'
 begins ds d s s' w are none few source target ids least items places more =
     let fs = firsts same_ends (kept ds) in
@@ -351,12 +373,14 @@ begins ds d s s' w are none few source target ids least items places more =
     }
 
 -- the place of a datagram's flow, whose first one came the other way, or there is none
-pub found_back : (fs : List Utp) (d : Utp) (o : Option ℕ) → list_any (is_from d.source d.target) fs ≡ false → place (is_from d.target d.source) fs ≡ o → IsPlace fs d o
+pub found_back : (fs : List Utp) (d : Utp) (o : Option ℕ)
+    → list_any (is_from d.source d.target) fs ≡ false → place (is_from d.target d.source) fs ≡ o → IsPlace fs d o
 found_back fs d None missed is = neither_way d fs missed (place_missed (is_from d.target d.source) fs is)
 found_back fs d (Some i) missed is = let there = place_found (is_from d.target d.source) fs i is in (there.0, there.1, back_ends d there.0 there.2)
 
 -- a flow that stays as it was
-pub unchanged : (ds fs : List Utp) (ws : List Flow) (i : ℕ) (w w' : Flow) → slice_get ws i ≡ Some w → ((f : Utp) → IsFlow ds f w → IsFlow ds f w') → AreFlows ds fs ws
+pub unchanged : (ds fs : List Utp) (ws : List Flow) (i : ℕ) (w w' : Flow)
+    → slice_get ws i ≡ Some w → ((f : Utp) → IsFlow ds f w → IsFlow ds f w') → AreFlows ds fs ws
     → AreFlows ds fs (set ws i w')
 unchanged ds [] [] i w w' at h are = are
 unchanged ds [] (v ∷ ws) i w w' at h are = absurd are
@@ -386,28 +410,32 @@ past_end (x ∷ xs) (suc i) h = past_end xs i (omega (arith, h))
 pub told_past : (ds : List Utp) (ws : List Flow) (i : ℕ) → AreFlows ds (firsts same_ends (kept ds)) ws → length ws ≤ i → None ≡ slice_get (flows ds) i
 told_past ds ws i are h = past_end (flows ds) i (subst (λ n. n ≤ i) (flows_are ds ws are) h)
 
-flow_is : (ds : List Utp) (f : Utp) (w : Flow) (told : Counted) → IsFlow ds f w
-    → ((ids : List ℕ) → AreIds ids w.ids → told ≡ record { source = w.source; target = w.target; count = min (count_near ids) (2 ^ 64 - 1); is_least = w.is_least }) → told ≡ flow ds f
+-- what is told of a flow, by its state
+abbrev pub Tells : Flow → Counted → Type 0
+Tells w told = (ids : List ℕ) → AreIds ids w.ids
+    → told ≡ record { source = w.source; target = w.target; count = min (count_near ids) (2 ^ 64 - 1); is_least = w.is_least }
+
+flow_is : (ds : List Utp) (f : Utp) (w : Flow) (told : Counted) → IsFlow ds f w → Tells w told → told ≡ flow ds f
 unfolding flow
 flow_is ds f w told is tells = tells (ids_of f (kept ds)) is.ids ∙ rw (is.source, is.target, is.is_least) refl
 
 told_there : (ds fs : List Utp) (ws : List Flow) (i : ℕ) (w : Flow) (told : Counted) → AreFlows ds fs ws → slice_get ws i ≡ Some w
-    → ((ids : List ℕ) → AreIds ids w.ids → told ≡ record { source = w.source; target = w.target; count = min (count_near ids) (2 ^ 64 - 1); is_least = w.is_least })
-    → Some told ≡ slice_get (map (flow ds) fs) i
+    → Tells w told → Some told ≡ slice_get (map (flow ds) fs) i
 told_there ds [] [] i w told are at tells = cc
 told_there ds [] (v ∷ ws) i w told are at tells = absurd are
 told_there ds (f ∷ fs) [] i w told are at tells = absurd are
 told_there ds (f ∷ fs) (v ∷ ws) zero w told are at tells = let e : v ≡ w = cc in ap Some (flow_is ds f w told (subst (IsFlow ds f) e are.0) tells)
 told_there ds (f ∷ fs) (v ∷ ws) (suc i) w told are at tells = told_there ds fs ws i w told are.1 at tells
 
-pub told_at : (ds : List Utp) (ws : List Flow) (i : ℕ) (w : Flow) (told : Counted) → AreFlows ds (firsts same_ends (kept ds)) ws → i < length ws → ((v : Flow) → w ≡ get_or ws i v)
-    → ((ids : List ℕ) → AreIds ids w.ids → told ≡ record { source = w.source; target = w.target; count = min (count_near ids) (2 ^ 64 - 1); is_least = w.is_least })
-    → Some told ≡ slice_get (flows ds) i
+pub told_at : (ds : List Utp) (ws : List Flow) (i : ℕ) (w : Flow) (told : Counted)
+    → AreFlows ds (firsts same_ends (kept ds)) ws → i < length ws → ((v : Flow) → w ≡ get_or ws i v)
+    → Tells w told → Some told ≡ slice_get (flows ds) i
 unfolding flows
 told_at ds ws i w told are h at tells = told_there ds (firsts same_ends (kept ds)) ws i w told are (slice_get-get_or ws i w h ∙ ap Some (sym (at w))) tells
 
 -- the same by what the code reads of the flow, and says of the id
-pub goes_on_at : (ds : List Utp) (d : Utp) (id i : ℕ) (s s' : UtpFlows) (w w' : Flow) (adds : Bool) → d.id ≡ id → AreCounted ds s → IsPlace (firsts same_ends (kept ds)) d (Some i)
+pub goes_on_at : (ds : List Utp) (d : Utp) (id i : ℕ) (s s' : UtpFlows) (w w' : Flow) (adds : Bool)
+    → d.id ≡ id → AreCounted ds s → IsPlace (firsts same_ends (kept ds)) d (Some i)
     → i < length s.flows.items → ((v : Flow) → w ≡ get_or s.flows.items i v)
     → ((ids : List ℕ) → AreIds ids w.ids → Takes ids id (nat_lt s.ids 65536) w w' adds)
     → s'.flows.items ≡ set s.flows.items i w' → s'.places ≡ s.places → s'.ids ≡ (if adds then s.ids + 1 else s.ids) → AreCounted (ds ++ d ∷ []) s'
@@ -416,7 +444,8 @@ goes_on_at ds d id i s s' w w' adds same are there h at takes items places ids =
     let own : slice_get s.flows.items i ≡ Some w = slice_get-get_or s.flows.items i w h ∙ ap Some (sym (at w)) in
     let is = flow_at ds (firsts same_ends (kept ds)) s.flows.items i f w are.flows there.1 own in
     let all = ids_of f (kept ds) in
-    goes_on ds d f i s s' w w' adds are there.1 there.2 own (subst (λ k. Takes all k (nat_lt s.ids 65536) w w' adds) (sym same) (takes all is.ids)) items places ids
+    let took : Takes all d.id (nat_lt s.ids 65536) w w' adds = subst (λ k. Takes all k (nat_lt s.ids 65536) w w' adds) (sym same) (takes all is.ids) in
+    goes_on ds d f i s s' w w' adds are there.1 there.2 own took items places ids
 
 -- out of memory
 pub stays : (ds : List Utp) (i : ℕ) (s s' : UtpFlows) (w w' : Flow) → AreCounted ds s → i < length s.flows.items → ((v : Flow) → w ≡ get_or s.flows.items i v)

@@ -52,7 +52,8 @@ impl UtpFlows {
 
     /// Takes a datagram of a flow that is there.
     fn go_on(&mut self, place: usize, id: u16) -> Result<(), AllocError>
-        ensures ok { OnOk result ((ds : List Datagram) (d : Datagram) → d.id ≡ id → AreCounted ds self.old → IsPlace (firsts same_ends (kept ds)) d (Some place) → AreCounted (ds ++ d ∷ []) self.new) }
+        ensures ok { OnOk result ((ds : List Datagram) (d : Datagram) → d.id ≡ id → AreCounted ds self.old
+            → IsPlace (firsts same_ends (kept ds)) d (Some place) → AreCounted (ds ++ d ∷ []) self.new) }
         ensures err { OnErr result ((ds : List Datagram) → AreCounted ds self.old → AreCounted ds self.new) }
     {
         let has_room = self.ids < LIMIT;
@@ -71,7 +72,8 @@ impl UtpFlows {
 
     /// Begins a flow with its first datagram. Without room nothing is told of it.
     fn begin(&mut self, first: &Utp) -> Result<(), AllocError>
-        ensures ok { OnOk result ((ds : List Datagram) → AreCounted ds self.old → IsPlace (firsts same_ends (kept ds)) first.now None → AreCounted (ds ++ first.now ∷ []) self.new) }
+        ensures ok { OnOk result ((ds : List Datagram) → AreCounted ds self.old
+            → IsPlace (firsts same_ends (kept ds)) first.now None → AreCounted (ds ++ first.now ∷ []) self.new) }
         ensures err { OnErr result ((ds : List Datagram) → AreCounted ds self.old → AreCounted ds self.new) }
     {
         if self.ids >= LIMIT {

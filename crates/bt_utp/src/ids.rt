@@ -1,5 +1,6 @@
 //! The connection ids of the datagrams between two ends.
-ghost use Rattle.std.specs.Prelude.{◌≡◌, ◌++◌, ◌∷◌, [], ◌-◌, ◌^◌, ◌==◌, ℕ, List, Bool, Option, Some, min, OnOk, OnErr, if◌then◌else◌, unwrap_or, false, is_some, ◌||◌};
+ghost use Rattle.std.specs.Prelude.{◌≡◌, ◌++◌, ◌∷◌, [], ◌-◌, ◌^◌, ◌==◌, ◌||◌, ℕ, List, Bool, false, if◌then◌else◌};
+ghost use Rattle.std.specs.Prelude.{Option, Some, is_some, unwrap_or, min, OnOk, OnErr};
 ghost use Rattle.std.specs.List.{list_any};
 ghost use Rattle.std.specs.Option.{option_map};
 ghost use Rattle.std.specs.Ordering.{nat_cmp};
@@ -53,7 +54,8 @@ impl Ids {
     /// Notes that another id came near this one. Returns 1 if it was alone so far.
     fn join(&mut self, id: u16) -> u64
         ensures more { result ≡ (if unwrap_or (get nat_cmp self.old.alone id) false then 1 else 0) }
-        ensures others { (k : ℕ) → get nat_cmp self.new.alone k ≡ (if id == k then option_map (λ _. false) (get nat_cmp self.old.alone k) else get nat_cmp self.old.alone k) }
+        ensures others { (k : ℕ) → get nat_cmp self.new.alone k
+            ≡ (if id == k then option_map (λ _. false) (get nat_cmp self.old.alone k) else get nat_cmp self.old.alone k) }
         ensures count { self.new.count ≡ self.old.count }
     {
         let Some(alone) = self.alone.get_mut(&id) else {
@@ -66,7 +68,8 @@ impl Ids {
 
     /// Tells whether one of three ids came.
     fn has_near(&self, id: u16, next: u16, last: u16) -> bool
-        ensures { result ≡ (is_some (get nat_cmp self.now.alone id) || (is_some (get nat_cmp self.now.alone next) || is_some (get nat_cmp self.now.alone last))) }
+        ensures { result ≡ (is_some (get nat_cmp self.now.alone id)
+            || (is_some (get nat_cmp self.now.alone next) || is_some (get nat_cmp self.now.alone last))) }
     {
         self.alone.contains_key(&id)
             || self.alone.contains_key(&next)

@@ -3,18 +3,22 @@ use Rattle.bt_capture.specs.FlowTexts.{datagrams}
 use Rattle.bt_capture.proofs.Outcomes.{told_fault, told_unread, not_added}
 use Rattle.bt_capture.proofs.run.end_unread.Goals as goal
 
-pub returns-in-Ok-write_utp : goal.returns-in-Ok-write_utp
-returns-in-Ok-write_utp g c o left r i =
+pub returns-in-Ok-write_utp-clause-told : goal.returns-in-Ok-write_utp-clause-told
+returns-in-Ok-write_utp-clause-told g c o left r i =
     let told = c.in-Ok.ensures.after o left r i in
-    told_unread c.args.fault o left (g.W.Target.seen c.finish.new.writer) (g.W.Target.seen c.write_utp.new.writer) c.finish.new.run r c.requires c.in-Ok.ensures.empty told
-    (c.in-Ok-write_utp.ensures (datagrams told.packets) told.utp).0
+    let before = g.W.Target.seen c.finish.new.writer in
+    let now = g.W.Target.seen c.write_utp.new.writer in
+    told_unread c.args.fault o left before now c.finish.new.run r c.requires c.in-Ok.ensures.empty told
+    (c.in-Ok-write_utp.ensures.added (datagrams told.packets) told.utp).0
 
-pub returns-in-Err-write_utp : goal.returns-in-Err-write_utp
-returns-in-Err-write_utp g c o left r i =
+pub returns-in-Err-write_utp-clause-told : goal.returns-in-Err-write_utp-clause-told
+returns-in-Err-write_utp-clause-told g c o left r i =
     let told = c.in-Ok.ensures.after o left r i in
-    not_added (Unit {0}) c.in-Err-write_utp.other o left (g.W.Target.seen c.finish.new.writer) (g.W.Target.seen c.write_utp.new.writer) c.finish.new.run r c.in-Ok.ensures.empty told
-    (c.in-Err-write_utp.ensures (datagrams told.packets) told.utp)
+    let before = g.W.Target.seen c.finish.new.writer in
+    let now = g.W.Target.seen c.write_utp.new.writer in
+    not_added (Unit {0}) c.in-Err-write_utp.other o left before now c.finish.new.run r c.in-Ok.ensures.empty told
+    (c.in-Err-write_utp.ensures.added (datagrams told.packets) told.utp)
 
-pub returns-in-Err : goal.returns-in-Err
-returns-in-Err g c o left r i =
+pub returns-in-Err-clause-told : goal.returns-in-Err-clause-told
+returns-in-Err-clause-told g c o left r i =
     told_fault c.in-Err.other o left (g.W.Target.seen c.finish.new.writer) [] c.finish.new.run r c.in-Err.ensures.fault (c.in-Err.ensures.after o left r i)

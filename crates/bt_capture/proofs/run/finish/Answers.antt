@@ -24,7 +24,8 @@ loop-connection-preserved g c =
       apart = apart_rest e rest apart;
       told = λ o left r i.
           let P : List (Pair × Held) → Type 0 = λ l. IsTelling o left now l c.loop-connection.run r in
-          c.in-Ok-tell_last.ensures.after o left e.0 rest r (apart_first e rest apart) (subst P c.in-Some.ensures.steps.0 (c.loop-connection.invariant.told o left r i));
+          c.in-Ok-tell_last.ensures.after o left e.0 rest r (apart_first e rest apart)
+          (subst P c.in-Some.ensures.steps.0 (c.loop-connection.invariant.told o left r i));
     }
 
 pub returns-in_default-clause-after : goal.returns-in_default-clause-after
@@ -39,7 +40,8 @@ returns-in-Err-clause-after g c o left r i =
     let apart : IsApart (e ∷ rest) = subst (λ (l : List (Pair × Held)). IsApart l) c.in-Some.ensures.steps.0 c.loop-connection.invariant.apart in
     let P : List (Pair × Held) → Type 0 = λ l. IsTelling o left now l c.loop-connection.run r in
     let Q : List (Pair × Held) → Type 0 = λ l. IsTelling o left (g.W.Target.seen c.args.writer.now) l c.rest.new.self r in
-    let told = told_rest o left (g.W.Target.seen c.args.writer.now) c.args.run.now c.rest.new.self c.in-Ok.rest.items r c.in-Ok.ensures.all c.in-Ok.ensures.apart c.in-Ok.ensures.same i in
+    let told = told_rest o left (g.W.Target.seen c.args.writer.now) c.args.run.now c.rest.new.self c.in-Ok.rest.items r
+    c.in-Ok.ensures.all c.in-Ok.ensures.same i in
     let given = subst Q (sym c.into_iter-connection-iterator.ensures.into_iter_gives.0) told in
     fault_any _ o left (g.W.Target.seen c.tell_last.new.writer) rest [] c.tell_last.new.run r c.in-Err.ensures.fault
     (c.in-Err.ensures.after o left e.0 rest r (apart_first e rest apart) (subst P c.in-Some.ensures.steps.0 (c.loop-connection.invariant.told o left r given)))
@@ -47,7 +49,8 @@ returns-in-Err-clause-after g c o left r i =
 pub returns-clause-after : goal.returns-clause-after
 returns-clause-after g c o left r i =
     let Q : List (Pair × Held) → Type 0 = λ l. IsTelling o left (g.W.Target.seen c.args.writer.now) l c.rest.new.self r in
-    let told = told_rest o left (g.W.Target.seen c.args.writer.now) c.args.run.now c.rest.new.self c.in-Ok.rest.items r c.in-Ok.ensures.all c.in-Ok.ensures.apart c.in-Ok.ensures.same i in
+    let told = told_rest o left (g.W.Target.seen c.args.writer.now) c.args.run.now c.rest.new.self c.in-Ok.rest.items r
+    c.in-Ok.ensures.all c.in-Ok.ensures.same i in
     let given = subst Q (sym c.into_iter-connection-iterator.ensures.into_iter_gives.0) told in
     let P : List (Pair × Held) → Type 0 = λ l. IsTelling o left (g.W.Target.seen c.loop-connection.writer) l c.loop-connection.run r in
     let rest = c.loop-connection.connection-iterator in

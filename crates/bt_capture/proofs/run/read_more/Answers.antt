@@ -5,29 +5,37 @@ use Rattle.bt_capture.specs.declared.pair.Pair.{Pair}
 use Rattle.bt_capture.proofs.Outcomes.{read_bytes, read_kept, told_read, partly}
 use Rattle.bt_capture.proofs.run.read_more.Goals as goal
 
-pub returns-in-Ok-read : goal.returns-in-Ok-read
-returns-in-Ok-read g c = record {
-  after = λ o i.
-      let before = (g.R.Source.seen c.args.reader.now).left in
-      let left = (g.R.Source.seen c.read.new.reader).left in
-      let now = g.W.Target.seen c.write.new.writer in
-      let run = c.write.new.run in
-      let r = c.args.packets.now in
-      let P : List (Pair × Held) → Type 0 = λ l. IsTelling o before now l run r in
-      let e = c.in-Ok-read.ensures.read in
-      told_read o before left now run.table run r c.read.new.self (λ packets h. read_bytes o before left packets r c.read.new.self e.0 e.3 e.4 h)
-      (subst P (sym c.write.ensures.table) (c.in-Ok.ensures.after o before c.args.run.now.table r i));
-}
+pub returns-in-Ok-read-clause-after : goal.returns-in-Ok-read-clause-after
+returns-in-Ok-read-clause-after g c o i =
+    let before = (g.R.Source.seen c.args.reader.now).left in
+    let left = (g.R.Source.seen c.read.new.reader).left in
+    let now = g.W.Target.seen c.write.new.writer in
+    let run = c.write.new.run in
+    let r = c.args.packets.now in
+    let P : List (Pair × Held) → Type 0 = λ l. IsTelling o before now l run r in
+    let e = c.in-Ok-read.ensures.read in
+    told_read o before left now run.table run r c.read.new.self (λ packets h. read_bytes o before left packets r c.read.new.self e.0 e.3 e.4 h)
+    (subst P (sym c.write.ensures.table) (c.in-Ok.ensures.after o before c.args.run.now.table r i))
 
-pub returns-in-Err-Memory : goal.returns-in-Err-Memory
-returns-in-Err-Memory g c = record {
-  after = λ o i.
-      let before = (g.R.Source.seen c.args.reader.now).left in
-      let left = (g.R.Source.seen c.read.new.reader).left in
-      let now = g.W.Target.seen c.write.new.writer in
-      let run = c.write.new.run in
-      let r = c.args.packets.now in
-      let e = c.in-Err-Memory.ensures.err in
-      partly o left now c.args.run.now.table run c.read.new.self (told_read o before left now c.args.run.now.table run r c.read.new.self
-      (λ packets h. read_kept o before left packets r c.read.new.self e.0 e.1 h) (c.in-Ok.ensures.after o before c.args.run.now.table r i));
-}
+pub returns-in-Ok-eq0-clause-after : goal.returns-in-Ok-eq0-clause-after
+returns-in-Ok-eq0-clause-after g c o i =
+    let before = (g.R.Source.seen c.args.reader.now).left in
+    let left = (g.R.Source.seen c.read.new.reader).left in
+    let now = g.W.Target.seen c.write.new.writer in
+    let run = c.write.new.run in
+    let r = c.args.packets.now in
+    let P : List (Pair × Held) → Type 0 = λ l. IsTelling o before now l run r in
+    let e = c.in-Ok-eq0.ensures.read in
+    told_read o before left now run.table run r c.read.new.self (λ packets h. read_bytes o before left packets r c.read.new.self e.0 e.3 e.4 h)
+    (subst P (sym c.write.ensures.table) (c.in-Ok.ensures.after o before c.args.run.now.table r i))
+
+pub returns-in-Err-Memory-clause-after : goal.returns-in-Err-Memory-clause-after
+returns-in-Err-Memory-clause-after g c o i =
+    let before = (g.R.Source.seen c.args.reader.now).left in
+    let left = (g.R.Source.seen c.read.new.reader).left in
+    let now = g.W.Target.seen c.write.new.writer in
+    let run = c.write.new.run in
+    let r = c.args.packets.now in
+    let e = c.in-Err-Memory.ensures.err in
+    partly o left now c.args.run.now.table run c.read.new.self (told_read o before left now c.args.run.now.table run r c.read.new.self
+    (λ packets h. read_kept o before left packets r c.read.new.self e.0 e.1 h) (c.in-Ok.ensures.after o before c.args.run.now.table r i))

@@ -6,10 +6,12 @@ use Rattle.bt_capture.proofs.run.step.Goals as goal
 pub returns-in-Err-take-clause-after : goal.returns-in-Err-take-clause-after
 returns-in-Err-take-clause-after c o left now i =
     let p = captured c.in-Ok-Some.packet in
-    let number = next_number i.packets i.read.all c.args.packets.now c.packets.result c.saturating_add-number.result i.read.reading c.packets.ensures c.saturating_add-number.ensures in
+    let number = next_number i.packets i.read.all c.args.packets.now c.packets.result c.saturating_add-number.result i.read.reading c.packets.ensures
+    c.saturating_add-number.ensures in
     let goes = hands_some c.args.packets.now _ c.take.result c.in-Ok-Some.packet (search rules) c.take.follows.holds-at-none.0 in
     given_up o left now (i.packets ++ p ∷ []) c.take-in-Ok-Some.new.self _ (read_packet o left i.packets (p ∷ []) c.args.packets.now _ goes i.read)
-    (c.take-in-Ok-Some.ensures.terms ∙ i.terms) (c.take-in-Ok-Some.ensures.form ∙ i.form) (c.take-in-Ok-Some.ensures.start i.packets i.time) (c.in-Err-take.ensures.goes o.target now i.packets number i.time i.follows)
+    (c.take-in-Ok-Some.ensures.terms ∙ i.terms) (c.take-in-Ok-Some.ensures.form ∙ i.form) (c.take-in-Ok-Some.ensures.start i.packets i.time)
+    (c.in-Err-take.ensures.goes o.target now i.packets number i.time i.follows)
 
 pub returns-in-Ok-None-clause-after : goal.returns-in-Ok-None-clause-after
 returns-in-Ok-None-clause-after c o left now i =

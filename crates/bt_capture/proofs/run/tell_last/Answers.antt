@@ -21,5 +21,5 @@ returns-in-Ok-clause-after g c o left p es r absent i =
 pub returns-in-Err-clause-after : goal.returns-in-Err-clause-after
 returns-in-Err-clause-after g c o left p es r absent i =
     let now = g.W.Target.seen c.args.writer.now in
-    given_up o left now i.packets c.report.new.self r i.read (c.in-Err.ensures.terms ∙ i.terms) (c.in-Err.ensures.form ∙ i.form) (c.in-Err.ensures.start ∙ i.time)
-    (c.in-Err.ensures.goes o.target now (arrivals i.packets) p es absent i.follows)
+    given_up o left now i.packets c.report.new.self r i.read (c.in-Err.ensures.terms ∙ i.terms) (c.in-Err.ensures.form ∙ i.form)
+    (c.in-Err.ensures.start ∙ i.time) (c.in-Err.ensures.goes o.target now (arrivals i.packets) p es absent i.follows)

@@ -14,6 +14,7 @@ fed_bytes f g bytes e =
       comes = λ later v q.
           let Q : List ℕ → Type 0 = λ b. Comes f.stage b v in
           subst Q (append_assoc f.held bytes later) q;
+      spells = (refl, refl);
     })
 
 none_read : (f g : FeedState) (bytes : List ℕ) → g ≡ with_bytes f bytes → bytes ≡ [] → g ≡ f

@@ -6,8 +6,8 @@ use Rattle.bt_packet.proofs.ip.ipv4.Goals as goal
 
 pub returns-then-is_fragment : goal.returns-then-is_fragment
 returns-then-is_fragment c =
-    ipv4_fragment c.args.packet.now _ c.in_ok-source.source.now c.in_ok-source.rest.now c.in_ok-target.target.now c.in_ok-target.rest.now c.args.wire c.from_be_bytes.result
-    (record {
+    ipv4_fragment c.args.packet.now _ c.in_ok-source.source.now c.in_ok-source.rest.now c.in_ok-target.target.now c.in_ok-target.rest.now
+    c.args.wire c.from_be_bytes.result (record {
       enough = c.in-len12-up.len_at_least;
       rest_is = refl;
       source_is = c.in_ok-source.ensures.cases.0;
@@ -22,8 +22,8 @@ pub returns-in_err-payload : goal.returns-in_err-payload
 returns-in_err-payload c =
     ap (option_map contents) c.from_residual-in_err-payload.ensures
     ∙ ap (option_map (ipv4_carried _ (V4 c.in_ok-source.source.now) (V4 c.in_ok-target.target.now) _)) c.in_err-payload.ensures.payload
-    ∙ sym (ipv4_kept c.args.packet.now _ c.in_ok-source.source.now c.in_ok-source.rest.now c.in_ok-target.target.now c.in_ok-target.rest.now c.args.wire c.from_be_bytes.result
-    c.from_be_bytes-2.result c.total-total.result _ (record {
+    ∙ sym (ipv4_kept c.args.packet.now _ c.in_ok-source.source.now c.in_ok-source.rest.now c.in_ok-target.target.now c.in_ok-target.rest.now
+    c.args.wire c.from_be_bytes.result c.from_be_bytes-2.result c.total-total.result _ (record {
       enough = c.in-len12-up.len_at_least;
       rest_is = refl;
       source_is = c.in_ok-source.ensures.cases.0;
@@ -38,8 +38,8 @@ returns-in_err-payload c =
 pub returns : goal.returns
 returns c =
     ap (option_map (ipv4_carried _ (V4 c.in_ok-source.source.now) (V4 c.in_ok-target.target.now) _)) c.in_ok-payload.ensures.payload
-    ∙ sym (ipv4_kept c.args.packet.now _ c.in_ok-source.source.now c.in_ok-source.rest.now c.in_ok-target.target.now c.in_ok-target.rest.now c.args.wire c.from_be_bytes.result
-    c.from_be_bytes-2.result c.total-total.result _ (record {
+    ∙ sym (ipv4_kept c.args.packet.now _ c.in_ok-source.source.now c.in_ok-source.rest.now c.in_ok-target.target.now c.in_ok-target.rest.now
+    c.args.wire c.from_be_bytes.result c.from_be_bytes-2.result c.total-total.result _ (record {
       enough = c.in-len12-up.len_at_least;
       rest_is = refl;
       source_is = c.in_ok-source.ensures.cases.0;

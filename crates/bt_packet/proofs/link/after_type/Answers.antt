@@ -7,4 +7,6 @@ loop-bytes-smaller c = shorter c.loop-bytes.bytes.now 4 (omega arith) c.in-len4-
 
 pub loop-bytes-preserved : goal.loop-bytes-preserved
 loop-bytes-preserved c =
-    c.loop-bytes.invariant ∙ after_tag c.loop-bytes.kind c.loop-bytes.bytes.now c.from_be_bytes-kind.result (sym c.is_tag.ensures ∙ c.loop-bytes-test.true) c.in-len4-up.len_at_least c.from_be_bytes-kind.ensures
+    let tag = sym c.is_tag.ensures ∙ c.loop-bytes-test.true in
+    c.loop-bytes.invariant
+    ∙ after_tag c.loop-bytes.kind c.loop-bytes.bytes.now c.from_be_bytes-kind.result tag c.in-len4-up.len_at_least c.from_be_bytes-kind.ensures

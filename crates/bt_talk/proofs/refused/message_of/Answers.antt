@@ -6,9 +6,8 @@ use Rattle.bt_talk.proofs.Refusals.{message_is}
 use Rattle.bt_talk.proofs.refused.message_of.Goals as goal
 
 pub returns-in-Refused : goal.returns-in-Refused
-returns-in-Refused c = λ own b xs j t.
-    let limit = j.limit in
+returns-in-Refused c = λ own b xs refused limit u t.
     let told = subst (λ (e : Ended). IsTold own b xs e) c.in-Refused.is t in
     subst (λ (e : Ended). IsMessageOf own b e (Some c.of.result)) (sym c.in-Refused.is)
-    (message_is own b xs c.args.reading.now.refused c.unread-unread.result.start c.unread-unread.result.bytes.now c.in-Refused.refusal c.of.result (omega (arith, limit))
-    (c.unread-unread.ensures own b xs j) told c.of.ensures)
+    (message_is own b xs refused c.args.unread.now.start c.args.unread.now.bytes.now c.in-Refused.refusal c.of.result (omega (arith, limit)) u told
+    c.of.ensures)

@@ -1,6 +1,7 @@
-use Rattle.std.proofs.Common.{◌∙◌, ℕ, List, [], append-nil, refl, sym, ap, subst}
+use Rattle.std.proofs.Common.{◌∙◌, ℕ, Bool, List, [], append-nil, refl, sym, ap, subst}
 use Rattle.bt_flow.specs.declared.flow.Given.{Given}
 use Rattle.bt_talk.specs.Pasts.{Adds, given_of}
+use Rattle.bt_talk.specs.Sent.{IsReady, is_wanted}
 use Rattle.bt_talk.proofs.Stages.{beside}
 use Rattle.bt_talk.proofs.Sent.{ready_none}
 use Rattle.bt_talk.proofs.Talks.{acked_reset, sent_reset, sent_by, front_kept}
@@ -24,7 +25,7 @@ returns-then-segment-clause-taken c = λ terms p q d e same. (
     subst (λ (l : List (ℕ × Item)). AreItemsIn c.args.from.now.stage p l) (sym (append-nil xs)) i,
     shown_nowhere c.args.side c.args.watch.now,
   ),
-  λ e. ready_none (is_opening c.args.from.now.stage) p p c.args.room.now.out.items refl e,
+  λ e. ready_none (is_opening c.args.from.now.stage) (is_wanted c.args.side c.args.room.now.wanted) p p c.args.room.now.out.items refl e,
 )
 
 pub returns-clause-taken : goal.returns-clause-taken
@@ -33,7 +34,7 @@ returns-clause-taken c = λ terms p q d e same.
     let h = c.hear.ensures.heard terms q p c.if-segment.false e in
     let t = c.in_ok-take.ensures.taken terms p q d in
     let adds : Adds (given_of c.args.segment.now) (is_opening from.stage) p from.flow t.0 c.take.new.self.flow =
-    subst (λ (g : Given). Adds g (is_opening from.stage) p from.flow t.0 c.take.new.self.flow) c.given_of.ensures t.2 in (
+    subst (λ (g : Given). Adds g (is_opening from.stage) p from.flow t.0 c.take.new.self.flow) c.given_of-given.ensures t.2 in (
       record {
         p' = t.0;
         q' = h.0;
@@ -47,5 +48,5 @@ returns-clause-taken c = λ terms p q d e same.
       λ xs i.
           let m = t.3 xs i in
           (m.0, m.1, shown_by c.args.side _ m.0 c.args.watch.now c.turn_to.new.self c.take.new.watch c.turn_to.ensures m.2),
-      t.4,
+      λ e. subst (λ (w : Bool). IsReady (is_opening from.stage) w p t.0 c.take.new.out.items) c.wants-is_wanted.ensures (t.4 e),
     )

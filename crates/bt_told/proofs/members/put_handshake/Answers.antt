@@ -4,7 +4,8 @@ use Rattle.bt_told.proofs.members.put_handshake.Goals as goal
 pub returns-clause-text : goal.returns-clause-text
 returns-clause-text c =
     rw (
-      c.put_word.ensures.text,
+      c.put_peer_text.ensures.text,
+      c.put_word-at-4.ensures.text,
       c.put_hex-at-3.ensures.text,
       c.put_word-at-3.ensures.text,
       c.put_hex-at-2.ensures.text,

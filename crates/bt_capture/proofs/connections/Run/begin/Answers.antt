@@ -1,4 +1,5 @@
-use Rattle.std.proofs.Common.{rules, ◌≡◌, refl, sym, subst, [], ◌∷◌}
+use Rattle.std.proofs.Common.{rules, ◌≡◌, ◌∙◌, refl, ap, sym, subst, [], ◌∷◌}
+use Rattle.bt_remarks.specs.declared.events.Side.{Side}
 use Rattle.bt_capture.specs.Arrivals.{arrived}
 use Rattle.bt_capture.specs.Connections.{IsOpen}
 use Rattle.bt_capture.specs.declared.connection.Connection.{Connection}
@@ -11,8 +12,10 @@ returns-in-Ok-clause-finds c start now came when p es absent i =
     let x = arrived c.args.segment.now when in
     let Q : Connection → Type 0 = λ k. IsOpen c.args.self.now.terms [] (x ∷ []) k in
     let same : c.in-Ok.connection.value ≡ c.new-connection.result = search rules in
+    let R : Connection → Type 0 = λ k. (side : Side) → HasSent side [] c.args.self.now.terms [] (x ∷ []) k in
     begun start now came x p c.in-Ok.connection es c.args.self.now _ absent refl refl refl refl c.saturating_add-self.ensures
-    (subst Q (sym same) (c.new-connection.ensures.open when)) i
+    (subst Q (sym same) (c.new-connection.ensures.open when)) (ap (λ (k : Connection). k.number) same ∙ c.new-connection.ensures.number)
+    (subst R (sym same) (λ side. c.new-connection.ensures.sent when side)) i
 
 pub returns-in-Ok-clause-sent : goal.returns-in-Ok-clause-sent
 returns-in-Ok-clause-sent c = λ when side.
@@ -21,4 +24,5 @@ returns-in-Ok-clause-sent c = λ when side.
     subst Q (sym same) (c.new-connection.ensures.sent when side)
 
 pub returns-clause-finds : goal.returns-clause-finds
-returns-clause-finds c start now came when p es absent i = stops_same start now came c.args.self.now _ refl refl refl refl (stops_of start now came es c.args.self.now i)
+returns-clause-finds c start now came when p es absent i =
+    stops_same start now came c.args.self.now _ refl refl refl refl (stops_of start now came es c.args.self.now i)

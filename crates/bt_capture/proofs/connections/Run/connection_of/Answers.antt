@@ -19,7 +19,8 @@ returns-in-Some-clause-finds c start now came i =
     subst (λ l. lookup (same_pair p) l ≡ None) (sym c.in-Some.ensures.rest) (lookup_gone p es c.in-Some.ensures.apart) in
     let out = follows_out start now came p c.in-Some.connection es left c.args.self.now (sym c.in-Some.ensures.found) c.in-Some.ensures.rest i in
     subst (λ l. Finds start now came (arrived c.args.segment.now c.args.when) p l c.goes_on.new.self c.goes_on.result) (sym c.goes_on.ensures.table)
-    (c.goes_on.ensures.finds start now came p left absent (follows_same start now came ((p, c.in-Some.connection) ∷ left) c.args.self.now _ refl refl refl refl refl out))
+    (c.goes_on.ensures.finds start now came p left absent
+    (follows_same start now came ((p, c.in-Some.connection) ∷ left) c.args.self.now _ refl refl refl refl refl out))
 
 pub returns-in-Some-clause-absent : goal.returns-in-Some-clause-absent
 returns-in-Some-clause-absent c =
@@ -49,10 +50,13 @@ pub returns-in-Some-clause-bounded : goal.returns-in-Some-clause-bounded
 returns-in-Some-clause-bounded c i =
     let old = c.args.self.now in
     taken_out (same_pair c.args.pair) c.in-Some.connection c.take_out.new.self old c.goes_on.new.self c.in-Some.ensures.found c.in-Some.ensures.rest
-    c.goes_on.ensures.table (c.goes_on.ensures.bytes ∙ c.saturating_sub-self.ensures ∙ ap (λ n. old.bytes - n) (c.size.ensures.size ∙ ap (λ (k : Connection). k.size) c.deref.ensures)) i
+    c.goes_on.ensures.table
+    (c.goes_on.ensures.bytes ∙ c.saturating_sub-self.ensures
+    ∙ ap (λ n. old.bytes - n) (c.size.ensures.size ∙ ap (λ (k : Connection). k.size) c.deref.ensures)) i
 
 pub returns-in-None-clause-bounded : goal.returns-in-None-clause-bounded
 returns-in-None-clause-bounded c i =
     let p = c.args.pair in
     let es : List (Pair × Held) = c.args.self.now.table in
-    bounded_same c.args.self.now c.begin.new.self (c.begin.ensures.table ∙ c.in-None.ensures.rest ∙ lookup_kept p es (sym c.in-None.ensures.found)) c.begin.ensures.bytes i
+    bounded_same c.args.self.now c.begin.new.self
+    (c.begin.ensures.table ∙ c.in-None.ensures.rest ∙ lookup_kept p es (sym c.in-None.ensures.found)) c.begin.ensures.bytes i

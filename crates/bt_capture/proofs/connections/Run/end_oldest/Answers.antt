@@ -1,11 +1,11 @@
 use Rattle.std.proofs.Common.{rules, ◌≡◌, refl, sym, subst, List, [], ◌∷◌, ◌++◌, ◌∙◌, ◌+◌, ap, arith, length}
 use Rattle.std.proofs.lemmas.List.{length-append}
 use Rattle.std.specs.List.Sorted.{IsPermutation}
-use Rattle.std.proofs.lemmas.List.Sorted.{IsPermutation-append_comm, length_permutation}
+use Rattle.std.proofs.lemmas.List.Sorted.{IsPermutation-append_comm}
 use Rattle.bt_capture.specs.Following.{Follows, Goes}
 use Rattle.bt_capture.specs.Tables.{Held, IsApart}
 use Rattle.bt_capture.specs.declared.pair.Pair.{Pair}
-use Rattle.bt_capture.proofs.Entries.{lookup_moved, apart_moved, apart_first}
+use Rattle.bt_capture.proofs.Entries.{apart_moved, apart_first}
 use Rattle.bt_capture.proofs.Reported.{follows_same, follows_moved}
 use Rattle.bt_capture.proofs.connections.Run.end_oldest.Goals as goal
 
@@ -18,8 +18,7 @@ returns-in-Some-clause-goes c start now came i =
     let apart : IsApart (left ++ e ∷ []) = subst (λ l. IsApart l) is c.take_oldest.ensures.apart in
     let move : IsPermutation (left ++ e ∷ []) (e ∷ left) = IsPermutation-append_comm left (e ∷ []) in
     let absent = apart_first e left (apart_moved (left ++ e ∷ []) (e ∷ left) move apart) in
-    let same = follows_moved start now came (left ++ e ∷ []) (e ∷ left) c.args.self.now (lookup_moved (left ++ e ∷ []) (e ∷ left) move apart)
-    (length_permutation (left ++ e ∷ []) (e ∷ left) move) (subst (λ l. Follows start now came l c.args.self.now) is i) in
+    let same = follows_moved start now came (left ++ e ∷ []) (e ∷ left) c.args.self.now move (subst (λ l. Follows start now came l c.args.self.now) is i) in
     subst (λ l. Goes start now came l c.report.new.self c.report.result) (sym c.report.ensures.table)
     (c.report.ensures.goes start now came e.0 left absent (follows_same start now came (e ∷ left) c.args.self.now _ refl refl refl refl refl same))
 

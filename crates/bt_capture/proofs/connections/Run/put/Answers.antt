@@ -1,11 +1,9 @@
 use Rattle.std.proofs.Common.{◌≡◌, ◌∙◌, ◌+◌, ◌-◌, ◌^◌, ◌<◌, min, refl, ap, subst, List, ◌∷◌}
-use Rattle.std.proofs.lemmas.List.Sorted.{length_permutation}
 use Rattle.bt_capture.specs.Tables.{Held}
 use Rattle.bt_capture.specs.declared.connection.Connection.{Connection}
 use Rattle.bt_capture.specs.declared.pair.Pair.{Pair}
 use Rattle.bt_capture.proofs.Bounds.{one_more}
 use Rattle.bt_capture.proofs.Parts.{on_ok}
-use Rattle.bt_capture.proofs.Entries.{lookup_moved, apart_put}
 use Rattle.bt_capture.proofs.Reported.{follows_same, follows_moved, stops_of}
 use Rattle.bt_capture.proofs.connections.Run.put.Goals as goal
 
@@ -15,9 +13,7 @@ returns-in-Ok-clause-goes c start now came i =
     let es : List (Pair × Held) = c.args.self.now.table in
     c.shrink.ensures.goes start now came
     (follows_same start now came c.put.new.self c.args.self.now _ refl refl refl refl refl
-    (follows_moved start now came (e ∷ es) c.put.new.self c.args.self.now
-    (lookup_moved (e ∷ es) c.put.new.self c.in-Ok.ensures.put (apart_put e es c.requires c.in-Ok.ensures.apart))
-    (length_permutation (e ∷ es) c.put.new.self c.in-Ok.ensures.put) i))
+    (follows_moved start now came (e ∷ es) c.put.new.self c.args.self.now c.in-Ok.ensures.put i))
 
 pub returns-in-Err-clause-goes : goal.returns-in-Err-clause-goes
 returns-in-Err-clause-goes c start now came i =

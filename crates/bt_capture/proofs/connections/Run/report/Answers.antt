@@ -1,4 +1,5 @@
-use Rattle.std.proofs.Common.{rules, ◌≡◌, ◌∙◌, ℕ, List, [], ◌++◌, append-nil, Bool, Option, Some, None, is_some, inl, inr, refl, sym, ap, subst, true, false, OnOk}
+use Rattle.std.proofs.Common.{rules, ◌≡◌, ◌∙◌, ℕ, List, [], ◌++◌, append-nil, Bool, Option, Some, is_some, unwrap_or, inl, inr, refl}
+use Rattle.std.proofs.Common.{sym, ap, subst, true, false, OnOk}
 use Rattle.bt_talk.specs.declared.rows.Heading.{Heading}
 use Rattle.bt_talk.specs.declared.rows.Showing.{Showing}
 use Rattle.bt_talk.specs.Pasts.{Past}
@@ -15,7 +16,8 @@ use Rattle.bt_capture.proofs.InOrder.{wants_stream}
 use Rattle.bt_capture.proofs.Parts.{on_ok}
 use Rattle.bt_capture.proofs.Sending.{handed_all, handed_none}
 use Rattle.bt_capture.proofs.Shown.{has_first}
-use Rattle.bt_capture.proofs.Reported.{silent, lost_one, not_lost, reported, Says}
+use Rattle.bt_capture.specs.Tellings.{Says}
+use Rattle.bt_capture.proofs.Reported.{silent, lost_one, not_lost, reported}
 use Rattle.bt_capture.proofs.connections.Run.report.Goals as goal
 
 pub returns-then-not-deref-clause-goes : goal.returns-then-not-deref-clause-goes
@@ -30,7 +32,13 @@ returns-in-Ok-clause-goes c start now came p es absent i =
     let new : c.deref-in-Ok.result.now.talk ≡ c.end_opening.new.self = search rules in
     let talk = c.end_opening.new.self in
     let Q : Connection → Type 0 = λ x. (a b : Past) → IsTalk a b x.talk → IsEnded a b x.talk talk in
-    let ends : Q c.deref_mut.result.now = λ a b t. record { is = c.in-Ok.ensures.kept a b t; flows = c.in-Ok.ensures.flows; ends = c.in-Ok.ensures.ends; terms = c.in-Ok.ensures.terms; over = c.in-Ok.ensures.over } in
+    let ends : Q c.deref_mut.result.now = λ a b t. record {
+      is = c.in-Ok.ensures.kept a b t;
+      flows = c.in-Ok.ensures.flows;
+      ends = c.in-Ok.ensures.ends;
+      terms = c.in-Ok.ensures.terms;
+      over = c.in-Ok.ensures.over;
+    } in
     let there : is_lost c.deref_mut.result.now.talk ≡ false = not_lost _ _ _ c.in-Ok.ensures.stays in
     let showing = showing_by c.args.self.now.teller.form in
     let P : Type 0 = HasRows showing c.end_opening.new.room in
@@ -39,11 +47,29 @@ returns-in-Ok-clause-goes c start now came p es absent i =
     let rows = c.in-Ok.ensures.rows a b t in
     subst (λ (s : Showing). HasRows s c.end_opening.new.room) (ap (λ (h : Heading). h.showing) c.turn_to.ensures.heading ∙ c.showing.ensures)
     (has_first c.turn_to.new.self c.end_opening.new.room rows.0 c.turn_to.ensures.empty rows.1) in
-    let R : Talk → Type 0 = λ t. OnOk c.report.result (P → Says c.args.self.now.teller c.report.new.self c.deref-in-Ok-2.result.now.number c.unwrap_or-from.result t) in
-    let S : ℕ → Type 0 = λ n. OnOk c.report.result (P → Says c.args.self.now.teller c.report.new.self c.deref-in-Ok-2.result.now.number n talk) in
-    reported c.report.result start now came p c.args.connection es c.args.self.now _ absent some refl refl refl
-    (subst (λ (x : Connection). is_lost x.talk ≡ false) old there) talk (subst Q old ends) c.deref-in-Ok-2.result.now.number P (subst Z old shown)
-    (subst S c.unwrap_or-from.ensures (subst R new c.report.ensures.told)) c.report.ensures.same refl i
+    let form = c.args.self.now.teller.form in
+    let connection = c.args.connection.value in
+    let number = c.deref-in-Ok-2.result.now.number in
+    let room = c.end_opening.new.room in
+    let same : number ≡ connection.number = search rules in
+    let start_is : ℕ = unwrap_or c.args.self.now.start 0 in
+    let R : Talk → Type 0 = λ t. OnOk c.report.result (P → Says c.args.self.now.teller c.report.new.self number c.unwrap_or-from.result t) in
+    let S : ℕ → Type 0 = λ n. OnOk c.report.result (P → Says c.args.self.now.teller c.report.new.self number n talk) in
+    let T : ℕ → Type 0 = λ n. OnOk c.report.result (P → Says c.args.self.now.teller c.report.new.self n start_is talk) in
+    let U : Connection → Type 0 = λ x. (a b : Past) (side : Side) → IsTalk a b x.talk → wanted_in c.turn_to.new.self ≡ Some side
+    → SendsOn (is_in_opening x.talk) (of_side side a b) (is_in_opening talk) (of_side side a b) (sent_in room) in
+    let sends = subst U old c.in-Ok.ensures.sent in
+    let wanted : wanted_in c.turn_to.new.self ≡ wanted_by form connection.number = search rules in
+    reported c.report.result start now came p c.args.connection es c.args.self.now _ absent some refl refl refl c.report.ensures.form refl
+    (subst (λ (x : Connection). is_lost x.talk ≡ false) old there) talk (subst Q old ends) P (subst Z old shown)
+    (subst T same (subst S c.unwrap_or-from.ensures (subst R new c.report.ensures.told))) c.report.ensures.same (handed form number room)
+    c.report.ensures.text c.report.ensures.part (λ w. handed_none form number room (ap (λ n. wanted_by form n) same ∙ w))
+    (λ a b side before t w sent.
+    let all : handed form number room ≡ sent_in room = handed_all form connection.number number room side same w in
+    let V : List ℕ → Type 0 = λ l. IsSent false (of_side side a b) (before ++ l) in
+    let W : Bool → Type 0 = λ o. IsSent o (of_side side a b) (before ++ sent_in room) in
+    subst V (sym all) (subst W c.in-Ok.ensures.over (sends a b side t (wanted ∙ w) before sent)))
+    i
 
 pub returns-clause-goes : goal.returns-clause-goes
 returns-clause-goes c start now came p es absent i =

@@ -27,7 +27,8 @@ returns-clause-all c =
     let all : List (Pair × Held) = c.args.self.now.table in
     let rest : List (Pair × Held) = c.table.rest.items in
     let Q : List (Pair × Held) → Type 0 = λ l. IsPermutation all l in
-    IsPermutation-trans all rest c.sort_by_key.new.self.items (subst Q (ap (λ l. rest ++ l) (search rules) ∙ append-nil rest) c.table.invariant.all) c.in_ok-sort_by_key.ensures.permutation
+    IsPermutation-trans all rest c.sort_by_key.new.self.items (subst Q (ap (λ l. rest ++ l) (search rules) ∙ append-nil rest) c.table.invariant.all)
+    c.in_ok-sort_by_key.ensures.permutation
 
 pub returns-clause-apart : goal.returns-clause-apart
 returns-clause-apart c = apart_moved c.args.self.now.table c.sort_by_key.new.self.items (returns-clause-all c) c.len.ensures.apart

@@ -10,7 +10,8 @@ decreases-oldest l = length l.self.table
 
 abbrev pub invariant-oldest : goal.invariant-oldest
 invariant-oldest l = record {
-  told : (start now : TargetSeen) (came : List Arrival) → Follows start now came l.initial.self.table l.initial.self → Follows start now came l.self.table l.self;
+  told : (start now : TargetSeen) (came : List Arrival) → Follows start now came l.initial.self.table l.initial.self
+      → Follows start now came l.self.table l.self;
   terms : l.self.terms ≡ l.initial.self.terms;
   form : l.self.teller.form ≡ l.initial.self.teller.form;
   start : l.self.start ≡ l.initial.self.start;

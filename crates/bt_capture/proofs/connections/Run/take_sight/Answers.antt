@@ -31,6 +31,6 @@ returns-in-Err-clause-goes c start now came i =
     let new : Run = record c.skip.new.self { utp = c.take.new.self } in
     let P : Sight → Type 0 = λ s. Stops start now (came ++ arrivals_in c.args.when.packet c.args.when.nanos (seen s)) new in
     let Q : List Arrival → Type 0 = λ l. Stops start now l new in
-    let follows = follows_same start now came old.table old new (ap (λ r. r.terms) c.skip.ensures) (ap (λ r. r.start) c.skip.ensures) (ap (λ r. r.lost) c.skip.ensures)
-    (ap (λ r. r.teller) c.skip.ensures) (ap (λ r. r.begun) c.skip.ensures) i in
+    let follows = follows_same start now came old.table old new (ap (λ r. r.terms) c.skip.ensures) (ap (λ r. r.start) c.skip.ensures)
+    (ap (λ r. r.lost) c.skip.ensures) (ap (λ r. r.teller) c.skip.ensures) (ap (λ r. r.begun) c.skip.ensures) i in
     subst P (sym c.in-Utp.is) (subst Q (sym (append-nil came)) (stops_of start now came old.table new follows))

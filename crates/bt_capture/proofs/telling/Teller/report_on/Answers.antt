@@ -3,10 +3,10 @@ use Rattle.bt_told.specs.declared.report.Report.{Report}
 use Rattle.bt_capture.proofs.telling.Teller.report_on.Goals as goal
 
 pub returns-in-Ok-clause-told : goal.returns-in-Ok-clause-told
-returns-in-Ok-clause-told c a b i =
+returns-in-Ok-clause-told c =
     let r : Report = record { number = c.args.number; a = c.ends-ends.result.a; b = c.ends-ends.result.b; body = c.body_of-body.result } in (
       r,
-      record {
+      λ a b i. record {
         number = refl;
         end_a = ap (λ e. e.a) c.ends-ends.ensures;
         end_b = ap (λ e. e.b) c.ends-ends.ensures;

@@ -5,8 +5,9 @@ use Rattle.bt_capture.proofs.InOrder.{told_more}
 use Rattle.bt_capture.proofs.telling.Teller.tell.Goals as goal
 
 pub returns-clause-told : goal.returns-clause-told
-returns-clause-told c start now reports t =
+returns-clause-told c start now reports written t =
     let old = c.args.self.now in
-    told_more start now old (record { text = c.put_in.new.text; form = old.form; torrents = c.counted-self.result; is_refused = old.is_refused || c.is_refused.result }) reports
+    let refused = old.is_refused || c.is_refused.result in
+    told_more start now old (record { text = c.put_in.new.text; form = old.form; torrents = c.counted-self.result; is_refused = refused }) reports written
     c.args.report.now c.in_ok-put_in.ensures.ok refl (c.counted-self.ensures ∙ ap (λ f. counted (is_told_with f) old.torrents) c.finding-finding.ensures)
     (ap (λ b. old.is_refused || b) (c.is_refused.ensures ∙ ap is_refused_with c.finding-finding.ensures)) t

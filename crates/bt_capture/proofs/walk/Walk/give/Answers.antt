@@ -35,7 +35,8 @@ items-preserved c =
     let bytes = c.args.bytes.now in
     record {
       within = c.step.ensures.within;
-      goes = λ total. goes_both (walk_state c.args.self.now bytes total) (walk_state c.items.self bytes total) (walk_state c.step.new.self bytes total) [] [] [] []
+      goes = λ total. goes_both (walk_state c.args.self.now bytes total) (walk_state c.items.self bytes total)
+          (walk_state c.step.new.self bytes total) [] [] [] []
           (c.items.invariant.goes total) (rw c.in-Ok-Passed.field-0-is at (c.in-Ok-Passed.ensures.steps total));
       again = λ total f i. absurd (no_fault _ f (c.in-Ok-Passed.ensures.again total f
           (still (walk_state c.args.self.now bytes total) (walk_state c.items.self bytes total) f (c.items.invariant.again total f) i)).0);

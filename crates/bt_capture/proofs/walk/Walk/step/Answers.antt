@@ -32,7 +32,8 @@ returns-in-Ok-Packet-clause-steps c total =
     let adds : Q (drop mid.at bytes) = subst Q (take_rest bytes mid.at) (rw c.in-Ok-Packet.field-0-is at c.in-Ok-Packet.ensures.goes_on) in
     subst P (sym c.go_on.ensures) (goes_both from (walk_state mid bytes total) _ [] [] [] (packet ∷ [])
     (pass_goes bytes c.args.self.now mid (λ i. omega (arith, c.type_inv.bytes i)) c.requires c.pass.ensures total)
-    (item_taken bytes mid c.step.new.self (Some packet) c.in-Ok-Packet.used c.in-Ok-Packet.skip _ (omega (arith, c.if-self-gt0.false)) adds (λ within. omega arith) total))
+    (item_taken bytes mid c.step.new.self (Some packet) c.in-Ok-Packet.used c.in-Ok-Packet.skip _ (omega (arith, c.if-self-gt0.false)) adds
+    (λ within. omega arith) total))
 
 pub returns-in-Ok-Passed-clause-steps : goal.returns-in-Ok-Passed-clause-steps
 returns-in-Ok-Passed-clause-steps c total =
@@ -44,7 +45,8 @@ returns-in-Ok-Passed-clause-steps c total =
     let adds : Q (drop mid.at bytes) = subst Q (take_rest bytes mid.at) (rw c.in-Ok-Passed.field-0-is at c.in-Ok-Passed.ensures.goes_on) in
     subst P (sym c.go_on-in-Ok-Passed.ensures) (goes_both from (walk_state mid bytes total) _ [] [] [] []
     (pass_goes bytes c.args.self.now mid (λ i. omega (arith, c.type_inv.bytes i)) c.requires c.pass.ensures total)
-    (item_taken bytes mid c.step.new.self None c.in-Ok-Passed.used c.in-Ok-Passed.skip _ (omega (arith, c.if-self-gt0.false)) adds (λ within. omega (arith, within)) total))
+    (item_taken bytes mid c.step.new.self None c.in-Ok-Passed.used c.in-Ok-Passed.skip _ (omega (arith, c.if-self-gt0.false)) adds
+    (λ within. omega (arith, within)) total))
 
 pub returns-in-Ok-Passed-clause-moves : goal.returns-in-Ok-Passed-clause-moves
 returns-in-Ok-Passed-clause-moves c =
@@ -126,7 +128,8 @@ returns-in-Err-clause-again c total f i =
     let bytes = c.args.bytes.now in
     let mid = c.pass.new.self in
     let p = pass_faulty bytes c.args.self.now mid total f c.pass.ensures i in
-    let P : Format → Type 0 = λ x. record { format = x; skip = mid.skip; held = drop mid.at bytes; bytes = total; packets = mid.packets } ≡ walk_state c.args.self.now bytes total in (
+    let P : Format → Type 0 = λ x.
+    record { format = x; skip = mid.skip; held = drop mid.at bytes; bytes = total; packets = mid.packets } ≡ walk_state c.args.self.now bytes total in (
       ap Err (one_fault _ _ _ (answer_at (format_of mid.file) bytes mid.at _ c.in-Err.ensures.value.0) p.1),
       subst P (sym c.in-Err.ensures.answers.0) p.2,
     )

@@ -1,34 +1,48 @@
-use Rattle.std.proofs.Common.{◌≡◌, ℕ, ◌+◌, ◌-◌, List, ◌++◌, length, length-append, take, drop, refl, ap, ◌∙◌, arith, subst}
+use Rattle.std.proofs.Common.{◌≡◌, ℕ, ◌+◌, ◌-◌, List, [], ◌++◌, length, length-append, append-nil, take, drop, refl, sym, ap, ◌∙◌, arith, subst}
 use Rattle.std.proofs.lemmas.Grind.{common_steps}
+use Rattle.bt_tcp.specs.History.{IsHistory}
 use Rattle.bt_flow.specs.Memory.{next_of, seen}
 use Rattle.bt_flow.specs.Views.{Takes}
 use Rattle.bt_flow.proofs.Streams.{advance, advance_lost}
 use Rattle.bt_flow.proofs.stream.Stream.go_on.Goals as goal
 
 -- what was appended
-newest : (xs given more : List ℕ) (x : ℕ) → xs ≡ given ++ more → x + length more ≡ length xs → take (length xs - x) (drop x xs) ≡ more
-newest xs given more x e h =
-    let l : x ≡ length given = (let m : length xs ≡ length (given ++ more) = cc in omega (arith, h, m, length-append given more)) in
-    let n : length xs - x ≡ length more = omega (arith, h) in
+newest : (xs given rest : List ℕ) (n : ℕ) → xs ≡ given ++ rest → n ≡ length given → take (length xs - n) (drop n xs) ≡ rest
+newest xs given rest n e l =
+    let m : length xs ≡ length given + length rest = ap length e ∙ length-append given rest in
+    let k : length xs - n ≡ length rest = omega (arith, l, m) in
     grind (arith, common_steps)
 
-pub returns-in_ok-remember : goal.returns-in_ok-remember
-returns-in_ok-remember c =
-    let t = subst (λ b. Takes c.args.at c.args.part.now (next_of c.args.self.now.window) (seen c.args.self.now.window) c.args.out.now.items b
-    (next_of c.take.new.self) (seen c.take.new.self) c.take.new.out.items)
-    c.if-branch.true c.in_ok-take.ensures.taken in
-    let e : c.deref.result.now ≡ c.args.out.now.items ++ t.more = c.deref.ensures.value ∙ t.is in
-    let k : length c.deref.result.now ≡ length c.args.out.now.items + length t.more = ap length e ∙ length-append c.args.out.now.items t.more in
-    advance c.args.at c.args.part.now c.args.self.now c.args.out.now.items _ c.take.new.out.items (take (length c.deref.result.now - (c.len.result -
-    (c.next.result - c.next-next.result))) (drop (c.len.result - (c.next.result - c.next-next.result)) c.deref.result.now))
-    refl refl c.requires.open c.requires.open t
-    (newest c.deref.result.now c.args.out.now.items t.more (c.len.result - (c.next.result - c.next-next.result)) e
-    (omega (arith, c.deref.ensures.value, c.len.ensures, c.next.ensures, c.next-next.ensures, t.next_is, k)))
-    (λ out n h. c.in_ok-remember.ensures out (omega (arith, c.next-next.ensures, n)) h)
+pub returns-in_ok-remember-in-Some : goal.returns-in_ok-remember-in-Some
+returns-in_ok-remember-in-Some c =
+    let t = subst (λ o. Takes c.args.at c.args.part.now (next_of c.args.self.now.window) (seen c.args.self.now.window) c.args.later.now.items o
+    (next_of c.take.new.self) (seen c.take.new.self) c.take.new.later.items) c.in-Some.is c.in_ok-fresh.ensures.taken in
+    let fresh = c.in-Some.fresh.now in
+    let rest : take (length c.deref.result.now - c.len-before.result) (drop c.len-before.result c.deref.result.now) ≡ t.rest
+    = newest c.deref.result.now c.args.later.now.items t.rest c.len-before.result (c.deref.ensures.value ∙ t.is)
+    (omega (arith, c.len-before.ensures)) in
+    record {
+      rest = t.rest;
+      is = t.is;
+      more = advance c.args.at c.args.part.now c.args.self.now (fresh ++ t.rest) _ refl refl c.requires.open c.requires.open t.more
+          (λ out n h. subst (λ r. IsHistory c.remember.new.history.items (out ++ (fresh ++ r))) rest
+          (c.in_ok-remember-in-Some.ensures out (omega (
+            arith,
+            n,
+            c.next.ensures,
+            c.saturating_sub-end.ensures,
+            t.more.next_is,
+            length-append fresh t.rest,
+            ap length rest,
+          )) h));
+    }
 
-pub returns-else-branch : goal.returns-else-branch
-returns-else-branch c =
-    let t = subst (λ b. Takes c.args.at c.args.part.now (next_of c.args.self.now.window) (seen c.args.self.now.window) c.args.out.now.items b
-    (next_of c.take.new.self) (seen c.take.new.self) c.take.new.out.items)
-    c.if-branch.false c.in_ok-take.ensures.taken in
-    advance_lost c.args.at c.args.part.now c.args.self.now c.args.out.now.items _ c.take.new.out.items refl refl refl (c.close.ensures.next ∙ t.1) refl t.2 t.0
+pub returns-in-None : goal.returns-in-None
+returns-in-None c =
+    let t = subst (λ o. Takes c.args.at c.args.part.now (next_of c.args.self.now.window) (seen c.args.self.now.window) c.args.later.now.items o
+    (next_of c.take.new.self) (seen c.take.new.self) c.take.new.later.items) c.in-None.is c.in_ok-fresh.ensures.taken in
+    record {
+      rest = [];
+      is = t.2 ∙ sym (append-nil c.args.later.now.items);
+      more = advance_lost c.args.at c.args.part.now c.args.self.now _ refl refl refl (c.close.ensures.next ∙ t.1) refl t.0;
+    }

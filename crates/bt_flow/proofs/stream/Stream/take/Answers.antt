@@ -1,12 +1,22 @@
-use Rattle.std.proofs.Common.{refl, arith}
+use Rattle.std.proofs.Common.{[], append-nil, refl, sym, arith}
 use Rattle.bt_flow.proofs.Streams.{takes_lost, takes_on}
 use Rattle.bt_flow.proofs.stream.Stream.take.Goals as goal
 
 pub returns-then-self-clause-taken : goal.returns-then-self-clause-taken
-returns-then-self-clause-taken c = takes_lost c.args.at c.args.part.now c.args.self.now c.args.out.now.items _ refl c.if-self.true c.if-self.true refl refl
-    (λ segs out i. omega (arith, c.count_conflicts-count.ensures out i.next_is i.history))
+returns-then-self-clause-taken c = record {
+  rest = [];
+  is = sym (append-nil c.args.later.now.items);
+  more = takes_lost c.args.at c.args.part.now c.args.self.now _ refl c.if-self.true c.if-self.true refl refl
+      (λ segs out i. omega (arith, c.count_conflicts-count.ensures out i.next_is i.history));
+}
 
 pub returns-in-Ok-clause-taken : goal.returns-in-Ok-clause-taken
-returns-in-Ok-clause-taken c = takes_on c.args.at c.args.part.now c.args.self.now c.args.out.now.items _ _ _ refl c.if-self.false refl c.in-Ok.ensures
-    (λ segs out i. record { next_is = i.next_is; front = i.front; history = i.history; taken = i.taken; stream = i.stream })
-    (λ segs out i. omega (arith, c.count_conflicts-count.ensures out i.next_is i.history))
+returns-in-Ok-clause-taken c =
+    let t = c.in-Ok.ensures in
+    record {
+      rest = t.rest;
+      is = t.is;
+      more = takes_on c.args.at c.args.part.now c.args.self.now _ _ _ refl c.if-self.false refl t.more
+          (λ segs out i. record { next_is = i.next_is; front = i.front; history = i.history; taken = i.taken; stream = i.stream })
+          (λ segs out i. omega (arith, c.count_conflicts-count.ensures out i.next_is i.history));
+    }

@@ -6,9 +6,10 @@ use Rattle.bt_intro.proofs.introduction.Introduction.announced.Goals as goal
 
 pub returns-in-Some : goal.returns-in-Some
 returns-in-Some c = λ front h.
-    let v = voiced front c.args.self.now c.in-Some.voice h c.in-Some.is in
-    let t : Told (drop c.in-Some.voice.start front) c.in-Some.voice = told_by (drop c.in-Some.voice.start front) c.in-Some.voice v.1 in
-    (t.now, inr (c.in-Some.voice.start, v.0, t.is), c.announced.ensures ∙ announced_as t.now.items c.in-Some.voice.listener t.heard)
+    let voice = c.deref.result.now in
+    let v = voiced front c.args.self.now c.in-Some.voice voice c.deref.ensures h c.in-Some.is in
+    let t : Told (drop voice.start front) voice = told_by (drop voice.start front) voice v.1 in
+    (t.now, inr (voice.start, v.0, t.is), c.announced.ensures ∙ announced_as t.now.items voice.listener t.heard)
 
 pub returns-in-None : goal.returns-in-None
 returns-in-None c = λ front h. (awaiting None [], silent front c.args.self.now h c.in-None.is, refl)

@@ -6,9 +6,10 @@ use Rattle.bt_intro.proofs.introduction.Introduction.has_said_all.Goals as goal
 
 pub returns-in-Some : goal.returns-in-Some
 returns-in-Some c = λ front h.
-    let v = voiced front c.args.self.now c.in-Some.voice h c.in-Some.is in
-    let t = c.has_said_all.ensures (drop c.in-Some.voice.start front) v.1 in
-    (t.0, inr (c.in-Some.voice.start, v.0, t.1), t.2)
+    let voice = c.deref.result.now in
+    let v = voiced front c.args.self.now c.in-Some.voice voice c.deref.ensures h c.in-Some.is in
+    let t = c.has_said_all.ensures (drop voice.start front) v.1 in
+    (t.0, inr (voice.start, v.0, t.1), t.2)
 
 nothing_said : HasSaidAll (awaiting None []) → ⊥
 nothing_said (inl e) = absurd cc

@@ -10,5 +10,5 @@ pub returns-in-Open : goal.returns-in-Open
 returns-in-Open c = λ b h.
     let t : Told b c.args.self.now = told_by b c.args.self.now h in
     let j = subst (λ (r : Reader). IsReadBy b h.items r) c.in-Open.is h.read in
-    let s : t.now.refusal ≡ c.refusal.result = standing b c.refusal.result t.now t.is (c.refusal.ensures reader_of_other b h.items j) in
+    let s : t.now.refusal ≡ c.refusal.result = standing b c.refusal.result t.now t.is (c.refusal.ensures.stands reader_of_other b h.items j) in
     (t.now, t.is, t.heard, ((λ e. subst IsSome (sym s) (sym c.is_some.ensures ∙ e)), λ some. c.is_some.ensures ∙ subst IsSome s some))

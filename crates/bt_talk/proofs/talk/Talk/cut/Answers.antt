@@ -1,4 +1,6 @@
-use Rattle.std.proofs.Common.{◌∙◌, length, ap}
+use Rattle.std.proofs.Common.{◌∙◌, length, ap, subst, Option}
+use Rattle.bt_told.specs.declared.said.Said.{Said}
+use Rattle.bt_talk.specs.Watching.{IsLast}
 use Rattle.bt_remarks.specs.declared.events.Side.TheVariants.{A, B}
 use Rattle.bt_talk.specs.declared.direction.Direction.{Direction}
 use Rattle.bt_talk.specs.Stages.{is_opening}
@@ -11,8 +13,10 @@ pub returns-then-closes_first-clause-kept : goal.returns-then-closes_first-claus
 returns-then-closes_first-clause-kept c = λ a b t.
     let self = c.args.self.now in
     closed_both a b self _ refl refl (ap (λ (d : Direction). d.stage) c.close.ensures.rest) (ap (λ (d : Direction). d.stage) c.close-then-closes_first.ensures.rest)
-    (c.close.ensures.cut self.terms a b (t.said.items A) t.a_is t.said.a_items (t.said.watched.notes A).last)
-    (c.close-then-closes_first.ensures.cut self.terms b a (t.said.items B) t.b_is t.said.b_items (t.said.watched.notes B).last) t
+    (c.close.ensures.cut self.terms a b (t.said.items A) t.a_is t.said.a_items
+    (subst (λ (o : Option Said). IsLast (t.said.items A) o) (sym c.last.ensures) (t.said.watched.notes A).last))
+    (c.close-then-closes_first.ensures.cut self.terms b a (t.said.items B) t.b_is t.said.b_items
+    (subst (λ (o : Option Said). IsLast (t.said.items B) o) (sym c.last-then-closes_first.ensures) (t.said.watched.notes B).last)) t
 
 pub returns-then-closes_first-clause-cuts : goal.returns-then-closes_first-clause-cuts
 returns-then-closes_first-clause-cuts c = λ a b side t.

@@ -3,7 +3,7 @@ use Rattle.bt_remarks.specs.declared.events.Side.{Side}
 use Rattle.bt_remarks.specs.declared.events.Side.TheVariants.{A, B}
 use Rattle.bt_talk.specs.declared.stage.Stage.{Stage}
 use Rattle.bt_talk.specs.Pasts.{HasSent}
-use Rattle.bt_talk.specs.Sent.{IsReady}
+use Rattle.bt_talk.specs.Sent.{IsReady, is_wanted}
 use Rattle.bt_talk.specs.Stages.{is_opening, AreItemsIn}
 use Rattle.bt_talk.specs.Talks.{IsSender}
 use Rattle.bt_talk.specs.Watching.{tell, with_items}
@@ -78,7 +78,7 @@ returns-in_ok-turn-in-B-clause-taken c = λ a b t.
         sent = subst (λ (o : Bool). HasSent c.args.segment.now o b self.b.flow r.p' c.turn-in-B.new.from.flow) (sym t.stages) r.sent;
         acked = r.acked;
       },
-      λ e. subst (λ (o : Bool). IsReady o b r.p' c.turn-in-B.new.room.out.items) (sym t.stages) (x.2 e),
+      λ e. subst (λ (o : Bool). IsReady o (is_wanted B c.args.room.now.wanted) b r.p' c.turn-in-B.new.room.out.items) (sym t.stages) (x.2 e),
     )
 
 pub returns-in_ok-turn-in-A-clause-cuts : goal.returns-in_ok-turn-in-A-clause-cuts

@@ -1,7 +1,7 @@
 use Rattle.std.proofs.Common.{◌∙◌, ◌++◌, List, [], unwrap_or, ap}
 use Rattle.std.specs.List.{filter}
 use Rattle.std.proofs.lemmas.List.Elements.{filter-append}
-use Rattle.bt_talk.specs.Courses.{course_of, gap_rows}
+use Rattle.bt_talk.specs.Courses.{end_of, gap_rows}
 use Rattle.bt_talk.specs.Inside.{inside_rows}
 use Rattle.bt_talk.specs.Rows.{Shown, is_item}
 use Rattle.bt_talk.proofs.Shown.{appends_more, gaps_none, inside_none, rows_before}
@@ -9,16 +9,16 @@ use Rattle.bt_talk.proofs.talk.Talk.show_last.Goals as goal
 
 pub returns-clause-others : goal.returns-clause-others
 returns-clause-others c =
-    let grown = (course_of c.args.side c.args.self.now.courses).grown in
+    let end = end_of c.args.side c.args.self.now.courses in
     let x = c.in_ok-show_inside.ensures.inside in
     let y = c.in_ok-show_gap.ensures.gap in
     let r = c.args.room.now.rows in
     let m = c.show_inside.new.room.rows in
-    let xs = inside_rows r.heading grown c.args.side x.refusal in
-    let ys = gap_rows m.heading grown c.args.side (unwrap_or y.start 0) y.gaps.first in (
+    let xs = inside_rows r.heading end c.args.side x.refusal in
+    let ys = gap_rows m.heading end c.args.side (unwrap_or y.start 0) y.gaps.first in (
       xs ++ ys,
-      filter-append is_item xs ys ∙ ap (λ (l : List Shown). l ++ filter is_item ys) (inside_none r.heading grown c.args.side x.refusal)
-          ∙ gaps_none m.heading grown c.args.side (unwrap_or y.start 0) y.gaps.first,
+      filter-append is_item xs ys ∙ ap (λ (l : List Shown). l ++ filter is_item ys) (inside_none r.heading end c.args.side x.refusal)
+          ∙ gaps_none m.heading end c.args.side (unwrap_or y.start 0) y.gaps.first,
       appends_more xs ys r m c.show_gap.new.room.rows x.appends y.appends,
     )
 
@@ -27,10 +27,10 @@ returns-in_err-show_inside-clause-err c = rows_before c.from_residual.result [] 
 
 pub returns-in_err-show_gap-clause-err : goal.returns-in_err-show_gap-clause-err
 returns-in_err-show_gap-clause-err c =
-    let grown = (course_of c.args.side c.args.self.now.courses).grown in
+    let end = end_of c.args.side c.args.self.now.courses in
     let x = c.in_ok-show_inside.ensures.inside in
     let r = c.args.room.now.rows in
     let m = c.show_inside.new.room.rows in
-    let xs = inside_rows r.heading grown c.args.side x.refusal in
+    let xs = inside_rows r.heading end c.args.side x.refusal in
     rows_before c.from_residual-in_err-show_gap.result (xs ++ []) r c.show_gap.new.room.rows
     (appends_more xs [] r m c.show_gap.new.room.rows x.appends c.in_err-show_gap.ensures.err)

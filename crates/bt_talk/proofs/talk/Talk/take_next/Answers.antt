@@ -11,6 +11,7 @@ use Rattle.bt_talk.specs.declared.talk.Talk.{Talk}
 use Rattle.bt_talk.specs.declared.watch.Watch.{Watch}
 use Rattle.bt_talk.specs.Cuts.{cut_after}
 use Rattle.bt_talk.specs.Talks.{IsTalk, is_in_opening, flow_of, cut_of, of_side}
+use Rattle.bt_talk.specs.Sent.{IsReady, is_wanted}
 use Rattle.bt_talk.proofs.Closes.{closes_same}
 use Rattle.bt_talk.proofs.Lent.{Alike, talk_alike, opening_alike, opened_after, after_steps}
 use Rattle.bt_talk.proofs.Shown.{appends_more, appends_same}
@@ -81,19 +82,17 @@ returns-clause-taken c = λ a b t.
       λ none side w.
           let s = c.args.segment.now in
           let parts = parts_of side a b self t in
-          let same = sender_same s self x.side c.sender-side.result x.is_side c.sender-side.ensures in
           let is = ap (λ (r : Room). r.wanted) c.exchange.ensures.room ∙ w in
-          let kept = c.keep_of.new.self in
-          let now = ap (λ (r : Room). r.wanted) c.keep_of.ensures.rest ∙ is in
-          let ready = ready_kept (is_in_opening self) x.side side a b x.a' x.b' c.exchange.new.room.out.items kept.out.items (y.1 none)
-          (acked_same s (of_side (other x.side) a b) (of_side (other x.side) x.a' x.b') x.acked).1 (λ k. c.keep_of.ensures.kept (is ∙ ap Some (k ∙ same)))
-          (λ k. c.keep_of.ensures.dropped (is ∙ ap Some (k ∙ ap other same))) in
-          sends_on (is_in_opening self) (is_in_opening c.settle.new.self) (of_side side a b) (of_side side x.a' x.b') parts.0 kept.out.items
+          let out = c.exchange.new.room.out.items in
+          let sent = subst (λ (o : Option Side). IsReady (is_in_opening self) (is_wanted x.side o) (of_side x.side a b) (of_side x.side x.a' x.b') out) w (y.1 none) in
+          let ready = ready_kept (is_in_opening self) x.side side a b x.a' x.b' out sent
+          (acked_same s (of_side (other x.side) a b) (of_side (other x.side) x.a' x.b') x.acked).1 in
+          sends_on (is_in_opening self) (is_in_opening c.settle.new.self) (of_side side a b) (of_side side x.a' x.b') parts.0 out
           c.settle.new.room.out.items parts.1 ready
           (λ o. fronts_kept s (is_in_opening self) x.side side a b x.a' x.b' (flow_of x.side self) (flow_of x.side given) x.sent x.acked o)
           (λ o. c.in_ok-settle.ensures.after (was ∙ o))
           (λ o. ap (λ (r : Room). r.out.items) (c.in_ok-settle.ensures.room_already (was ∙ o)))
-          (λ o nil. c.in_ok-settle.ensures.sent x.a' x.b' side noted (was ∙ o) now nil),
+          (λ o nil. c.in_ok-settle.ensures.sent x.a' x.b' side noted (was ∙ o) is nil),
     )
 
 pub returns-clause-order : goal.returns-clause-order

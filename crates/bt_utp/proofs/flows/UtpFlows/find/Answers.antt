@@ -7,11 +7,13 @@ use Rattle.bt_utp.proofs.flows.UtpFlows.find.Goals as goal
 pub returns-in-Some : goal.returns-in-Some
 returns-in-Some c ds are =
     let d = c.args.datagram.now in
-    let there = place_found (is_from d.source d.target) (firsts same_ends (kept ds)) c.in-Some.place.now (sym (are.places d.source d.target) ∙ sym c.in-Some.ensures.value) in
+    let place = sym (are.places d.source d.target) ∙ sym c.in-Some.ensures.value in
+    let there = place_found (is_from d.source d.target) (firsts same_ends (kept ds)) c.in-Some.place.now place in
     (there.0, there.1, there_ends d there.0 there.2)
 
 pub returns-in-None : goal.returns-in-None
 returns-in-None c ds are =
     let d = c.args.datagram.now in
     let missed = place_missed (is_from d.source d.target) (firsts same_ends (kept ds)) (sym (are.places d.source d.target) ∙ sym c.in-None.ensures.value) in
-    found_back (firsts same_ends (kept ds)) d c.copied.result missed (sym (are.places d.target d.source) ∙ sym c.get-in-None.ensures.value ∙ sym c.copied.ensures)
+    let back = sym (are.places d.target d.source) ∙ sym c.get-in-None.ensures.value ∙ sym c.copied.ensures in
+    found_back (firsts same_ends (kept ds)) d c.copied.result missed back
