@@ -90,10 +90,13 @@ def direction_lines(side, found):
         yield from judged_lines(found)
 
 
-def closing_lines(closed):
-    """The lines on how a connection was closed, and on what each side had sent."""
+def closing_lines(closed, is_unread, is_replaced):
+    """The lines on how a connection was closed, and on what each side had sent; or on how it was left."""
+    if closed is None and is_unread:
+        return ["  not read further: too many connections at once\n"]
     if closed is None:
-        return ["  still open at the capture's end\n"]
+        return ["  not closed; a later connection has the same ports\n" if is_replaced else "  still open at the capture's end\n"]
+    assert not is_unread and not is_replaced
     lines = ["  %(side)s closed first, by %(by)s, at %(time)s s\n" % closed]
     for side in "BA" if closed["side"] == "A" else "AB":
         before = closed.pop(side.lower(), None)
@@ -158,7 +161,7 @@ def lines_of(line):
         return text + "  no BitTorrent handshake: encrypted, another protocol, or its start isn't in the capture\n"
     sides = [(side, found.pop("from_" + side.lower())) for side in "AB"]
     lines = [line for side, way in sides for line in direction_lines(side, way)]
-    lines += closing_lines(found.pop("closed", None))
+    lines += closing_lines(found.pop("closed", None), found.pop("not_read_further", False), found.pop("replaced", False))
     lines += [line for side, way in sides for line in remark_lines(side, way)]
     assert not found, found
     return text + "\n" + "".join(lines)

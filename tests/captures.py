@@ -6,9 +6,10 @@ usage: tests/captures.py [PROGRAM]
 PROGRAM is the built bt_tool, or else the script at the top of the repository. The model is written from the standards and from
 docs/CAPTURES.md and docs/RULES.md: it keeps all bytes, and looks at all of them again for each packet. Of the remarks it has requests
 that got no answer. The captures have lost, swapped, repeated, overlapping, changed and cut segments, sequence numbers that wrap, several
-connections between the same ports, both formats and byte orders; two files are cut after each byte. The seed is fixed. The limits of
-memory are those of tests/limits.py. `--stream` writes the model's bytes. Where tshark is installed, they are compared with those that tshark has
-of some captures, too: captures in which all copies of a byte are the same, and each is captured before its acknowledgement.
+connections between the same ports, both formats and byte orders; two files are cut after each byte. One capture has more connections
+than are followed at once. The seed is fixed. The limits of memory are those of tests/limits.py. `--stream` writes the model's bytes.
+Where tshark is installed, they are compared with those that tshark has of some captures, too: captures in which all copies of a byte are
+the same, and each is captured before its acknowledgement.
 """
 import json
 import os
@@ -34,6 +35,8 @@ FIN, SYN, RST, ACK = 1, 2, 4, 16
 FAST, EXT = 0x4, 0x100000
 # How far back a repeated byte is compared, and how long a connection that has ended is without a segment until it is over.
 HISTORY, QUIET = 16384, 4_000_000_000
+# How many connections are followed at once.
+MOST = 16384
 
 
 # ---- the model: messages
@@ -214,7 +217,7 @@ class Connection:
         self.number, self.said, self.settled, self.closed, self.over = number, {}, False, None, None
         self.ends = it.ends[::-1] if it.flags & SYN and it.flags & ACK else it.ends
         self.sides = {end: Side() for end in self.ends}
-        self.has_bytes = False
+        self.has_bytes = self.is_replaced = False
         self.marks = []  # for each segment: its side, the length of the side's stream, its time, and its packet's number from 1
 
     def opens_again(self, it):
@@ -326,7 +329,8 @@ class Connection:
             if gaps:
                 note = " (cut by the gap)" if cut else " (up to the gap)" if why is None else ""
             elif cut and (self.closed is None or self.closed[0] != end):
-                note = " (cut by the capture's end)" if self.closed is None else " (cut by the close of the other end)"
+                note = " (cut by the close of the other end)" if self.closed else " (cut by the capture's end)"
+                note = " (cut by a later connection)" if self.is_replaced and not self.closed else note
             verdict = "refused message=%d at=%d %s" % why if why else "ok messages=%d bytes=%d" % (len(found), len(stream) - own.start)
             verdicts.append((rules, verdict, note, sentence(stream[own.start:], found, why) if why and not note else None))
             refused |= rules == "free" and why is not None and not (cut and note)
@@ -343,7 +347,7 @@ class Connection:
         if all(said.start is None for said in self.said.values()):
             return names + "  no BitTorrent handshake: encrypted, another protocol, or its start isn't in the capture\n", False, False
         (a, bad_a), (b, bad_b) = map(self.direction, self.ends)
-        close = "  still open at the capture's end\n"
+        close = "  not closed; a later connection has the same ports\n" if self.is_replaced else "  still open at the capture's end\n"
         if self.closed:
             end, means, nanos = self.closed
             micros = max(0, nanos - start) // 1000
@@ -359,6 +363,7 @@ def connections(packets):
         key = frozenset(it.ends)
         old = current.get(key)
         if old and (old.over is not None and it.nanos - old.over >= QUIET or old.opens_again(it)):
+            old.is_replaced = True
             done.append(current.pop(key))
         if key not in current:
             current[key] = Connection(begun, it)
@@ -675,9 +680,34 @@ def model_differs(program):
             yield "" if is_same else "%s: --stream %s writes other bytes" % (name, words)
 
 
+def left_differs(program):
+    """What is wrong with how connections were left: the first two of two more than are followed at once, and one whose ports another takes."""
+    hello, frames = writer.handshakes()[0], []
+    packet = writer.Packet("A", ACK, 7, 0, hello + bytes(2), 0)
+    for number in range(MOST + 2):
+        end = "10.0.%d.%d" % divmod(number, 256), 6881
+        link, more = writer.frames([packet], ends=(end, ("10.1.0.1", 6881)))
+        frames += more
+    crowd = writer.pcap((link, frames))
+    told = re.split("(?m)^connection ", run(program, crowd, "-")[0].decode())[1:]
+    yield "" if len(told) == MOST + 2 else "crowded: %d connections" % len(told)
+    unread = ("(cut: not read further)", "\n  not read further: too many connections at once\n")
+    still = ("(cut by the capture's end)", "\n  still open at the capture's end\n")
+    for words, wanted in ((unread, 2), (still, MOST)):
+        found = [it for it in told if all(text in it for text in words)]
+        yield "" if len(found) == wanted else "crowded: %d connections have %s" % (len(found), words)
+    objects = map(json.loads, run(program, crowd, "--json", "-")[0].splitlines())
+    numbers = [it["connection"] for it in objects if it.get("not_read_further")]
+    yield "" if numbers == [0, 1] else "crowded: these aren't read further: %s" % numbers
+    first, second = (writer.Talk(start=start).say("A", hello).packets for start in (7, 70_000))
+    objects = map(json.loads, run(program, writer.pcap(writer.frames(first + second)), "--json", "-")[0].splitlines())
+    found = [it.get("replaced") for it in objects]
+    yield "" if found == [True, None] else "replaced: %s" % found
+
+
 def main():
     program = sys.argv[1] if len(sys.argv) > 1 else os.path.join(ROOT, "bt_tool")
-    found = list(model_differs(program))
+    found = [*model_differs(program), *left_differs(program)]
     if shutil.which("tshark"):
         found += tshark_differs(program)
     else:

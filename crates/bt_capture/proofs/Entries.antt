@@ -1,5 +1,6 @@
 -- Entries of which no two have the same key.
-use Rattle.std.proofs.Common.{rules, ◌≡◌, ◌∙◌, ℕ, ◌-◌, ◌+◌, ◌^◌, ◌<◌, ◌≤◌, Bool, true, false, List, [], ◌∷◌, ◌++◌, length, take, Option, Some, None, refl, sym, ap, subst, cond, arith, inl, inr, zero, suc}
+use Rattle.std.proofs.Common.{rules, ◌≡◌, ◌∙◌, ℕ, ◌-◌, ◌+◌, ◌^◌, ◌<◌, ◌≤◌, Bool, true, false, List, [], ◌∷◌, ◌++◌}
+use Rattle.std.proofs.Common.{length, take, Option, Some, None, refl, sym, ap, subst, cond, arith, inl, inr, zero, suc}
 use Rattle.std.specs.Prelude.{slice_get}
 use Rattle.std.specs.List.{IsDistinct, AllByRecursion}
 use Rattle.std.proofs.lemmas.Option.{slice_get-get_or}
@@ -50,7 +51,8 @@ module _ {X : Type 0} where
   pub pushed : (c : LruCache Pair X) (k : Pair) (x : X) → c.cap ≡ 2 ^ 64 - 1 → lookup (same_pair k) c.entries ≡ None → length c.entries < 2 ^ 63
       → put_entries same_pair c k x ≡ (k, x) ∷ c.entries
   pushed c k x cap none few =
-      ap (λ o. option_map_or (λ e. (e.0, x) ∷ remove_entry (same_pair k) c.entries) o ((k, x) ∷ take (c.cap - 1) c.entries)) (no_entry (same_pair k) c.entries none)
+      ap (λ o. option_map_or (λ e. (e.0, x) ∷ remove_entry (same_pair k) c.entries) o ((k, x) ∷ take (c.cap - 1) c.entries))
+      (no_entry (same_pair k) c.entries none)
       ∙ ap (λ l. (k, x) ∷ l) (take_all (c.cap - 1) c.entries (omega (arith, cap, few)))
 
   split_last : (es : List (Pair × X)) (n : ℕ) (e : Pair × X) → Some e ≡ slice_get es n → length es ≡ n + 1 → es ≡ take n es ++ e ∷ []
@@ -67,7 +69,8 @@ module _ {X : Type 0} where
   none_last [] h = refl
   none_last (x ∷ es) h = let some = slice_get-get_or (x ∷ es) (length (x ∷ es) - 1) x (omega arith) in cc
 
-  all_without : (p : Pair → Type 0) (test : Pair → Bool) (es : List (Pair × X)) → AllByRecursion p (keys_of es) → AllByRecursion p (keys_of (remove_entry test es))
+  all_without : (p : Pair → Type 0) (test : Pair → Bool) (es : List (Pair × X)) → AllByRecursion p (keys_of es)
+      → AllByRecursion p (keys_of (remove_entry test es))
   all_without p test [] a = a
   all_without p test (e ∷ es) a = elim (cases_Bool (test e.0)) [ inl t ↦ rw t a.1 | inr f ↦ rw f (a.0, all_without p test es a.1) ]
 
@@ -118,7 +121,8 @@ module _ {X : Type 0} where
 
   -- ---- a look-up
 
-  pub lookup_other : (p k : Pair) (es : List (Pair × X)) → same_pair k p ≡ false → lookup (same_pair k) (remove_entry (same_pair p) es) ≡ lookup (same_pair k) es
+  pub lookup_other : (p k : Pair) (es : List (Pair × X)) → same_pair k p ≡ false
+      → lookup (same_pair k) (remove_entry (same_pair p) es) ≡ lookup (same_pair k) es
   lookup_other p k [] other = refl
   lookup_other p k (e ∷ es) other = elim (cases_Bool (same_pair p e.0)) [
     | inl t ↦ rw t (rw (other_key p k e.0 t other) refl)
@@ -140,17 +144,20 @@ module _ {X : Type 0} where
     | inr f ↦ rw f (lookup_other p k es f)
   ]
 
-  among : (es fs : List (Pair × X)) → IsPermutation es fs → IsApart fs → (k : Pair) (x : X) → lookup (same_pair k) es ≡ Some x → lookup (same_pair k) fs ≡ Some x
+  among : (es fs : List (Pair × X)) → IsPermutation es fs → IsApart fs → (k : Pair) (x : X) → lookup (same_pair k) es ≡ Some x
+      → lookup (same_pair k) fs ≡ Some x
   among es fs i apart k x e = lookup-from_Contains laws k x fs apart (Contains-permutation es fs (k, x) i (Contains-from_lookup same_is k x es e))
 
-  none_more : (es fs : List (Pair × X)) → IsPermutation es fs → IsApart es → (k : Pair) (o : Option X) → lookup (same_pair k) fs ≡ o → lookup (same_pair k) es ≡ None → o ≡ None
+  none_more : (es fs : List (Pair × X)) → IsPermutation es fs → IsApart es → (k : Pair) (o : Option X) → lookup (same_pair k) fs ≡ o
+      → lookup (same_pair k) es ≡ None → o ≡ None
   none_more es fs i apart k None e none = refl
   none_more es fs i apart k (Some x) e none = let some = among fs es (IsPermutation-sym es fs i) apart k x e in cc
 
   pub apart_moved : (es fs : List (Pair × X)) → IsPermutation es fs → IsApart es → IsApart fs
   apart_moved es fs i = IsDistinct-IsPermutation same_pair laws.symm (keys_of es) (keys_of fs) (IsPermutation-map (λ e. e.0) es fs i)
 
-  found_moved : (es fs : List (Pair × X)) → IsPermutation es fs → IsApart es → (k : Pair) (o : Option X) → lookup (same_pair k) es ≡ o → lookup (same_pair k) fs ≡ o
+  found_moved : (es fs : List (Pair × X)) → IsPermutation es fs → IsApart es → (k : Pair) (o : Option X) → lookup (same_pair k) es ≡ o
+      → lookup (same_pair k) fs ≡ o
   found_moved es fs i apart k None e = none_more es fs i apart k (lookup (same_pair k) fs) refl e
   found_moved es fs i apart k (Some x) e = among es fs i (apart_moved es fs i apart) k x e
 

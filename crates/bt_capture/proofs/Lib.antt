@@ -19,4 +19,5 @@ pub mod Reported
 pub mod Outcomes
 pub mod Shown
 pub mod Sending
+mod Rowing
 mod Seeing

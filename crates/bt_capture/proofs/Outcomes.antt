@@ -31,11 +31,12 @@ use Rattle.bt_capture.specs.Readings.{Reading, IsReading, GoesOn, Hands, nothing
 use Rattle.bt_capture.specs.Tables.{Held}
 use Rattle.bt_capture.specs.Tellings.{Tells, IsStopped, IsEmpty, AreTexts}
 use Rattle.bt_capture.specs.Runs.{Origin, HasRead, IsTelling, IsLeft, IsEndOf, AreOver, AreAllOver, AreWritten, ArePartlyWritten, AfterFault, Adds}
-use Rattle.bt_capture.specs.Runs.{IsOfTelling, IsOfReading, IsToldTo, IsOnlyStream, IsStreamTold, StreamsSoFar, utp_lines}
+use Rattle.bt_capture.specs.Runs.{AreRowsTold, IsOfTelling, IsOfReading, IsToldTo, IsOnlyStream, IsStreamTold, StreamsSoFar, utp_lines}
 use Rattle.bt_capture.proofs.Going.{fresh}
 use Rattle.bt_capture.proofs.InOrder.{no_texts}
 use Rattle.bt_capture.proofs.Numbers.{one_if_began}
 use Rattle.bt_capture.proofs.Reported.{follows_flushed, follows_moved, follows_same, follows_so_far, stops_of}
+use Rattle.bt_capture.proofs.Rowing.{rows_same}
 use Rattle.bt_capture.proofs.SoFar.{so_far_same}
 use Rattle.bt_capture.proofs.Streaming.{find_over, numbered_end, streaming_same, untold_end}
 use Rattle.bt_capture.proofs.Wants.{absent_before, begun_or_absent, wanted_if_asked}
@@ -255,6 +256,20 @@ stream_told o left now run r empty i =
     } in
     subst P (all_told written run empty) told
 
+pub rows_told : (o : Origin) (left : Option (List ℕ)) (now : TargetSeen) (run : Run) (r : Reading) → IsEmpty run.teller
+    → (i : IsTelling o left now [] run r) → AreRowsTold o i.packets i.follows.fs i.follows.written
+rows_told o left now run r empty i =
+    let f = i.follows in
+    let rows = rows_same run.teller.form o.form f.parts (told_by f.written run) f.written run.terms o.terms (unwrap_or run.start 0)
+    (unwrap_or (first_time i.packets) 0) run.begun run.begun (arrivals i.packets) f.fs [] (sym i.form) (sym (all_told f.written run empty)) (sym i.terms)
+    (ap (λ x. unwrap_or x 0) (sym i.time)) refl f.rows in
+    record {
+      parts = f.parts;
+      parts_are = rows.rowed.parts_are;
+      rows = rows.rowed.over;
+      none = λ n le small. let begun : run.begun ≡ min (length f.fs + 0) (2 ^ 64 - 1) = f.begun in rows.rowed.none n (omega (arith, le, begun)) small;
+    }
+
 -- the reports and the lines on uTP, one after the other
 pub whole_written : (o : Origin) (left : Option (List ℕ)) (before now : TargetSeen) (run : Run) (r : Reading) → IsEmpty run.teller
     → (i : IsTelling o left before [] run r) → Appends before.held now.held (utp_lines run.teller.form i.packets)
@@ -274,6 +289,7 @@ all_written o left before now run r empty i held = record {
   text = i.follows.written;
   texts_are = texts_written o left before run r empty i;
   stream = stream_told o left before run r empty i;
+  rows = rows_told o left before run r empty i;
   written = whole_written o left before now run r empty i held;
 }
 

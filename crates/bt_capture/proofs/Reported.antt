@@ -16,27 +16,35 @@ use Rattle.bt_pcap.specs.Formats.{Captured}
 use Rattle.bt_remarks.specs.declared.events.Side.{Side}
 use Rattle.bt_talk.specs.Pasts.{Past}
 use Rattle.bt_talk.specs.Sent.{IsSent}
-use Rattle.bt_talk.specs.Talks.{IsTalk, is_lost, of_side}
+use Rattle.bt_talk.specs.declared.rows.Heading.{Heading}
+use Rattle.bt_talk.specs.Rows.{Shown, is_item, shown_texts}
+use Rattle.bt_talk.specs.Talks.{AreShown, AreShownIn, IsTalk, is_in_opening, is_lost, of_side}
 use Rattle.bt_talk.specs.declared.talk.Talk.{Talk}
 use Rattle.bt_told.specs.declared.report.Report.{Report}
 use Rattle.bt_capture.specs.Arrivals.{Arrival, arrivals, arrivals_of, arrivals_after, has_data, is_between, pair_of, first_time}
 use Rattle.bt_capture.specs.Connections.{IsFirst, IsMade, IsOpen}
+use Rattle.bt_capture.specs.Following.{AreRowsOf, IsRowing, Rows}
 use Rattle.bt_capture.specs.Following.{Finished, Fate, Reported, Silent, Lost, IsFinished, IsFate, IsKnown, IsReported, IsSentBy, IsShared, IsEnded}
 use Rattle.bt_capture.specs.Following.{IsStreaming, IsStreamSoFar, Follows, Stops, Goes, Holds, Shares, Streams, count_lost, count_open, is_lost_by}
 use Rattle.bt_capture.specs.Following.{report_in, reports_of, taken_between, told_by}
-use Rattle.bt_capture.specs.Forms.{is_stream, wanted_by}
+use Rattle.bt_capture.specs.Forms.{is_stream, showing_by, wanted_by}
 use Rattle.bt_capture.specs.Sending.{HasSent, IsSending}
+use Rattle.bt_capture.specs.Rowed.{HasShown, IsShowing, ShowsOn, heading_of}
 use Rattle.bt_capture.specs.Tables.{Held, IsApart, same_pair}
-use Rattle.bt_capture.specs.Tellings.{Says, Tells, TellsOn}
+use Rattle.bt_capture.specs.Tellings.{ArePartsOf, Part, SaysAfter, Tells, TellsOn, item_rows, report_by}
 use Rattle.bt_capture.specs.declared.connections.Run.{Run}
 use Rattle.bt_capture.specs.declared.ending.Form.{Form}
 use Rattle.bt_capture.specs.declared.pair.Pair.{Pair}
 use Rattle.bt_capture.specs.declared.telling.Teller.{Teller}
 use Rattle.bt_capture.proofs.Entries.{apart_moved, apart_none, apart_put, apart_rest, apart_without, lookup_back, lookup_gone, lookup_moved}
 use Rattle.bt_capture.proofs.Entries.{same_is, same_self}
+use Rattle.bt_capture.proofs.Rowing.{AddsRows, adds_by, adds_nothing, items_of_report, items_of_segment, more_of, own_rows_of, parts_more, parts_of_report}
+use Rattle.bt_capture.proofs.Rowing.{parts_of_segment, parts_same, rows_begun, rows_held, rows_moved, rows_nothing, rows_over, rows_same, rows_started}
+use Rattle.bt_capture.proofs.Rowing.{rows_to_same, rows_took, text_of_report, text_of_segment}
 use Rattle.bt_capture.proofs.Shares.{own_of, others_of, others_on, over, moved, took, own_none, ready, ready_sent, share_same}
 use Rattle.bt_capture.proofs.SoFar.{EndsStream, ended_so_far, held_so_far, open_so_far, so_far_more, so_far_on, so_far_same}
-use Rattle.bt_capture.proofs.Streaming.{AddsFor, alone_open, sending_begun, sending_same, streaming_begun, streaming_moved, streaming_nothing, streaming_out}
+use Rattle.bt_capture.proofs.Streaming.{AddsFor, alone_open, alone_over, has_begun}
+use Rattle.bt_capture.proofs.Streaming.{sending_begun, sending_same, streaming_begun, streaming_moved, streaming_nothing, streaming_out}
 use Rattle.bt_capture.proofs.Streaming.{streaming_over, streaming_same, streaming_started, streaming_took}
 use Rattle.bt_capture.proofs.Wants.{wanted_stream}
 
@@ -112,6 +120,13 @@ streams_same written written' fs es old new terms begin form count told i =
     streaming_same old.teller.form new.teller.form (told_by written old) (told_by written' new) old.terms new.terms (unwrap_or old.start 0)
     (unwrap_or new.start 0) old.begun new.begun fs es form told terms (ap (λ o. unwrap_or o 0) begin) count i
 
+rows_as : (parts : List Part) (written written' : List ℕ) (came : List Arrival) (fs : List Finished) (es : List (Pair × Held)) (old new : Run)
+    → new.terms ≡ old.terms → new.start ≡ old.start → new.teller.form ≡ old.teller.form → new.begun ≡ old.begun → told_by written' new ≡ told_by written old
+    → Rows parts written came fs es old → Rows parts written' came fs es new
+rows_as parts written written' came fs es old new terms begin form count told i =
+    rows_same old.teller.form new.teller.form parts (told_by written old) (told_by written' new) old.terms new.terms (unwrap_or old.start 0)
+    (unwrap_or new.start 0) old.begun new.begun came fs es form told terms (ap (λ o. unwrap_or o 0) begin) count i
+
 shares_same : (written written' : List ℕ) (came : List Arrival) (fs : List Finished) (old new : Run) (k : Pair) (o : Option Held)
     → new.terms ≡ old.terms → new.teller.form ≡ old.teller.form → told_by written' new ≡ told_by written old → Shares written came fs old k o
     → Shares written' came fs new k o
@@ -125,8 +140,11 @@ pub follows_over : (start now : TargetSeen) (came : List Arrival) (p : Pair) (c 
     → AddsFor old.teller.form c.value.number (told_by i.written old) (told_by i.written new)
     → Tells start now new.teller (reports_of i.fs ++ report_in f.fate) i.written → new.lost ≡ count_lost (i.fs ++ f ∷ [])
     → IsFinished old.terms (unwrap_or old.start 0) f → IsSentBy old.teller.form (told_by i.written new) old.terms (unwrap_or old.start 0) f
+    → (parts : List Part) (rows : List Shown) → AddsRows c.value.number rows i.parts parts
+    → ArePartsOf old.teller.form (reports_of (i.fs ++ f ∷ [])) (told_by i.written new) parts
+    → AreRowsOf old.teller.form parts old.terms (unwrap_or old.start 0) f
     → Follows start now came es new
-follows_over start now came p c es old new end absent terms begin form count i f number ends share adds tells lost is sent =
+follows_over start now came p c es old new end absent terms begin form count i f number ends share adds tells lost is sent parts rows gets parts_are shows =
     let n = c.value.number in
     let shown = old.teller.form in
     let told = told_by i.written old in
@@ -145,6 +163,11 @@ follows_over start now came p c es old new end absent terms begin form count i f
           (streaming_over shown told told' old.terms from old.begun i.fs f p c es number adds sent i.streams);
       shared = λ k. share_same shown new.teller.form told' told' old.terms new.terms came (i.fs ++ f ∷ []) k (lookup (same_pair k) es) form refl terms
           (over shown old.terms came i.fs told' p es f ends absent share others k);
+      parts = parts;
+      rows = rows_same shown new.teller.form parts told' told' old.terms new.terms from (unwrap_or new.start 0) old.begun new.begun came (i.fs ++ f ∷ []) es
+          form refl terms (ap (λ o. unwrap_or o 0) begin) count
+          (rows_over shown old.terms from i.parts parts told told' old.begun came i.fs f p c es rows ends absent share
+          (alone_over old.begun i.fs p c es i.streams.numbered) alone (has_begun old.begun i.fs p c es i.streams.numbered) gets parts_are shows i.rows);
     }
 
 pub known_same : (start now : TargetSeen) (fs : List Finished) (written written' : List ℕ) (old new : Run) → new.terms ≡ old.terms
@@ -175,6 +198,8 @@ follows_same start now came es old new terms begin lost teller count i =
       known = known_kept start now i.fs i.written old new terms begin lost teller i.known;
       streams = streams_same i.written i.written i.fs es old new terms begin form count told i.streams;
       shared = λ k. shares_same i.written i.written came i.fs old new k (lookup (same_pair k) es) terms form told (i.shared k);
+      parts = i.parts;
+      rows = rows_as i.parts i.written i.written came i.fs es old new terms begin form count told i.rows;
     }
 
 pub stops_same : (start now : TargetSeen) (came : List Arrival) (old new : Run) → new.terms ≡ old.terms → new.start ≡ old.start → new.lost ≡ old.lost
@@ -226,6 +251,8 @@ follows_flushed start now after came es old new terms begin lost count form empt
       };
       streams = streams_same i.written written i.fs es old new terms begin form count told i.streams;
       shared = λ k. shares_same i.written written came i.fs old new k (lookup (same_pair k) es) terms form told (i.shared k);
+      parts = i.parts;
+      rows = rows_as i.parts i.written written came i.fs es old new terms begin form count told i.rows;
     }
 
 -- The first connection's share of the segments.
@@ -239,8 +266,9 @@ unreported : (start now : TargetSeen) (came : List Arrival) (p : Pair) (c : Held
     → report_in end ≡ [] → (i : Follows start now came ((p, c) ∷ es) old)
     → (f : Finished) → f ≡ record { number = c.value.number; pair = p; taken = (own start now came p c es old i).taken; fate = end }
     → new.lost ≡ count_lost (i.fs ++ f ∷ []) → IsFinished old.terms (unwrap_or old.start 0) f
-    → IsSentBy old.teller.form (told_by i.written old) old.terms (unwrap_or old.start 0) f → Follows start now came es new
-unreported start now came p c es old new end absent terms begin teller count none i f is lost finished sent =
+    → IsSentBy old.teller.form (told_by i.written old) old.terms (unwrap_or old.start 0) f
+    → AreRowsOf old.teller.form i.parts old.terms (unwrap_or old.start 0) f → Follows start now came es new
+unreported start now came p c es old new end absent terms begin teller count none i f is lost finished sent shows =
     let told = told_same i.written old new teller in
     let P : List ℕ → Type 0 = λ l. IsSentBy old.teller.form l old.terms (unwrap_or old.start 0) f in
     let reports : reports_of i.fs ≡ reports_of i.fs ++ report_in f.fate =
@@ -250,6 +278,9 @@ unreported start now came p c es old new end absent terms begin teller count non
     (ap (λ (g : Finished). g.pair) is)
     (subst (λ (l : List Arrival). IsShared p came i.fs l) (sym (ap (λ (g : Finished). g.taken) is)) (own start now came p c es old i).share)
     (λ stream w. told) (subst (λ l. Tells start now new.teller l i.written) reports tells) lost finished (subst P (sym told) sent)
+    i.parts [] (adds_nothing c.value.number i.parts)
+    (parts_same old.teller.form old.teller.form (reports_of i.fs) (reports_of (i.fs ++ f ∷ [])) (told_by i.written old) (told_by i.written new) i.parts refl
+    (reports_more i.fs f ∙ sym reports) told i.rows.rowed.parts_are) shows
 
 -- no byte of it was captured
 pub silent : (start now : TargetSeen) (came : List Arrival) (p : Pair) (c : Held) (es : List (Pair × Held)) (run : Run) → lookup (same_pair p) es ≡ None
@@ -258,7 +289,7 @@ silent start now came p c es run absent none i =
     let s = own start now came p c es run i in
     let f : Finished = record { number = c.value.number; pair = p; taken = s.taken; fate = Silent } in
     unreported start now came p c es run run Silent absent refl refl refl refl refl i f refl (i.known.lost ∙ lost_same i.fs f refl)
-    (sym s.is.0.has_payload ∙ none) (λ side small w. tt)
+    (sym s.is.0.has_payload ∙ none) (λ side small w. tt) (λ small. tt)
 
 -- its opening couldn't be ended
 pub lost_one : (start now : TargetSeen) (came : List Arrival) (p : Pair) (c : Held) (es : List (Pair × Held)) (old new : Run)
@@ -269,6 +300,7 @@ lost_one start now came p c es old new absent some terms begin teller lost count
     let f : Finished = record { number = c.value.number; pair = p; taken = s.taken; fate = Lost } in
     unreported start now came p c es old new Lost absent terms begin teller count refl i f refl
     (lost ∙ ap (λ n. min (n + 1) (2 ^ 64 - 1)) i.known.lost ∙ lost_more i.fs f refl) (sym s.is.0.has_payload ∙ some) (λ side small w. tt)
+    (λ small. tt)
 
 -- What is told after these bytes were appended, if a stream is told.
 appended : (written more : List ℕ) (old new : Run) → new.teller.text.items ≡ old.teller.text.items ++ more → told_by written new ≡ told_by written old ++ more
@@ -278,27 +310,49 @@ adds_more : (form : Form) (n : ℕ) (told told' more : List ℕ) → (is_stream 
     → AddsFor form n told told'
 adds_more form n told told' more is none stream w = is stream ∙ ap (λ (l : List ℕ). told ++ l) (none w) ∙ append-nil told
 
+-- Its opening is ended, and its report told: bytes of a stream come first, and rows, which show the last items.
+abbrev pub Reports : Teller → Teller → Heading → Talk → Talk → List ℕ → Type 0
+Reports t t' h last talk bytes = (a b : Past) (before : List Shown) → IsTalk a b last → AreShownIn (is_in_opening last) h a b last before
+    → (rows : List Shown) × AreShown h a b talk (before ++ filter is_item rows) × SaysAfter t t' h.connection h.start talk bytes rows
+
 pub reported : {A E : Type 0} (r : Result A E) (start now : TargetSeen) (came : List Arrival) (p : Pair) (c : Held) (es : List (Pair × Held))
     (old new : Run) → lookup (same_pair p) es ≡ None → c.value.has_payload ≡ true → new.terms ≡ old.terms → new.start ≡ old.start
     → new.lost ≡ old.lost → new.teller.form ≡ old.teller.form → new.begun ≡ old.begun → is_lost c.value.talk ≡ false → (talk : Talk)
     → ((a b : Past) → IsTalk a b c.value.talk → IsEnded a b c.value.talk talk) → (Q : Type 0) → ((a b : Past) → IsTalk a b c.value.talk → Q)
-    → OnOk r (Q → Says old.teller new.teller c.value.number (unwrap_or old.start 0) talk) → OnErr r (Q → TellsOn old.teller new.teller)
-    → (more : List ℕ) → OnOk r (is_stream old.teller.form ≡ true → Q → new.teller.text.items ≡ old.teller.text.items ++ more)
+    → OnErr r (Q → TellsOn old.teller new.teller) → (more : List ℕ)
+    → OnOk r (is_stream old.teller.form ≡ true → Q → new.teller.text.items ≡ old.teller.text.items ++ more)
     → OnErr r (is_stream old.teller.form ≡ true → Q
     → (new.teller.text.items ≡ old.teller.text.items) ⊎ (new.teller.text.items ≡ old.teller.text.items ++ more))
     → (wanted_by old.teller.form c.value.number ≡ None → more ≡ []) → EndsStream old.teller.form c.value.number c.value.talk more
+    → OnOk r (Reports old.teller new.teller (heading_of old.teller.form c.value.number (unwrap_or old.start 0)) c.value.talk talk more)
     → Follows start now came ((p, c) ∷ es) old → Goes start now came es new r
-reported (Ok x) start now came p c es old new absent some terms begin lost form count there talk ended Q shown says nothing more text part none ends i =
+reported (Ok x) start now came p c es old new absent some terms begin lost form count there talk ended Q shown nothing more text part none ends reports i =
     let s = own start now came p c es old i in
     let n = c.value.number in
     let m = s.is.0.made there in
     let q = shown m.a m.b m.made.is in
-    let said = says q in
+    let from = unwrap_or old.start 0 in
+    let head = heading_of old.teller.form n from in
     let told = told_by i.written old in
+    let own = own_rows_of old.teller.form old.terms from i.parts told old.begun came i.fs p c es s.taken s.share i.rows in
+    let g = own.1 there in
+    let w = reports g.0.a g.0.b own.0 g.0.made.is g.1 in
+    let said = w.2 in
+    let others = said.3 in
     let told' = told_by i.written new in
     let f : Finished = record { number = n; pair = p; taken = s.taken; fate = Reported said.0 } in
     let is : is_stream old.teller.form ≡ true → told' ≡ told ++ more = λ stream. appended i.written more old new (text stream q) in
-    let from = unwrap_or old.start 0 in
+    let all = w.0 ++ others in
+    let last : List ℕ = (more ++ shown_texts (showing_by old.teller.form) all) ++ report_by old.teller.form said.0 in
+    let parts = i.parts ++ parts_of_report more all said.0 in
+    let gets : AddsRows n (filter is_item w.0) i.parts parts =
+    adds_by n (filter is_item w.0) i.parts (parts_of_report more all said.0) (items_of_report more w.0 others said.0 said.4)
+    (more_of false head g.0.a g.0.b talk own.0 (filter is_item w.0) w.1) in
+    let parts_are : ArePartsOf old.teller.form (reports_of (i.fs ++ f ∷ [])) told' parts =
+    parts_same old.teller.form old.teller.form (reports_of i.fs ++ said.0 ∷ []) (reports_of (i.fs ++ f ∷ [])) (told ++ last) told' parts refl
+    (reports_more i.fs f) (appended i.written last old new said.5)
+    (parts_more old.teller.form (reports_of i.fs) (said.0 ∷ []) told last i.parts (parts_of_report more all said.0) refl
+    (text_of_report old.teller.form n more all said.0 none) i.rows.rowed.parts_are) in
     let report : (k : IsMade old.terms s.taken [] c.value.talk) → IsReported old.terms from n s.taken said.0 = λ k.
     let e = ended k.a k.b k.made.is in
     record {
@@ -320,7 +374,9 @@ reported (Ok x) start now came p c es old new absent some terms begin lost form 
     let k = h.0 in
     let R : List ℕ → Type 0 = λ l. IsSent false (of_side side k.a k.b) l in
     (report k, subst R (sym (is (wanted_stream old.teller.form n side w))) (ends k.a k.b side told k.made.is w h.1)))
-reported (Err x) start now came p c es old new absent some terms begin lost form count there talk ended Q shown says nothing more text part none ends i =
+    parts (filter is_item w.0) gets parts_are (λ small.
+    (report g.0, subst (λ l. AreShown head g.0.a g.0.b talk l) (sym (gets.0 ∙ ap (λ (l : List Shown). l ++ filter is_item w.0) (own.2 small))) w.1))
+reported (Err x) start now came p c es old new absent some terms begin lost form count there talk ended Q shown nothing more text part none ends reports i =
     let m = (own start now came p c es old i).is.0.made there in
     let q = shown m.a m.b m.made.is in
     let told = told_by i.written old in
@@ -353,8 +409,9 @@ begun_most a n e = omega (arith, e)
 pub begun : (start now : TargetSeen) (came : List Arrival) (x : Arrival) (p : Pair) (c : Held) (es : List (Pair × Held)) (old new : Run)
     → lookup (same_pair p) es ≡ None → new.terms ≡ old.terms → new.start ≡ old.start → new.lost ≡ old.lost → new.teller ≡ old.teller
     → new.begun ≡ min (old.begun + 1) (2 ^ 64 - 1) → IsOpen old.terms [] (x ∷ []) c.value → c.value.number ≡ old.begun
-    → ((side : Side) → HasSent side [] old.terms [] (x ∷ []) c.value) → Follows start now came es old → Holds start now came x p c es new
-begun start now came x p c es old new absent terms begin lost teller count is number sent i =
+    → ((side : Side) → HasSent side [] old.terms [] (x ∷ []) c.value) → ((h : Heading) → HasShown h [] old.terms [] (x ∷ []) c.value)
+    → Follows start now came es old → Holds start now came x p c es new
+begun start now came x p c es old new absent terms begin lost teller count is number sent shown i =
     let form = ap (λ (t : Teller). t.form) teller in
     let told = told_by i.written old in
     let told' = told_by i.written new in
@@ -377,6 +434,10 @@ begun start now came x p c es old new absent terms begin lost teller count is nu
       absent = absent;
       apart = i.apart;
       others = λ k e. shares_same i.written i.written came i.fs old new k (lookup (same_pair k) es) terms form same (i.shared k);
+      parts = i.parts;
+      rows = rows_to_same old.teller.form new.teller.form i.parts told told' old.terms new.terms from (unwrap_or new.start 0) new.begun came i.fs x p []
+          c.value es form same terms (ap (λ o. unwrap_or o 0) begin)
+          (rows_begun old.teller.form old.terms from i.parts told old.begun new.begun came i.fs x p c.value es number count shown i.rows);
     }
 
 pub held : (start now : TargetSeen) (came : List Arrival) (x : Arrival) (p : Pair) (c : Held) (es : List (Pair × Held)) (run : Run)
@@ -396,6 +457,8 @@ held start now came x p c es run absent i =
       absent = absent;
       apart = apart_rest (p, c) es i.apart;
       others = others_of run.teller.form run.terms came i.fs (told_by i.written run) p c es i.shared;
+      parts = i.parts;
+      rows = rows_held run.teller.form run.terms (unwrap_or run.start 0) i.parts (told_by i.written run) run.begun came i.fs x p c es s.taken s.share i.rows;
     }
 
 -- The connection takes the segment.
@@ -408,8 +471,11 @@ pub follows_took : (start now : TargetSeen) (came : List Arrival) (x : Arrival) 
     → ((side : Side) → wanted_by old.teller.form c.value.number ≡ Some side
     → HasSent side (told_by i.written old) old.terms i.taken (x ∷ []) c.value
     → HasSent side (told_by i.written old ++ more) old.terms (i.taken ++ x ∷ []) [] c'.value)
+    → ((before : List Shown) → let h = heading_of old.teller.form c.value.number (unwrap_or old.start 0) in HasShown h before old.terms i.taken (x ∷ []) c.value
+    → (rows : List Shown) × ShowsOn h before rows old.terms i.taken x c'.value
+    × (new.teller.text.items ≡ old.teller.text.items ++ (shown_texts (showing_by old.teller.form) rows ++ more)))
     → Follows start now (came ++ x ∷ []) ((p, c') ∷ es) new
-follows_took start now came x p c c' es old new ends terms begin lost count form tells number i is more text none sends =
+follows_took start now came x p c c' es old new ends terms begin lost count form tells number i is more text none sends shows =
     let n = c.value.number in
     let shown = old.teller.form in
     let told = told_by i.written old in
@@ -424,6 +490,21 @@ follows_took start now came x p c c' es old new ends terms begin lost count form
     let below : n < 2 ^ 64 - 1 = subst (λ k. k < 2 ^ 64 - 1) number small in
     let R : List ℕ → Type 0 = λ l. HasSent side l old.terms (i.taken ++ x ∷ []) [] c'.value in
     subst R (sym (same (wanted_stream shown n side w'))) (sends side w' (i.sends side below w')) in
+    let own = i.rows.own in
+    let w = shows own.0 own.1 in
+    let items = filter is_item w.0 in
+    let rows_text : List ℕ = shown_texts (showing_by shown) w.0 ++ more in
+    let parts = i.parts ++ parts_of_segment more w.0 in
+    let gets : AddsRows n items i.parts parts = adds_by n items i.parts (parts_of_segment more w.0) (items_of_segment more w.0) w.1.are_of in
+    let parts_are : ArePartsOf shown (reports_of i.fs) told' parts =
+    parts_same shown shown (reports_of i.fs ++ []) (reports_of i.fs) (told ++ rows_text) told' parts refl (sym (append-nil (reports_of i.fs)))
+    (appended i.written rows_text old new w.2)
+    (parts_more shown (reports_of i.fs) [] told rows_text i.parts (parts_of_segment more w.0) refl (text_of_segment shown n more w.0 none)
+    i.rows.rowed.parts_are) in
+    let N : ℕ → Type 0 = λ k.
+    (rows : List Shown) × HasShown (heading_of shown k from) rows old.terms (i.taken ++ x ∷ []) [] c'.value × (k < 2 ^ 64 - 1 → item_rows k parts ≡ rows) in
+    let shows_now : IsShowing shown parts old.terms from (i.taken ++ x ∷ []) [] c'.value =
+    subst N (sym number) (own.0 ++ items, w.1.shown, λ small. gets.0 ∙ ap (λ (l : List Shown). l ++ items) (own.2 small)) in
     record {
       fs = i.fs;
       written = i.written;
@@ -435,6 +516,11 @@ follows_took start now came x p c c' es old new ends terms begin lost count form
           (streaming_took shown told told' old.terms from old.begun i.fs p c c' es number adds i.streams);
       shared = λ k. share_same shown new.teller.form told' told' old.terms new.terms (came ++ x ∷ []) i.fs k (lookup (same_pair k) ((p, c') ∷ es)) form
           refl terms (took shown old.terms came i.fs told' p c' es i.taken x ends i.share is sent others k);
+      parts = parts;
+      rows = rows_same shown new.teller.form parts told' told' old.terms new.terms from (unwrap_or new.start 0) old.begun new.begun (came ++ x ∷ []) i.fs
+          ((p, c') ∷ es) form refl terms (ap (λ o. unwrap_or o 0) begin) count
+          (rows_took shown old.terms from i.parts parts told told' old.begun came i.fs x p i.taken c c' es items ends i.share
+          (alone_over old.begun i.fs p c es i.streams.numbered) alone (has_begun old.begun i.fs p c es i.streams.numbered) gets parts_are shows_now i.rows);
     }
 
 more_shared : (k : Pair) (came more : List Arrival) (fs : List Finished) (rest : List Arrival) → IsShared k came fs rest
@@ -515,6 +601,9 @@ started start now [] old new time is begin terms lost teller table count i =
       streams = streaming_same old.teller.form new.teller.form told told' old.terms new.terms from' from' old.begun new.begun i.fs old.table form same terms
           refl count (streaming_started old.teller.form told old.terms from from' old.begun i.fs old.table none i.streams);
       shared = λ k. shares_same i.written i.written [] i.fs old new k (lookup (same_pair k) old.table) terms form same (i.shared k);
+      parts = i.parts;
+      rows = rows_same old.teller.form new.teller.form i.parts told told' old.terms new.terms from' from' old.begun new.begun [] i.fs old.table form same
+          terms refl count (rows_started old.teller.form i.parts told old.terms from from' old.begun i.fs old.table none i.rows);
     } in
     subst P (sym table) follows
 started start now (p ∷ ps) old new time is begin terms lost teller table count i =
@@ -559,6 +648,9 @@ follows_out start now came p c es out run found is i =
           (streaming_out form told run.terms (unwrap_or run.start 0) run.begun i.fs (same_pair p) p c es found i.streams);
       shared = subst (λ l. (k : Pair) → Shares i.written came i.fs run k (lookup (same_pair k) ((p, c) ∷ l))) (sym is)
           (moved form run.terms came i.fs told es ((p, c) ∷ gone) (lookup_back p c es found) i.shared);
+      parts = i.parts;
+      rows = subst (λ l. Rows i.parts i.written came i.fs ((p, c) ∷ l) run) (sym is)
+          (rows_moved form run.terms (unwrap_or run.start 0) i.parts told run.begun came i.fs es ((p, c) ∷ gone) (lookup_back p c es found) i.rows);
     }
 
 -- They are in another order.
@@ -575,6 +667,8 @@ follows_moved start now came es gs run moves i =
       apart = apart_moved es gs moves i.apart;
       streams = streaming_moved form told run.terms (unwrap_or run.start 0) run.begun i.fs es gs moves i.streams;
       shared = moved form run.terms came i.fs told es gs (lookup_moved es gs moves i.apart) i.shared;
+      parts = i.parts;
+      rows = rows_moved form run.terms (unwrap_or run.start 0) i.parts told run.begun came i.fs es gs (lookup_moved es gs moves i.apart) i.rows;
     }
 
 -- The connection of the segment x is given up.
@@ -621,5 +715,8 @@ follows_nothing start run tells empty lost count none =
       known = record { tells = tells; finished = All-nil (IsFinished run.terms from); lost = lost };
       streams = subst Q (sym count) (streaming_nothing run.teller.form (told_by [] run) run.terms from empty);
       shared = λ k. record { taken = []; is = refl; share = refl };
+      parts = [];
+      rows = subst (λ n. IsRowing run.teller.form [] (told_by [] run) run.terms from n [] [] []) (sym count)
+          (rows_nothing run.teller.form (told_by [] run) run.terms from empty);
     } in
     subst P (sym none) follows

@@ -21,16 +21,16 @@ use Rattle.bt_capture.proofs.Streaming.{AddsFor, other_open, sending_on}
 pub filter_and : {X : Type 0} (p : X → Bool) (xs : List X) (x : X) → p x ≡ true → filter p (xs ++ x ∷ []) ≡ filter p xs ++ x ∷ []
 filter_and p xs x e = filter-append p xs (x ∷ []) ∙ ap (λ l. filter p xs ++ l) (rw e refl)
 
-filter_less : {X : Type 0} (p : X → Bool) (xs : List X) (x : X) → p x ≡ false → filter p (xs ++ x ∷ []) ≡ filter p xs
+pub filter_less : {X : Type 0} (p : X → Bool) (xs : List X) (x : X) → p x ≡ false → filter p (xs ++ x ∷ []) ≡ filter p xs
 filter_less p xs x e = filter-append p xs (x ∷ []) ∙ ap (λ l. filter p xs ++ l) (rw e refl) ∙ append-nil (filter p xs)
 
-taken_and : (k : Pair) (fs : List Finished) (f : Finished) → same_pair k f.pair ≡ true → taken_between k (fs ++ f ∷ []) ≡ taken_between k fs ++ f.taken
+pub taken_and : (k : Pair) (fs : List Finished) (f : Finished) → same_pair k f.pair ≡ true → taken_between k (fs ++ f ∷ []) ≡ taken_between k fs ++ f.taken
 taken_and k fs f e =
     let test : Finished → Bool = λ g. same_pair k g.pair in
     let taken : Finished → List Arrival = λ g. g.taken in
     ap (flat_map taken) (filter_and test fs f e) ∙ flat_map-append taken (filter test fs) (f ∷ []) ∙ ap (λ l. taken_between k fs ++ l) (append-nil f.taken)
 
-taken_less : (k : Pair) (fs : List Finished) (f : Finished) → same_pair k f.pair ≡ false → taken_between k (fs ++ f ∷ []) ≡ taken_between k fs
+pub taken_less : (k : Pair) (fs : List Finished) (f : Finished) → same_pair k f.pair ≡ false → taken_between k (fs ++ f ∷ []) ≡ taken_between k fs
 taken_less k fs f e = let test : Finished → Bool = λ g. same_pair k g.pair in ap (flat_map (λ g. g.taken)) (filter_less test fs f e)
 
 module _ (form : Form) (terms : Terms) (came : List Arrival) (fs : List Finished) where
@@ -120,7 +120,7 @@ share_same form form' told told' terms terms' came fs k o a b c i =
     (subst (λ x. IsShare form told x came fs k o) (sym c) i))
 
 -- A connection that has begun may take one segment more.
-first_more : (taken : List Arrival) (x : Arrival) (s : _) → IsFirst s (taken ++ []) → IsFirst s (taken ++ x ∷ [])
+pub first_more : (taken : List Arrival) (x : Arrival) (s : _) → IsFirst s (taken ++ []) → IsFirst s (taken ++ x ∷ [])
 first_more [] x s i = absurd i
 first_more (y ∷ ys) x s i = i
 

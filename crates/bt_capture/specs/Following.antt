@@ -1,6 +1,6 @@
 -- The connections of a capture: those that are over, and those that aren't.
 use Rattle.bt_talk.specs.declared.terms.Terms.{Terms}
-use Rattle.std.specs.Prelude.{◌≡◌, ◌⊎◌, ◌==◌, ℕ, ◌+◌, ◌-◌, ◌^◌, ◌<◌, min, nat_lt, Bool, true, false, if◌then◌else◌, List, [], ◌∷◌, ◌++◌, length}
+use Rattle.std.specs.Prelude.{◌≡◌, ◌⊎◌, ◌==◌, ℕ, ◌+◌, ◌-◌, ◌^◌, ◌<◌, ◌≤◌, min, nat_lt, Bool, true, false, if◌then◌else◌, List, [], ◌∷◌, ◌++◌, length}
 use Rattle.std.specs.Prelude.{Option, Some, None, unwrap_or, Result, Ok, Err}
 use Rattle.std.specs.List.{All, count_by, filter, flat_map, list_any}
 use Rattle.std.specs.Map.{lookup}
@@ -9,7 +9,7 @@ use Rattle.bt_packet.specs.declared.tcp.Segment.{Segment}
 use Rattle.bt_talk.specs.Pasts.{Past}
 use Rattle.bt_remarks.specs.declared.events.Side.{Side}
 use Rattle.bt_talk.specs.Sent.{IsSent}
-use Rattle.bt_talk.specs.Talks.{IsTalk, ends_of, flow_of, terms_of, is_in_opening, is_lost, of_side}
+use Rattle.bt_talk.specs.Talks.{AreShown, IsTalk, ends_of, flow_of, terms_of, is_in_opening, is_lost, of_side}
 use Rattle.bt_talk.specs.declared.talk.Talk.{Talk}
 use Rattle.bt_told.specs.declared.report.Report.{Report}
 use Rattle.bt_capture.specs.Arrivals.{Arrival, is_between, has_data}
@@ -17,8 +17,9 @@ use Rattle.bt_capture.specs.Connections.{IsFirst, IsMade, IsMadeOf, IsOpen}
 use Rattle.bt_capture.specs.Forms.{absent_from, wanted_by}
 use Rattle.bt_capture.specs.Reportings.{IsReportOf}
 use Rattle.bt_capture.specs.Sending.{IsSending}
+use Rattle.bt_capture.specs.Rowed.{IsShowing, heading_of}
 use Rattle.bt_capture.specs.Tables.{Held, IsApart, same_pair}
-use Rattle.bt_capture.specs.Tellings.{Tells}
+use Rattle.bt_capture.specs.Tellings.{ArePartsOf, Part, Tells, item_rows}
 use Rattle.bt_capture.specs.declared.connection.Connection.{Connection}
 use Rattle.bt_capture.specs.declared.connections.Run.{Run}
 use Rattle.bt_capture.specs.declared.ending.Form.{Form}
@@ -140,6 +141,50 @@ pub record IsShare (form : Form) (told : List ℕ) (terms : Terms) (arrivals : L
   pub is : IsLeft form told terms taken left
   pub share : IsShared k arrivals fs taken
 
+-- ---- the rows of items
+
+abbrev pub AreRowsBy : Form → List Part → Terms → (from number : ℕ) → List Arrival → Fate → Type 0
+AreRowsBy form parts terms from number taken (Reported r) =
+    (i : IsReported terms from number taken r) × AreShown (heading_of form number from) i.a i.b i.talk (item_rows number parts)
+AreRowsBy form parts terms from number taken Silent = Unit {0}
+AreRowsBy form parts terms from number taken Lost = Unit {0}
+
+-- The rows of this connection among the parts show the items of both its sides: a row for each item of the streams of which the report tells,
+-- those of a side in its order. Nothing is said of a connection without a report.
+abbrev pub AreRowsOf : Form → List Part → Terms → ℕ → Finished → Type 0
+AreRowsOf form parts terms from f = f.number < 2 ^ 64 - 1 → AreRowsBy form parts terms from f.number f.taken f.fate
+
+-- These parts are told. Their rows show the items of the connections that are over, and of none that hasn't begun.
+pub record AreRowed (form : Form) (parts : List Part) (text : List ℕ) (terms : Terms) (from begun : ℕ) (fs : List Finished) : Type 0 where
+  pub parts_are : ArePartsOf form (reports_of fs) text parts
+  pub over : All (AreRowsOf form parts terms from) fs
+  pub none : (n : ℕ) → begun ≤ n → n < 2 ^ 64 - 1 → item_rows n parts ≡ []
+
+-- The connection that isn't over took these segments, and the rows show its items; or there is none.
+abbrev pub IsLeftShown : Form → List Part → Terms → (from : ℕ) → List Arrival → Option Held → Type 0
+IsLeftShown form parts terms from taken (Some c) = IsShowing form parts terms from taken [] c.value
+IsLeftShown form parts terms from taken None = Unit {0}
+
+-- The rows of the connection between two ends that isn't over, if there is one, show the items of the segments that it took.
+pub record IsRowShare (form : Form) (parts : List Part) (terms : Terms) (from : ℕ) (arrivals : List Arrival) (fs : List Finished) (k : Pair)
+    (left : Option Held) : Type 0 where
+  pub taken : List Arrival
+  pub share : IsShared k arrivals fs taken
+  pub is : IsLeftShown form parts terms from taken left
+
+-- The rows among these parts show the items of all connections, of which these aren't over.
+pub record IsRowing (form : Form) (parts : List Part) (text : List ℕ) (terms : Terms) (from begun : ℕ) (arrivals : List Arrival) (fs : List Finished)
+    (es : List (Pair × Held)) : Type 0 where
+  pub rowed : AreRowed form parts text terms from begun fs
+  pub shares : (k : Pair) → IsRowShare form parts terms from arrivals fs k (lookup (same_pair k) es)
+
+-- The connection between the ends p takes the segment x next, and isn't among the others.
+pub record IsRowingTo (form : Form) (parts : List Part) (text : List ℕ) (terms : Terms) (from begun : ℕ) (arrivals : List Arrival) (fs : List Finished)
+    (x : Arrival) (p : Pair) (taken : List Arrival) (c : Connection) (es : List (Pair × Held)) : Type 0 where
+  pub rowed : AreRowed form parts text terms from begun fs
+  pub own : IsShowing form parts terms from taken (x ∷ []) c
+  pub others : (k : Pair) → same_pair k p ≡ false → IsRowShare form parts terms from arrivals fs k (lookup (same_pair k) es)
+
 -- ---- what was handed out so far
 
 -- A connection with this number isn't over: it took the first of these segments between its ends, and these bytes of its side's stream were handed
@@ -179,6 +224,11 @@ Streams written fs es run = IsStreaming run.teller.form (told_by written run) ru
 abbrev pub Shares : List ℕ → List Arrival → List Finished → Run → Pair → Option Held → Type 0
 Shares written arrivals fs run k left = IsShare run.teller.form (told_by written run) run.terms arrivals fs k left
 
+-- the rows that are told
+abbrev pub Rows : List Part → List ℕ → List Arrival → List Finished → List (Pair × Held) → Run → Type 0
+Rows parts written arrivals fs es run =
+    IsRowing run.teller.form parts (told_by written run) run.terms (unwrap_or run.start 0) run.begun arrivals fs es
+
 -- These segments were taken. These connections, no two of the same ends, aren't over, and the others are told. All of them have begun.
 pub record Follows (start now : TargetSeen) (arrivals : List Arrival) (es : List (Pair × Held)) (run : Run) : Type 0 where
   pub fs : List Finished
@@ -188,6 +238,8 @@ pub record Follows (start now : TargetSeen) (arrivals : List Arrival) (es : List
   pub apart : IsApart es
   pub streams : Streams written fs es run
   pub shared : (k : Pair) → Shares written arrivals fs run k (lookup (same_pair k) es)
+  pub parts : List Part
+  pub rows : Rows parts written arrivals fs es run
 
 -- These segments came. Connections are over and told, the others are given up.
 pub record Stops (start now : TargetSeen) (arrivals : List Arrival) (run : Run) : Type 0 where
@@ -216,6 +268,8 @@ pub record Holds (start now : TargetSeen) (arrivals : List Arrival) (x : Arrival
   pub absent : lookup (same_pair p) es ≡ None
   pub apart : IsApart es
   pub others : (k : Pair) → same_pair k p ≡ false → Shares written arrivals fs run k (lookup (same_pair k) es)
+  pub parts : List Part
+  pub rows : IsRowingTo run.teller.form parts (told_by written run) run.terms (unwrap_or run.start 0) run.begun arrivals fs x p taken c.value es
 
 -- The connection of the next segment x was found or begun; or memory ran out.
 abbrev pub Finds : {E : Type 0} → TargetSeen → TargetSeen → List Arrival → Arrival → Pair → List (Pair × Held) → Run → Result Held E → Type 0

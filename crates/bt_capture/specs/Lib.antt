@@ -10,6 +10,7 @@ pub mod Pairs
 pub mod Readings
 pub mod Reads
 pub mod Reportings
+pub mod Rowed
 pub mod Runs
 pub mod Sees
 pub mod Sending

@@ -1,6 +1,6 @@
 -- What was told of a capture.
 use Rattle.bt_talk.specs.declared.terms.Terms.{Terms}
-use Rattle.std.specs.Prelude.{◌≡◌, ◌⊎◌, ℕ, ◌-◌, ◌^◌, ◌<◌, ◌++◌, min, Bool, true, false, List, [], length, Option, Some, unwrap_or}
+use Rattle.std.specs.Prelude.{◌≡◌, ◌⊎◌, ℕ, ◌-◌, ◌^◌, ◌<◌, ◌≤◌, ◌++◌, min, Bool, true, false, List, [], length, Option, Some, unwrap_or}
 use Rattle.std.specs.Prelude.{Result, Ok, Err, if◌then◌else◌}
 use Rattle.std.specs.List.{All, Contains}
 use Rattle.std.specs.Io.KnownBytes.{Appends, Consumes}
@@ -18,7 +18,8 @@ use Rattle.bt_capture.specs.declared.packets.FileEnd.TheVariants.{Whole, Cut}
 use Rattle.bt_capture.specs.declared.pair.Pair.{Pair}
 use Rattle.bt_capture.specs.Arrivals.{Arrival, arrivals, first_time}
 use Rattle.bt_capture.specs.Ends.{IsEnded}
-use Rattle.bt_capture.specs.Following.{Finished, IsFinished, IsSentBy, IsShared, IsStreamOf, IsStreamSoFar, AreNumbered, Follows, reports_of, count_lost}
+use Rattle.bt_capture.specs.Following.{AreRowsOf, Finished, IsFinished, IsSentBy, IsShared, IsStreamOf}
+use Rattle.bt_capture.specs.Following.{IsStreamSoFar, AreNumbered, Follows, reports_of, count_lost}
 use Rattle.bt_capture.specs.Readings.{Reading, IsReading}
 use Rattle.bt_capture.specs.Tables.{Held}
 use Rattle.bt_utp.specs.Flows.{flows}
@@ -26,7 +27,7 @@ use Rattle.bt_utp.specs.States.{AreCounted}
 use Rattle.bt_capture.specs.FlowTexts.{datagrams, flow_texts}
 use Rattle.bt_capture.specs.Forms.{absent_from, is_stream}
 use Rattle.bt_packet.specs.declared.utp.Utp.{Utp}
-use Rattle.bt_capture.specs.Tellings.{AreTexts, count_torrents, is_one_refused}
+use Rattle.bt_capture.specs.Tellings.{ArePartsOf, AreTexts, Part, count_torrents, is_one_refused, item_rows}
 
 -- ---- what a run begins with
 
@@ -82,6 +83,14 @@ pub record IsStreamTold (o : Origin) (packets : List Captured) (fs : List Finish
   pub sent : All (IsSentBy o.form text o.terms (unwrap_or (first_time packets) 0)) fs
   pub untold : (n : ℕ) → absent_from o.form (length fs) ≡ Some n → n < 2 ^ 64 - 1 → text ≡ []
 
+-- The text is made of these parts: the reports, and rows. The rows of each connection with a report show the items of both its sides; no row
+-- is of a connection that hasn't begun. Rows have no text if they aren't asked for.
+pub record AreRowsTold (o : Origin) (packets : List Captured) (fs : List Finished) (text : List ℕ) : Type 0 where
+  pub parts : List Part
+  pub parts_are : ArePartsOf o.form (reports_of fs) text parts
+  pub rows : All (AreRowsOf o.form parts o.terms (unwrap_or (first_time packets) 0)) fs
+  pub none : (n : ℕ) → length fs ≤ n → n < 2 ^ 64 - 1 → item_rows n parts ≡ []
+
 abbrev pub is_cut_by : FileEnd → Bool
 is_cut_by Whole = false
 is_cut_by Cut = true
@@ -109,6 +118,7 @@ pub record IsEndOf (o : Origin) (left : Option (List ℕ)) (now : TargetSeen) (e
   pub text : List ℕ
   pub texts_are : AreTexts o.form (reports_of fs) text
   pub stream : IsStreamTold o packets fs text
+  pub rows : AreRowsTold o packets fs text
   pub written : Appends o.target.held now.held (text ++ utp_lines o.form packets)
   pub calm : now.failed ≡ o.target.failed
   pub torrents : end.torrents ≡ count_torrents (reports_of fs)
@@ -132,6 +142,7 @@ pub record AreWritten (o : Origin) (left : Option (List ℕ)) (now : TargetSeen)
   pub text : List ℕ
   pub texts_are : AreTexts o.form (reports_of fs) text
   pub stream : IsStreamTold o packets fs text
+  pub rows : AreRowsTold o packets fs text
   pub written : Appends o.target.held now.held (text ++ utp_lines o.form packets)
 
 abbrev pub StreamsSoFar : Origin → List Captured → List Finished → List ℕ → Type 0

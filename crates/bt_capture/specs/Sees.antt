@@ -1,5 +1,5 @@
 -- What was seen of the source of a capture file.
-use Rattle.std.specs.Prelude.{◌≡◌, ◌⊎◌, ⊤, Bool, true, false, Option, Some, None, Result, Ok, Err}
+use Rattle.std.specs.Prelude.{◌≡◌, ⊤, Bool, true, false, Option, Some, None, Result, Ok, Err}
 use Rattle.bt_io.specs.Counts.{one_more}
 use Rattle.bt_io.specs.Seen.{SourceSeen}
 use Rattle.bt_capture.specs.declared.ending.CaptureFault.{CaptureFault}

@@ -1,12 +1,12 @@
 -- The reports of connections, in order, and what they add up to.
-use Rattle.std.specs.Prelude.{◌≡◌, ℕ, ◌^◌, ◌-◌, min, Bool, true, false, List, [], ◌∷◌, ◌++◌, length, if◌then◌else◌}
+use Rattle.std.specs.Prelude.{◌≡◌, ◌==◌, ℕ, ◌^◌, ◌-◌, min, Bool, true, false, List, [], ◌∷◌, ◌++◌, length, if◌then◌else◌}
 use Rattle.std.specs.List.{flat_map, filter, list_any}
 use Rattle.std.specs.Io.KnownBytes.{Appends}
 use Rattle.bt_io.specs.Seen.{TargetSeen, AppendsPrefix, WriteFailed}
 use Rattle.bt_told.specs.Findings.{finding_of}
 use Rattle.bt_told.specs.Objects.{report_object}
 use Rattle.bt_told.specs.Reports.{report_text}
-use Rattle.bt_talk.specs.Rows.{Shown, shown_texts}
+use Rattle.bt_talk.specs.Rows.{Shown, is_item, shown_texts}
 use Rattle.bt_talk.specs.Pasts.{Past}
 use Rattle.bt_talk.specs.Talks.{IsTalk}
 use Rattle.bt_talk.specs.declared.talk.Talk.{Talk}
@@ -61,6 +61,19 @@ report_of_part (OfReport r) = r ∷ []
 report_of_part (OfRows rows) = []
 report_of_part (OfBytes bytes) = []
 
+abbrev pub rows_of_part : Part → List Shown
+rows_of_part (OfReport r) = []
+rows_of_part (OfRows rows) = rows
+rows_of_part (OfBytes bytes) = []
+
+-- The row is of the connection with this number.
+abbrev pub is_row_of : ℕ → Shown → Bool
+is_row_of n s = s.row.connection == n
+
+-- the rows that show items of the connection with this number
+abbrev pub item_rows : ℕ → List Part → List Shown
+item_rows n parts = filter (is_row_of n) (filter is_item (flat_map rows_of_part parts))
+
 -- A report has no text if only a stream is told.
 abbrev pub report_by : Form → Report → List ℕ
 report_by form r = if is_stream form then [] else text_by form.json r
@@ -69,6 +82,10 @@ abbrev pub part_text : Form → Part → List ℕ
 part_text form (OfReport r) = report_by form r
 part_text form (OfRows rows) = shown_texts (showing_by form) rows
 part_text form (OfBytes bytes) = if is_stream form then bytes else []
+
+-- The text is that of these parts, of which these are the reports.
+abbrev pub ArePartsOf : Form → List Report → List ℕ → List Part → Type 0
+ArePartsOf form reports text parts = (flat_map report_of_part parts ≡ reports) × (text ≡ flat_map (part_text form) parts)
 
 -- The text is that of these reports, in order, and of rows before, between and after them. If only a stream is told it is its bytes.
 pub record AreTexts (form : Form) (reports : List Report) (text : List ℕ) : Type 0 where
@@ -109,6 +126,15 @@ abbrev pub Says : Teller → Teller → (number from : ℕ) → Talk → Type 0
 Says t t' number from talk =
     (r : Report) × ((a b : Past) → IsTalk a b talk → IsReportOf number from a b talk r)
     × ((start now : TargetSeen) (reports : List Report) (written : List ℕ) → Tells start now t reports written → Tells start now t' (reports ++ r ∷ []) written)
+    × (t'.text.items ≡ t.text.items ++ report_by t.form r)
+
+-- As Says. These bytes of a stream are told first, then these rows and others, which show no item, and then the report.
+abbrev pub SaysAfter : Teller → Teller → (number from : ℕ) → Talk → List ℕ → List Shown → Type 0
+SaysAfter t t' number from talk bytes rows =
+    (r : Report) × ((a b : Past) → IsTalk a b talk → IsReportOf number from a b talk r)
+    × ((start now : TargetSeen) (reports : List Report) (written : List ℕ) → Tells start now t reports written → Tells start now t' (reports ++ r ∷ []) written)
+    × (others : List Shown) × (filter is_item others ≡ [])
+    × (t'.text.items ≡ t.text.items ++ ((bytes ++ shown_texts (showing_by t.form) (rows ++ others)) ++ report_by t.form r))
 
 -- All is written.
 abbrev pub IsEmpty : Teller → Type 0

@@ -2,13 +2,16 @@
 ghost use Rattle.bt_talk.specs.declared.terms.Terms.{Terms};
 ghost use Rattle.std.specs.Prelude.{false, ◌≡◌, ◌<◌, ◌^◌, ◌++◌, ◌∷◌, List, [], Option, Some, ℕ};
 ghost use Rattle.bt_talk.specs.declared.closing.When.{When};
+ghost use Rattle.bt_talk.specs.declared.rows.Heading.{Heading};
 ghost use Rattle.bt_capture.specs.Arrivals.{Arrival, arrived, has_data};
 ghost use Rattle.bt_remarks.specs.declared.events.Side.{Side};
 ghost use Rattle.bt_talk.specs.Rooms.{rows_in, sent_in, showing_in, wanted_in};
 ghost use Rattle.bt_capture.specs.Sending.{HasSent};
+ghost use Rattle.bt_capture.specs.Rowed.{HasShown, ShowsOn};
 ghost use Rattle.bt_capture.specs.Connections.{IsOpen};
 ghost use Rattle.bt_capture.specs.Shown.{AreOfSegment, HasRows};
 ghost use Rattle.bt_talk.specs.Pasts.{Past};
+ghost use Rattle.bt_talk.specs.Rows.{Shown, shown_texts};
 ghost use Rattle.bt_talk.specs.Talks.{IsTalk, is_lost};
 
 use bt_packet::Segment;
@@ -50,6 +53,7 @@ impl Connection {
     pub fn new(alloc: Global, number: u64, first: &Segment, terms: Terms) -> Connection
         ensures open { (when : When) → IsOpen terms [] (arrived first.now when ∷ []) result }
         ensures sent { (when : When) (side : Side) → HasSent side [] terms [] (arrived first.now when ∷ []) result }
+        ensures shown { (when : When) (h : Heading) → HasShown h [] terms [] (arrived first.now when ∷ []) result }
         ensures number { result.number ≡ number }
     {
         Connection {
@@ -73,6 +77,10 @@ impl Connection {
             → AreOfSegment (rows_in room.old).heading segment.now when a b self.old.talk self.new.talk (rows_in room.new) }
         ensures sent { (terms : Terms) (taken : List Arrival) (side : Side) (sent : List ℕ) → let a = arrived segment.now when in wanted_in room.old ≡ Some side
             → HasSent side sent terms taken (a ∷ []) self.old → HasSent side (sent ++ sent_in room.new) terms (taken ++ a ∷ []) [] self.new }
+        ensures shown { (terms : Terms) (taken : List Arrival) (before : List Shown) → let a = arrived segment.now when in (rows_in room.old).text.items ≡ []
+            → HasShown (rows_in room.old).heading before terms taken (a ∷ []) self.old
+            → (rows : List Shown) × ((rows_in room.new).text.items ≡ shown_texts (showing_in room.old) rows)
+            × ShowsOn (rows_in room.old).heading before rows terms taken a self.new }
         ensures number { self.new.number ≡ self.old.number }
     {
         self.has_payload |= has_payload(segment);

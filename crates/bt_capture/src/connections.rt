@@ -13,9 +13,11 @@ ghost use Rattle.bt_capture.specs.Connections.{IsOpen};
 ghost use Rattle.bt_remarks.specs.declared.events.Side.{Side};
 ghost use Rattle.bt_talk.specs.Pasts.{Past};
 ghost use Rattle.bt_talk.specs.Rooms.{heading_by, rows_in};
+ghost use Rattle.bt_talk.specs.Rows.{Shown, shown_texts};
 ghost use Rattle.bt_talk.specs.Talks.{IsTalk, is_lost};
 ghost use Rattle.bt_capture.specs.Shown.{AreOfSegment};
 ghost use Rattle.bt_capture.specs.Sending.{HasSent, IsSentOff};
+ghost use Rattle.bt_capture.specs.Rowed.{HasShown, ShowsOn, heading_of};
 ghost use Rattle.bt_capture.specs.Forms.{absent_from, handed, is_stream, showing_by, wanted_by};
 ghost use Rattle.bt_capture.specs.Bounds.{IsBounded, IsCounted};
 ghost use Rattle.bt_capture.specs.Following.{Follows, Goes, Finds};
@@ -36,6 +38,7 @@ use crate::utp::flow_lines;
 use bt_packet::Segment;
 use bt_pcap::Packet;
 use bt_talk::{Room, Terms, When};
+use bt_told::Left;
 use bt_utp::UtpFlows;
 use std::alloc::{AllocError, Global};
 use std::hash::RandomState;
@@ -109,9 +112,11 @@ impl Run {
 
     /// Tells of a connection that is over, if a byte of it was captured.
     ///
+    /// `left` says how the connection was left, if no side closed it.
+    ///
     /// # Errors
     /// `AllocError` when out of memory. The connection isn't told then.
-    pub fn report(&mut self, mut connection: Box<Connection>) -> Result<(), AllocError>
+    pub fn report(&mut self, mut connection: Box<Connection>, left: Left) -> Result<(), AllocError>
         ensures goes { (start now : TargetSeen) (came : List Arrival) (p : Pair) (es : List (Pair × Held)) → lookup (same_pair p) es ≡ None
             → Follows start now came ((p, connection) ∷ es) self.old → Goes start now came es self.new result }
         ensures sent { OnOk result ((terms : Terms) (taken : List Arrival) (side : Side) (sent : List ℕ) → connection.value.has_payload ≡ true
@@ -134,9 +139,13 @@ impl Run {
         self.room
             .turn_to(self.teller.showing(), connection.number, from, wanted);
         match connection.talk.end_opening(&mut self.room) {
-            Ok(()) => self
-                .teller
-                .report(&connection.talk, connection.number, from, &mut self.room),
+            Ok(()) => self.teller.report(
+                &connection.talk,
+                connection.number,
+                from,
+                left,
+                &mut self.room,
+            ),
             Err(_) => {
                 self.lost = self.lost.saturating_add(1);
                 Ok(())
@@ -158,7 +167,7 @@ impl Run {
         match self.table.take_oldest() {
             Some((_, oldest)) => {
                 self.bytes = self.bytes.saturating_sub(oldest.size());
-                self.report(oldest)
+                self.report(oldest, Left::Unread)
             }
             None => Ok(()),
         }
@@ -256,7 +265,7 @@ impl Run {
         if !connection.talk.is_over(when.nanos) && !connection.talk.opens_again(segment) {
             return Ok(connection);
         }
-        match self.report(connection) {
+        match self.report(connection, Left::Replaced) {
             Ok(()) => self.begin(segment),
             Err(error) => Err(error),
         }
@@ -312,6 +321,11 @@ impl Run {
         ensures shows { (a b : Past) → IsTalk a b connection.old.talk → is_lost connection.new.talk ≡ false
             → AreOfSegment (heading_by (showing_by self.old.teller.form) connection.old.number (unwrap_or self.old.start 0)) segment.now when a b
             connection.old.talk connection.new.talk (rows_in self.new.room) }
+        ensures shown { OnOk result ((terms : Terms) (taken : List Arrival) (before : List Shown) → let a = arrived segment.now when in
+            let h = heading_of self.old.teller.form connection.old.number (unwrap_or self.old.start 0) in HasShown h before terms taken (a ∷ []) connection.old
+            → (rows : List Shown) × ShowsOn h before rows terms taken a connection.new
+            × (self.new.teller.text.items ≡ self.old.teller.text.items ++ (shown_texts (showing_by self.old.teller.form) rows
+            ++ handed self.old.teller.form connection.new.number self.new.room))) }
         ensures number { connection.new.number ≡ connection.old.number }
         ensures sent { (terms : Terms) (taken : List Arrival) (side : Side) (sent : List ℕ) → let a = arrived segment.now when in
             wanted_by self.old.teller.form connection.old.number ≡ Some side → HasSent side sent terms taken (a ∷ []) connection.old
@@ -330,7 +344,7 @@ impl Run {
         self.teller.show(connection.number, &self.room)
     }
 
-    /// Ends the connection of these ends, if there is one.
+    /// Ends the connection of these ends, which was closed, if there is one.
     fn end(&mut self, pair: Pair) -> Result<(), AllocError>
         ensures goes { (start now : TargetSeen) (came : List Arrival) → Follows start now came self.old.table self.old
             → Goes start now came self.new.table self.new result }
@@ -343,7 +357,7 @@ impl Run {
         match self.table.take_out(pair) {
             Some(connection) => {
                 self.bytes = self.bytes.saturating_sub(connection.size());
-                self.report(connection)
+                self.report(connection, Left::Open)
             }
             None => Ok(()),
         }

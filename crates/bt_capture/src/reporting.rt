@@ -12,7 +12,7 @@ use bt_remarks::Side;
 use bt_talk::Talk;
 use bt_tcp::{Gap, Gaps};
 use bt_told::{
-    Before, Body, Closed, Direction, Judged, Means, Remarked, Report, Sender, Title, Told,
+    Before, Body, Closed, Direction, Judged, Left, Means, Remarked, Report, Sender, Title, Told,
 };
 use bt_wire::Handshake;
 
@@ -168,7 +168,9 @@ fn remarks_of(talk: &Talk) -> (Remarked, Remarked)
 }
 
 /// Returns what is known of a connection, in a capture that starts at this time.
-pub fn body_of(talk: &Talk, from: u64) -> Body
+///
+/// `left` says how the connection was left, if no side closed it.
+pub fn body_of(talk: &Talk, from: u64, left: Left) -> Body
     ensures { (a b : Past) → IsTalk a b talk.now → IsBodyOf from a b talk.now result }
 {
     match has_begun(talk.start(Side::A), talk.start(Side::B)) {
@@ -179,6 +181,7 @@ pub fn body_of(talk: &Talk, from: u64) -> Body
                 a: direction_of(talk, Side::A),
                 b: direction_of(talk, Side::B),
                 closed: closed_of(talk, from),
+                left,
                 remarked_a,
                 remarked_b,
             })
@@ -189,8 +192,8 @@ pub fn body_of(talk: &Talk, from: u64) -> Body
 /// Returns the report on a connection.
 ///
 /// Its verdicts are those of both streams, as far as they were captured.
-/// `from` is the time of the capture's first packet.
-pub fn report_of(talk: &Talk, number: u64, from: u64) -> Report
+/// `from` is the time of the capture's first packet. `left` says how the connection was left, if no side closed it.
+pub fn report_of(talk: &Talk, number: u64, from: u64, left: Left) -> Report
     ensures { (a b : Past) → IsTalk a b talk.now → IsReportOf number from a b talk.now result }
 {
     let ends = talk.ends();
@@ -198,6 +201,6 @@ pub fn report_of(talk: &Talk, number: u64, from: u64) -> Report
         number,
         a: ends.a,
         b: ends.b,
-        body: body_of(talk, from),
+        body: body_of(talk, from, left),
     }
 }

@@ -21,6 +21,7 @@ use crate::fault::ReadFault;
 use crate::packets::{FileEnd, Packets};
 use bt_io::{Source, Target};
 use bt_jobs::output::write_out;
+use bt_told::Left;
 use std::alloc::Global;
 use std::hash::RandomState;
 
@@ -168,7 +169,7 @@ fn tell_last<W: Target>(
         → IsTelling o left (W.seen writer.old) ((p, connection) ∷ es) run.old r → IsAfter o left (W.seen writer.new) es run.new r result }
     ensures fault { IfErr result IsOfTelling }
 {
-    match run.report(connection) {
+    match run.report(connection, Left::Open) {
         Ok(()) => write_if_full(run, writer),
         Err(_) => Err(CaptureFault::Memory),
     }

@@ -14,7 +14,7 @@ use bt_io::{Target, WriteFault};
 use bt_jobs::output::write_out;
 use bt_remarks::Side;
 use bt_talk::{Room, Showing, Talk};
-use bt_told::{Finding, Report, put_report, put_report_object};
+use bt_told::{Finding, Left, Report, put_report, put_report_object};
 use std::alloc::{AllocError, Global};
 
 /// How many bytes of text are kept before they are written.
@@ -87,7 +87,7 @@ pub struct Teller {
 }
 
 impl Teller {
-    ghost use Rattle.bt_capture.specs.Tellings.{Tells, TellsOn, Says, IsStopped, count_torrents, is_one_refused, IsEmpty};
+    ghost use Rattle.bt_capture.specs.Tellings.{Tells, TellsOn, Says, SaysAfter, IsStopped, count_torrents, is_one_refused, IsEmpty};
 
     /// Starts with no report.
     pub fn new(alloc: Global, form: Form) -> Teller
@@ -179,7 +179,13 @@ impl Teller {
     }
 
     /// Tells the report on a connection, whose number and rows the room has, in a capture that starts at this time.
-    fn report_on(&mut self, talk: &Talk, number: u64, from: u64) -> Result<(), AllocError>
+    fn report_on(
+        &mut self,
+        talk: &Talk,
+        number: u64,
+        from: u64,
+        left: Left,
+    ) -> Result<(), AllocError>
         ensures told { OnOk result (Says self.old self.new number from talk.now) }
         ensures same { OnErr result (TellsOn self.old self.new) }
         ensures text { OnOk result (is_stream self.old.form ≡ true → self.new.text.items ≡ self.old.text.items) }
@@ -187,7 +193,7 @@ impl Teller {
         ensures form { self.new.form ≡ self.old.form }
     {
         let ends = talk.ends();
-        let body = body_of(talk, from);
+        let body = body_of(talk, from, left);
         match self.tell(&Report {
             number,
             a: ends.a,
@@ -201,6 +207,8 @@ impl Teller {
 
     /// Tells the last rows of a connection, those of its gaps, and the report on it, in a capture that starts at this time.
     ///
+    /// `left` says how the connection was left, if no side closed it.
+    ///
     /// If only a stream is told, these are the bytes that the room has, if they are of it.
     ///
     /// # Errors
@@ -210,9 +218,11 @@ impl Teller {
         talk: &Talk,
         number: u64,
         from: u64,
+        left: Left,
         room: &mut Room,
     ) -> Result<(), AllocError>
-        ensures told { OnOk result (HasRows (showing_by self.old.form) room.old → Says self.old self.new number from talk.now) }
+        ensures told { OnOk result ((h : HasRows (showing_by self.old.form) room.old)
+            → SaysAfter self.old self.new number from talk.now (handed self.old.form number room.old) h.rows) }
         ensures same { OnErr result (HasRows (showing_by self.old.form) room.old → TellsOn self.old self.new) }
         ensures text { OnOk result (is_stream self.old.form ≡ true → HasRows (showing_by self.old.form) room.old
             → self.new.text.items ≡ self.old.text.items ++ handed self.old.form number room.old) }
@@ -223,7 +233,7 @@ impl Teller {
         self.hand_out(number, room)?;
         talk.show_gaps(room)?;
         self.show_rows(room)?;
-        self.report_on(talk, number, from)?;
+        self.report_on(talk, number, from, left)?;
         Ok(())
     }
 

@@ -8,7 +8,7 @@ use bt_json::message_line;
 use bt_remarks::Side;
 use bt_text::ended::Ended;
 use bt_told::{
-    Body, Deed, Direction, Report, Title, Told, Words, put_report_object, put_row_object,
+    Body, Deed, Direction, Left, Report, Title, Told, Words, put_report_object, put_row_object,
     put_utp_object,
 };
 use bt_wire::{Handshake, MessageView, Reason, Reserved};
@@ -77,7 +77,7 @@ fn guessed(rt: HostRuntime) -> Result<(), Fail> {
 }
 
 /// A report that explains refusals, and has a name with quotes, a backslash and a byte that isn't ASCII.
-fn explained() -> Report {
+fn explained(left: Left) -> Report {
     let index = bad(2, Reason::BadIndex, 73, b"\0\0\0\x05\x04\0\0\0\x26", 78);
     let protocol = bad(0, Reason::BadProtocol, 0, b"\x13BitTorrent protocoL", 19);
     let ended = Ended::Accepted {
@@ -93,17 +93,24 @@ fn explained() -> Report {
         a: refused_twice(index, protocol),
         b: Direction { exchange: 600, ..b },
         closed: None,
+        left,
         remarked_a: NO_REMARKS,
         remarked_b: NO_REMARKS,
     };
     report(Body::Told(told))
 }
 
+/// How a connection that nobody closed was left, and the members on that.
+const LEFT: &[(Left, &[u8])] = &[
+    (Left::Open, b""),
+    (Left::Unread, b",\"not_read_further\":true"),
+    (Left::Replaced, b",\"replaced\":true"),
+];
+
 /// Nobody closed.
 #[test]
 fn refused(rt: HostRuntime) -> Result<(), Fail> {
-    let out = object_of(&rt, &explained())?;
-    let wanted = b"\
+    let front = b"\
 {\"connection\":0,\"a\":\"10.0.0.1:51413\",\"b\":\"10.0.0.2:6881\",\"bittorrent\":true,\
 \"from_a\":{\"name\":\"-AA0001-000000000000\",\"free\":{\"verdict\":\"refused\",\"message\":2,\"offset\":78,\
 \"reason\":\"BadIndex\",\
@@ -112,9 +119,14 @@ fn refused(rt: HostRuntime) -> Result<(), Fail> {
 \"why\":\"A stream begins with the byte 19 and the text \\\"BitTorrent protocol\\\", and byte 19 is 0x4c\"},\
 \"receiver\":{\"reserved\":\"0000000000100005\",\"pieces\":38}},\"from_b\":{\"name\":\"a \\\"b\\\" \\\\c.\",\
 \"exchange\":600,\"free\":{\"verdict\":\"ok\",\"messages\":1,\"bytes\":73},\"bep\":{\"verdict\":\"ok\",\"messages\":1,\
-\"bytes\":73},\"receiver\":{\"reserved\":\"0000000000100005\",\"metadata_id\":2}}}
-";
-    assert_eq!(rt; out.as_slice(), wanted.as_slice());
+\"bytes\":73},\"receiver\":{\"reserved\":\"0000000000100005\",\"metadata_id\":2}}";
+    for (left, members) in LEFT {
+        let out = object_of(&rt, &explained(*left))?;
+        let mut wanted = Vec::from_slice(rt.alloc(), front)?;
+        wanted.extend_from_slice(members)?;
+        wanted.extend_from_slice(b"}\n")?;
+        assert_eq!(rt; out.as_slice(), wanted.as_slice());
+    }
     Ok(())
 }
 

@@ -6,7 +6,7 @@ use bt_remarks::{Remarks, Side};
 use bt_tcp::{Gap, Gaps};
 use bt_text::ended::Ended;
 use bt_told::{
-    Before, Body, Closed, Deed, Direction, Finding, Judged, Last, Means, Noted, Numbers,
+    Before, Body, Closed, Deed, Direction, Finding, Judged, Last, Left, Means, Noted, Numbers,
     RefusedMessage, Remarked, Report, Row, Said, Sender, Title, Told, UtpPackets, Words,
     put_report, put_row, put_utp,
 };
@@ -160,6 +160,7 @@ pub(crate) fn with_gaps() -> Report {
         a,
         b,
         closed: Some(closed),
+        left: Left::Open,
         remarked_a: NO_REMARKS,
         remarked_b: NO_REMARKS,
     }))
@@ -230,6 +231,7 @@ pub(crate) fn with_remarks() -> Report {
         a,
         b,
         closed: Some(closed),
+        left: Left::Open,
         remarked_a,
         remarked_b,
     };
@@ -303,6 +305,7 @@ pub(crate) fn with_a_guess() -> Report {
         a,
         b,
         closed: Some(closed),
+        left: Left::Open,
         remarked_a: NO_REMARKS,
         remarked_b: NO_REMARKS,
     };
@@ -339,36 +342,64 @@ fn cut(at: u64, pieces: Option<u32>) -> (Direction, Direction) {
     (a, b)
 }
 
+/// How a connection that nobody closed was left: what cuts a message, and the line on that.
+const LEFT: &[(Left, &[u8], &[u8])] = &[
+    (
+        Left::Open,
+        b"cut by the capture's end",
+        b"  still open at the capture's end\n",
+    ),
+    (
+        Left::Unread,
+        b"cut: not read further",
+        b"  not read further: too many connections at once\n",
+    ),
+    (
+        Left::Replaced,
+        b"cut by a later connection",
+        b"  not closed; a later connection has the same ports\n",
+    ),
+];
+
 /// A key exchange comes first, and nobody closes.
 #[test]
 fn open(rt: HostRuntime) -> Result<(), Fail> {
-    let (a, b) = cut(75, None);
-    let told = Told {
-        a: Direction { exchange: 600, ..a },
-        b: Direction { exchange: 500, ..b },
-        closed: None,
-        remarked_a: NO_REMARKS,
-        remarked_b: NO_REMARKS,
-    };
-    let out = text_of(&rt, &report(Body::Told(told)))?;
-    let wanted = b"connection 0  A 10.0.0.1:51413 > B 10.0.0.2:6881
+    let front = b"connection 0  A 10.0.0.1:51413 > B 10.0.0.2:6881
   A -AA0001-000000000000
     handshake after 600 bytes of a key exchange; offsets count from it
-    free refused message=2 at=75 EndInside (cut by the capture's end)
-    bep  refused message=2 at=75 EndInside (cut by the capture's end)
+    free refused message=2 at=75 EndInside (";
+    let between = b")
+    bep  refused message=2 at=75 EndInside (";
+    let after = b")
     options --reserved 0000000000100005 --metadata-id 0
   B -BB0001-000000000000
     handshake after 500 bytes of a key exchange; offsets count from it
     free ok messages=0 bytes=68
     bep  ok messages=0 bytes=68
     options --reserved 0000000000100005 --metadata-id 0
-  still open at the capture's end
 ";
-    assert_eq!(rt; out.as_slice(), wanted.as_slice());
+    for (left, note, line) in LEFT {
+        let (a, b) = cut(75, None);
+        let told = Told {
+            a: Direction { exchange: 600, ..a },
+            b: Direction { exchange: 500, ..b },
+            closed: None,
+            left: *left,
+            remarked_a: NO_REMARKS,
+            remarked_b: NO_REMARKS,
+        };
+        let out = text_of(&rt, &report(Body::Told(told)))?;
+        let mut wanted = Vec::from_slice(rt.alloc(), front)?;
+        wanted.extend_from_slice(note)?;
+        wanted.extend_from_slice(between)?;
+        wanted.extend_from_slice(note)?;
+        wanted.extend_from_slice(after)?;
+        wanted.extend_from_slice(line)?;
+        assert_eq!(rt; out.as_slice(), wanted.as_slice());
+    }
     Ok(())
 }
 
-/// B closes in the middle of a message of A.
 #[test]
 fn cut_by_the_other(rt: HostRuntime) -> Result<(), Fail> {
     let (a, b) = cut(75, None);
@@ -384,6 +415,7 @@ fn cut_by_the_other(rt: HostRuntime) -> Result<(), Fail> {
         a,
         b,
         closed: Some(closed),
+        left: Left::Open,
         remarked_a: NO_REMARKS,
         remarked_b: NO_REMARKS,
     };
@@ -440,6 +472,7 @@ fn refused_and_limited(rt: HostRuntime) -> Result<(), Fail> {
             ..b
         },
         closed: Some(closed),
+        left: Left::Open,
         remarked_a: NO_REMARKS,
         remarked_b: NO_REMARKS,
     };
@@ -508,6 +541,7 @@ pub(crate) fn both(a: Direction, b: Direction) -> Report {
         a,
         b,
         closed: Some(closed),
+        left: Left::Open,
         remarked_a: NO_REMARKS,
         remarked_b: NO_REMARKS,
     }))
@@ -726,6 +760,7 @@ fn is_refused(closer: Option<Side>) -> bool {
         a,
         b,
         closed,
+        left: Left::Open,
         remarked_a: NO_REMARKS,
         remarked_b: NO_REMARKS,
     };

@@ -1,5 +1,6 @@
 -- The last that a side had sent when the connection was closed.
-use Rattle.std.proofs.Common.{◌≡◌, ◌∙◌, ℕ, ◌+◌, ◌-◌, ◌≤◌, min, List, [], ◌++◌, append-nil, drop, take, length, Option, Some, None, refl, sym, ap, subst, arith, length-append, length-take, inl, inr}
+use Rattle.std.proofs.Common.{◌≡◌, ◌∙◌, ℕ, ◌+◌, ◌-◌, ◌≤◌, min, List, [], ◌++◌, append-nil, drop, take}
+use Rattle.std.proofs.Common.{length, Option, Some, None, refl, sym, ap, subst, arith, length-append, length-take, inl, inr}
 use Rattle.std.proofs.lemmas.Bool.{cases_lt}
 use Rattle.std.proofs.lemmas.List.{drop-take, drop_all, take-append-le, take_all}
 use Rattle.bt_ext.specs.declared.ids.Rules.TheVariants.{Free}

@@ -110,7 +110,8 @@ takes_alike s when a b t t' u u' i k x =
       a' = x.a';
       b' = x.b';
       is = talk_alike x.a' x.b' t' u' k x.is;
-      sent = subst (λ (o : Bool). HasSent s o (of_side x.side a b) (flow_of x.side u) (of_side x.side x.a' x.b') (flow_of x.side u')) (sym (opening_alike t u i))
+      sent = subst (λ (o : Bool). HasSent s o (of_side x.side a b) (flow_of x.side u) (of_side x.side x.a' x.b') (flow_of x.side u'))
+          (sym (opening_alike t u i))
           (sent_same s (is_in_opening t) (of_side x.side a b) _ _ (of_side x.side x.a' x.b') _ _ (sym (flow x.side)) (sym (flow' x.side)) x.sent);
       acked = x.acked;
       opening = λ o. end_same x.a' x.b' _ _ _ _ (ap (λ (n : ℕ). min (n + 1) (2 ^ 32 - 1)) (sym i.segments)) (ap not (sym (opening_alike t' u' k)))

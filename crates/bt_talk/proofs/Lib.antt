@@ -12,3 +12,4 @@ pub mod Sent
 pub mod Closes
 pub mod AskedItems
 pub mod Lent
+pub mod Grows

@@ -1,6 +1,7 @@
 -- Receivers and judges, by what a side has sent.
 use Rattle.bt_talk.specs.declared.terms.Terms.{Terms}
-use Rattle.std.proofs.Common.{◌≡◌, ◌∙◌, ℕ, ◌+◌, ◌≤◌, List, ◌++◌, length, take, drop, ◌-◌, length-drop, Option, Some, None, unwrap_or, refl, sym, ap, subst, arith, length-append, inl, inr}
+use Rattle.std.proofs.Common.{◌≡◌, ◌∙◌, ℕ, ◌+◌, ◌≤◌, List, ◌++◌, length, take, drop, ◌-◌, length-drop}
+use Rattle.std.proofs.Common.{Option, Some, None, unwrap_or, refl, sym, ap, subst, arith, length-append, inl, inr}
 use Rattle.std.proofs.lemmas.Bool.{cases_lt}
 use Rattle.std.proofs.lemmas.List.{drop-append-le, take_all}
 use Rattle.bt_wire.specs.declared.context.Own.{Own}
@@ -62,7 +63,8 @@ silent front v n (inr s) = absurd (n s.0 s.1.near s.1.here)
 -- Without a handshake there is no receiver.
 pub none_without : (terms : Terms) (p other : Past) (r : Receiver) → HasNoHello p.front → IsReceiver terms p other (Some r) → ⊥
 none_without terms p other r n i =
-    let e : Some r ≡ None = i.is ∙ ap (λ (o : Option Announced). receiver_by (own_of_other i.theirs.items) o (pieces_for terms (first_of handshake_of i.own.items)) (limit_of terms)) (silent p.front i.own n i.own_is) in
+    let e : Some r ≡ None = i.is ∙ ap (λ (o : Option Announced). receiver_by (own_of_other i.theirs.items) o
+    (pieces_for terms (first_of handshake_of i.own.items)) (limit_of terms)) (silent p.front i.own n i.own_is) in
     absurd (cc)
 
 pub receiver_same : (terms : Terms) (p q p' q' : Past) (r : Option Receiver) → p'.front ≡ p.front → q'.front ≡ q.front → IsReceiver terms p q r

@@ -1,5 +1,6 @@
 -- The bytes that are handed out.
-use Rattle.std.proofs.Common.{◌≡◌, ◌∙◌, ℕ, ◌≤◌, Bool, true, false, if◌then◌else◌, List, [], ◌++◌, append-nil, drop, length, Option, Some, None, unwrap_or, refl, sym, ap, subst, arith}
+use Rattle.std.proofs.Common.{◌≡◌, ◌∙◌, ℕ, ◌≤◌, Bool, true, false, if◌then◌else◌, List, [], ◌++◌, append-nil}
+use Rattle.std.proofs.Common.{drop, length, Option, Some, None, unwrap_or, refl, sym, ap, subst, arith}
 use Rattle.std.proofs.lemmas.List.{drop-append-le}
 use Rattle.bt_intro.specs.Hellos.{IsStartOf}
 use Rattle.bt_packet.specs.declared.tcp.Segment.{Segment}

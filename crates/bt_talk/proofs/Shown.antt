@@ -111,7 +111,7 @@ nil_right (x ∷ xs) ys e = absurd (cc)
 
 -- ---- the opening
 
-all_items : (h : Heading) (when : When) (side : Side) (known : Bool) (xs : List (ℕ × Item)) (events : List Told) (rows : List Shown)
+pub all_items : (h : Heading) (when : When) (side : Side) (known : Bool) (xs : List (ℕ × Item)) (events : List Told) (rows : List Shown)
     → AreItemRows h when side known xs events rows → filter is_item rows ≡ rows
 all_items h when side known [] events rows i = subst (λ (l : List Shown). filter is_item l ≡ l) (sym i) refl
 all_items h when side known (x ∷ xs) events [] i = absurd i

@@ -1,5 +1,6 @@
 -- What is kept of further items.
-use Rattle.std.proofs.Common.{◌≡◌, ◌∙◌, ℕ, Bool, true, false, List, [], ◌∷◌, ◌++◌, append-nil, append_assoc, Option, Some, None, refl, sym, ap, subst, if◌then◌else◌}
+use Rattle.std.proofs.Common.{◌≡◌, ◌∙◌, ℕ, Bool, true, false, List, [], ◌∷◌, ◌++◌}
+use Rattle.std.proofs.Common.{append-nil, append_assoc, Option, Some, None, refl, sym, ap, subst, if◌then◌else◌}
 use Rattle.bt_feed.specs.Pumps.{Took}
 use Rattle.bt_remarks.specs.declared.events.Remarks.{Remarks}
 use Rattle.bt_remarks.specs.declared.events.Side.{Side}

@@ -12,6 +12,7 @@ use Rattle.bt_intro.specs.Hellos.{IsStartOf}
 use Rattle.bt_intro.specs.Settling.{IsSideOf, is_settled}
 use Rattle.bt_tcp.specs.declared.covered.Gaps.{Gaps}
 use Rattle.bt_talk.specs.declared.direction.Direction.{Direction}
+use Rattle.bt_talk.specs.declared.rows.Heading.{Heading}
 use Rattle.bt_talk.specs.declared.rows.Rows.{Rows}
 use Rattle.bt_talk.specs.declared.talk.Talk.{Talk}
 use Rattle.bt_talk.specs.Pasts.{Past, HasSent, IsAcked}
@@ -22,7 +23,7 @@ use Rattle.bt_wire.specs.declared.item.Item.{Item}
 use Rattle.bt_talk.specs.Watching.{IsWatched}
 use Rattle.bt_talk.specs.Rows.{Shown, is_item}
 use Rattle.bt_talk.specs.Shows.{Appends}
-use Rattle.bt_talk.specs.Shown.{GoesShown, IsShown}
+use Rattle.bt_talk.specs.Shown.{AreTurnRows, GoesShown, IsShown, Turn, items_by, told_by}
 use Rattle.bt_talk.specs.Closing.{Closes}
 use Rattle.bt_talk.specs.Courses.{end_of, gap_rows}
 use Rattle.bt_talk.specs.Cuts.{cut_length, cut_after}
@@ -162,6 +163,24 @@ pub record Opens (a b : Past) (t t' : Talk) : Type 0 where
 pub record HasSettled (s : Segment) (when : When) (a b : Past) (t t' : Talk) (took : Takes s when a b t t') (r r' : Rows) : Type 0 where
   pub quiet : is_in_opening t' ≡ true → Appends [] r r'
   pub opened : is_in_opening t' ≡ false → HasOpened took.a' took.b' t'.a.stage t'.b.stage t'.watch r r'
+
+-- These rows show the items of both sides, as far as their streams are judged: a row for each item, those of a side in its order. It has the
+-- remarks on the item after those of the rows before it.
+pub record AreShown (h : Heading) (a b : Past) (t : Talk) (rows : List Shown) : Type 0 where
+  pub heard : IsHeard a b t.a.stage t.b.stage t.watch
+  pub turns : List Turn
+  pub told : heard.events ≡ told_by turns
+  pub items_are : (side : Side) → heard.items side ≡ items_by side turns
+  pub are : AreTurnRows h turns rows
+
+-- In the opening there are no rows. After it they show the items.
+abbrev pub AreShownIn : Bool → Heading → Past → Past → Talk → List Shown → Type 0
+AreShownIn true h a b t rows = rows ≡ []
+AreShownIn false h a b t rows = AreShown h a b t rows
+
+-- Rows are appended. With those before, they show all items of both sides; some rows show none.
+abbrev pub ShowsMore : Bool → Heading → Rows → Rows → Past → Past → Talk → List Shown → Type 0
+ShowsMore opening h r r' a b t before = (rows : List Shown) × Appends rows r r' × AreShownIn opening h a b t (before ++ filter is_item rows)
 
 -- The row of a side's first gap was appended, if it has one.
 pub record ShowsGap (side : Side) (t : Talk) (r r' : Rows) : Type 0 where

@@ -1,5 +1,5 @@
 -- What is kept of the items of both sides, as they come.
-use Rattle.std.specs.Prelude.{◌≡◌, ℕ, Bool, true, false, List, [], ◌∷◌, ◌++◌, Option, Some, None, if◌then◌else◌}
+use Rattle.std.specs.Prelude.{◌≡◌, ℕ, Bool, List, [], ◌∷◌, ◌++◌, Option, Some, None, if◌then◌else◌}
 use Rattle.bt_remarks.specs.declared.events.Remarks.{Remarks}
 use Rattle.bt_remarks.specs.declared.tallies.Found.{Found}
 use Rattle.bt_remarks.specs.declared.events.Side.{Side}

@@ -1,6 +1,7 @@
 //! One direction of a captured connection.
 ghost use Rattle.bt_talk.specs.declared.terms.Terms.{Terms};
-ghost use Rattle.std.specs.Prelude.{◌≡◌, ◌<◌, ◌≤◌, ◌++◌, ◌∷◌, ℕ, List, [], Bool, false, true, length, drop, unwrap_or, if◌then◌else◌, OnOk, IfOk, IfSome, Option, Some};
+ghost use Rattle.std.specs.Prelude.{◌≡◌, ◌<◌, ◌≤◌, ◌++◌, ◌∷◌, ℕ, List, [], Bool, false};
+ghost use Rattle.std.specs.Prelude.{true, length, drop, unwrap_or, if◌then◌else◌, OnOk, IfOk, IfSome, Option, Some};
 ghost use Rattle.bt_flow.specs.declared.flow.Flow.{Flow};
 ghost use Rattle.bt_intro.specs.Hearing.{IsHeardOf, HasNoMemory};
 ghost use Rattle.bt_intro.specs.Hellos.{IsStartOf};

@@ -11,7 +11,8 @@ ghost use Rattle.bt_talk.specs.Cuts.{IsCutBy, cut_length};
 ghost use Rattle.bt_talk.specs.Pasts.{Past};
 ghost use Rattle.bt_talk.specs.Receivers.{IsReceiver};
 ghost use Rattle.bt_talk.specs.Stages.{AreItemsIn, is_opening};
-ghost use Rattle.bt_talk.specs.Replays.{Aim, IsReplay, IsReplayBy, IsReplayOf, IsParted, IsOpened, IsFinished, HasOpened, Replays, AreReplayed, AreReplays, close_length, is_passed};
+ghost use Rattle.bt_talk.specs.Replays.{Aim, IsReplay, IsReplayBy, IsReplayOf, IsParted, IsOpened, IsFinished};
+ghost use Rattle.bt_talk.specs.Replays.{HasOpened, Replays, AreReplayed, AreReplays, close_length, is_passed};
 ghost use Rattle.bt_talk.specs.declared.rows.Rows.{Rows};
 ghost use Rattle.bt_talk.specs.Shown.{IsSeen, ShowsOthers};
 ghost use Rattle.bt_talk.specs.Watching.{IsLast, Watches};
@@ -364,7 +365,8 @@ pub(crate) fn judge_both(
 ) -> Result<(Opened, Opened), AllocError>
     ensures open { IfOk result (λ both. (is_opening both.0.stage ≡ false) × (is_opening both.1.stage ≡ false)) }
     ensures judged { IfOk result (λ both. (since : Rows) (terms : Terms) (p q : Past) (x y : Aim) → IsReceiver terms p q x.receiver
-        → IsReceiver terms q p y.receiver → AreReplayed since p q x y a.entry b.entry watch.old → IsOpened terms p q x.cut both.0 × IsOpened terms q p y.cut both.1
+        → IsReceiver terms q p y.receiver → AreReplayed since p q x y a.entry b.entry watch.old
+        → IsOpened terms p q x.cut both.0 × IsOpened terms q p y.cut both.1
         × HasOpened p q both.0.stage both.1.stage watch.new since watch.new.rows) }
 {
     go_through(marks, &mut a, &mut b, watch)?;

@@ -130,8 +130,9 @@ impl Talk {
     ghost use Rattle.std.specs.Option.{option_or};
     ghost use Rattle.bt_talk.specs.Closing.{Closes, still_open};
     ghost use Rattle.bt_talk.specs.Ends.{ends_by};
-    ghost use Rattle.bt_talk.specs.Talks.{IsTalk, HasSaid, Shows, Opens, HasSettled, Exchanges, Takes, Settles, ends_of, terms_of, closing_of, IsSender, is_in_opening, is_lost, flow_of, cut_of, direction_of, of_side};
-    ghost use Rattle.bt_talk.specs.Talks.{began_with};
+    ghost use Rattle.bt_talk.specs.Talks.{IsTalk, HasSaid, Shows, Opens, HasSettled, Exchanges, Takes, Settles, ends_of};
+    ghost use Rattle.bt_talk.specs.Talks.{terms_of, closing_of, IsSender, is_in_opening, is_lost, flow_of, cut_of, direction_of, of_side};
+    ghost use Rattle.bt_talk.specs.Talks.{began_with, AreShown, AreShownIn, ShowsMore};
     ghost use Rattle.bt_talk.specs.Cuts.{cut_after};
     ghost use Rattle.bt_talk.specs.Courses.{closes_by, course_of};
     ghost use Rattle.bt_talk.specs.Replays.{IsOpened, HasOpened};
@@ -171,7 +172,10 @@ impl Talk {
     /// Takes a segment that one of the sides sent.
     fn exchange(&mut self, segment: &Segment, room: &mut Room) -> Result<(), AllocError>
         ensures taken { OnOk result ((a b : Past) → IsTalk a b self.old → (x : Exchanges segment.now a b self.old self.new)
-            × (room.old.out.items ≡ [] → IsReady (is_in_opening self.old) (is_wanted x.side room.old.wanted) (of_side x.side a b) (of_side x.side x.a' x.b') room.new.out.items)) }
+            × (room.old.out.items ≡ [] → IsReady (is_in_opening self.old) (is_wanted x.side room.old.wanted) (of_side x.side a b)
+            (of_side x.side x.a' x.b') room.new.out.items)
+            × ((before : List Shown) → AreShown self.old.watch.rows.heading a b self.old before
+            → ShowsMore false self.old.watch.rows.heading self.old.watch.rows self.new.watch.rows x.a' x.b' self.new before)) }
         ensures opening { OnOk result (is_in_opening self.new ≡ is_in_opening self.old) }
         ensures cuts { OnOk result ((side : Side) → cut_of side self.new ≡ cut_of side self.old) }
         ensures order { OnOk result ((a b : Past) → IsTalk a b self.old → HasSaid segment.now self.old self.new) }
@@ -359,6 +363,7 @@ impl Talk {
         ensures watch { OnOk result (is_in_opening self.old ≡ false → self.new.watch ≡ self.old.watch) }
         ensures opened { OnOk result ((a b : Past) → IsTalk a b self.old → is_in_opening self.old ≡ true → Opens a b self.old self.new) }
         ensures after { OnOk result (is_in_opening self.old ≡ false → is_in_opening self.new ≡ false) }
+        ensures stages { OnOk result (is_in_opening self.old ≡ false → (self.new.a.stage ≡ self.old.a.stage) × (self.new.b.stage ≡ self.old.b.stage)) }
         ensures cuts { OnOk result ((a b : Past) (side : Side) → IsTalk a b self.old → cut_of side self.new ≡ cut_of side self.old) }
         ensures flows { OnOk result ((side : Side) → flow_of side self.new ≡ flow_of side self.old) }
         ensures ends { self.new.ends ≡ self.old.ends }
@@ -389,6 +394,7 @@ impl Talk {
             → cut_of side self.new ≡ cut_after flags self.old.closing.closed (length (of_side side a b).out) (cut_of side self.old) }
         ensures flows { (side : Side) → flow_of side self.new ≡ flow_of side self.old }
         ensures opening { is_in_opening self.new ≡ is_in_opening self.old }
+        ensures stages { (self.new.a.stage ≡ self.old.a.stage) × (self.new.b.stage ≡ self.old.b.stage) }
         ensures watch { self.new.watch ≡ self.old.watch }
         ensures ends { self.new.ends ≡ self.old.ends }
         ensures terms { self.new.terms ≡ self.old.terms }
@@ -435,7 +441,9 @@ impl Talk {
         ensures taken { OnOk result ((a b : Past) → IsTalk a b self.old → (took : Takes segment.now when a b self.old self.new)
             × (is_in_opening self.old ≡ true → HasSettled segment.now when a b self.old self.new took self.old.watch.rows self.new.watch.rows)
             × (room.old.out.items ≡ [] → (side : Side) → room.old.wanted ≡ Some side
-            → SendsOn (is_in_opening self.old) (of_side side a b) (is_in_opening self.new) (of_side side took.a' took.b') room.new.out.items)) }
+            → SendsOn (is_in_opening self.old) (of_side side a b) (is_in_opening self.new) (of_side side took.a' took.b') room.new.out.items)
+            × ((before : List Shown) → is_in_opening self.old ≡ false → AreShown self.old.watch.rows.heading a b self.old before
+            → ShowsMore false self.old.watch.rows.heading self.old.watch.rows self.new.watch.rows took.a' took.b' self.new before)) }
         ensures order { OnOk result ((a b : Past) → IsTalk a b self.old → is_in_opening self.old ≡ false
             → Shows segment.now self.old.watch.when self.old self.new self.old.watch.rows self.new.watch.rows) }
         ensures ends { self.new.ends ≡ self.old.ends }
@@ -480,6 +488,10 @@ impl Talk {
         ensures sent { OnOk result ((a b : Past) → IsTalk a b self.old → (took : Takes segment.now when a b self.old self.new)
             × ((side : Side) → wanted_in room.old ≡ Some side
             → SendsOn (is_in_opening self.old) (of_side side a b) (is_in_opening self.new) (of_side side took.a' took.b') (sent_in room.new))) }
+        ensures shown { OnOk result ((a b : Past) (before : List Shown) → IsTalk a b self.old
+            → AreShownIn (is_in_opening self.old) (rows_in room.old).heading a b self.old before
+            → (took : Takes segment.now when a b self.old self.new)
+            × ShowsMore (is_in_opening self.new) (rows_in room.old).heading (rows_in room.old) (rows_in room.new) took.a' took.b' self.new before) }
         ensures wanted { wanted_in room.new ≡ wanted_in room.old }
         ensures began { OnOk result (began_with self.new ≡ option_or (began_with self.old) (Some when)) }
         ensures rows { OnOk result ((a b : Past) → IsTalk a b self.old → (rows : List Shown) × Appends rows (rows_in room.old) (rows_in room.new)) }
@@ -539,6 +551,9 @@ impl Talk {
         ensures terms { terms_of self.new ≡ terms_of self.old }
         ensures sent { OnOk result ((a b : Past) (side : Side) → IsTalk a b self.old → wanted_in room.old ≡ Some side
             → SendsOn (is_in_opening self.old) (of_side side a b) (is_in_opening self.new) (of_side side a b) (sent_in room.new)) }
+        ensures shown { OnOk result ((a b : Past) (before : List Shown) → IsTalk a b self.old
+            → AreShownIn (is_in_opening self.old) (rows_in room.old).heading a b self.old before
+            → ShowsMore false (rows_in room.old).heading (rows_in room.old) (rows_in room.new) a b self.new before) }
         ensures wanted { wanted_in room.new ≡ wanted_in room.old }
     {
         let heading = room.rows.heading;

@@ -7,6 +7,8 @@ use Rattle.bt_told.specs.declared.report.Before.{Before}
 use Rattle.bt_told.specs.declared.report.Closed.{Closed}
 use Rattle.bt_told.specs.declared.report.Last.{Last}
 use Rattle.bt_told.specs.declared.report.Last.TheVariants.{Nothing, Item, Refused}
+use Rattle.bt_told.specs.declared.report.Left.{Left}
+use Rattle.bt_told.specs.declared.report.Left.TheVariants.{Open, Unread, Replaced}
 use Rattle.bt_told.specs.declared.report.Means.{Means}
 use Rattle.bt_told.specs.declared.report.Means.TheVariants.{Fin, Rst}
 use Rattle.bt_told.specs.Numbers.{time_text}
@@ -38,6 +40,11 @@ closed_text c =
     codes "  " ++ (side_text c.first ++ (codes " closed first, by " ++ (means_text c.by ++ (codes ", at " ++ (time_text c.at ++ (codes " s\n"
     ++ (before_text (other c.first) (before_of (other c.first) c) ++ before_text c.first (before_of c.first c))))))))
 
-abbrev pub closing_text : Option Closed → List ℕ
-closing_text None = codes "  still open at the capture's end\n"
-closing_text (Some c) = closed_text c
+abbrev pub left_text : Left → List ℕ
+left_text Open = codes "  still open at the capture's end\n"
+left_text Unread = codes "  not read further: too many connections at once\n"
+left_text Replaced = codes "  not closed; a later connection has the same ports\n"
+
+abbrev pub closing_text : Option Closed → Left → List ℕ
+closing_text None left = left_text left
+closing_text (Some c) left = closed_text c

@@ -15,8 +15,11 @@ use Rattle.bt_told.specs.declared.report.Body.{Body}
 use Rattle.bt_told.specs.declared.report.Body.TheVariants as body
 use Rattle.bt_told.specs.declared.report.Closed.{Closed}
 use Rattle.bt_told.specs.declared.report.Direction.{Direction}
+use Rattle.bt_told.specs.declared.report.End.{End}
 use Rattle.bt_told.specs.declared.report.Last.{Last}
 use Rattle.bt_told.specs.declared.report.Last.TheVariants.{Nothing, Item, Refused}
+use Rattle.bt_told.specs.declared.report.Left.{Left}
+use Rattle.bt_told.specs.declared.report.Left.TheVariants.{Open, Unread, Replaced}
 use Rattle.bt_told.specs.declared.report.Noted.{Noted}
 use Rattle.bt_told.specs.declared.report.Remarked.{Remarked}
 use Rattle.bt_told.specs.declared.report.Report.{Report}
@@ -28,7 +31,7 @@ use Rattle.bt_told.specs.Closings.{means_text}
 use Rattle.bt_told.specs.Members.{escaped, said_object, verdict_members}
 use Rattle.bt_told.specs.Names.{title_text}
 use Rattle.bt_told.specs.Numbers.{option_text, time_text}
-use Rattle.bt_told.specs.Reports.{closer}
+use Rattle.bt_told.specs.Reports.{end_by}
 use Rattle.bt_told.specs.Sides.{note, side_text}
 use Rattle.bt_told.specs.Whys.{why_text}
 
@@ -73,11 +76,11 @@ receiver_object own is_guessed =
     ++ (option_text (codes ",\"metadata_id\":") (metadata_id own.reg) ++ (option_text (codes ",\"donthave_id\":") (donthave_id own.reg)
     ++ (option_text (codes ",\"pieces\":") own.pieces ++ guess_member is_guessed)))))
 
-abbrev pub judged_members : Side → Bool → Option Side → Sender → List ℕ
-judged_members side has_gap closer (Unknown sent) = []
-judged_members side has_gap closer (Known j) =
-    verdict_object (codes ",\"free\":{") j.free (note j.free has_gap closer side) j.free_message j.receiver
-    ++ (verdict_object (codes ",\"bep\":{") j.bep (note j.bep has_gap closer side) j.bep_message j.receiver
+abbrev pub judged_members : Side → Bool → End → Sender → List ℕ
+judged_members side has_gap close (Unknown sent) = []
+judged_members side has_gap close (Known j) =
+    verdict_object (codes ",\"free\":{") j.free (note j.free has_gap close side) j.free_message j.receiver
+    ++ (verdict_object (codes ",\"bep\":{") j.bep (note j.bep has_gap close side) j.bep_message j.receiver
     ++ receiver_object j.receiver j.is_guessed)
 
 -- ---- remarks
@@ -92,10 +95,10 @@ remarked_members r =
     ++ (noted_member (codes ",\"again\":{\"count\":") r.again ++ (noted_member (codes ",\"unanswered\":{\"count\":") r.unanswered
     ++ noted_member (codes ",\"elsewhere\":{\"count\":") r.elsewhere)))
 
-abbrev pub direction_object : Side → Option Side → Direction → Remarked → List ℕ
-direction_object side closer d remarked =
+abbrev pub direction_object : Side → End → Direction → Remarked → List ℕ
+direction_object side close d remarked =
     sender_member d.sender ++ (count_member (codes ",\"exchange\":") d.exchange ++ (count_member (codes ",\"conflicts\":") d.conflicts
-    ++ (gap_members d.gaps.first d.gaps.count d.gaps.sum ++ (judged_members side (is_some d.gaps.first) closer d.sender
+    ++ (gap_members d.gaps.first d.gaps.count d.gaps.sum ++ (judged_members side (is_some d.gaps.first) close d.sender
     ++ (remarked_members remarked ++ codes "}")))))
 
 -- ---- the close
@@ -109,9 +112,14 @@ abbrev pub before_member : List ℕ → Option Before → List ℕ
 before_member key None = []
 before_member key (Some b) = (key ++ decimal b.sent) ++ (last_member b.last ++ codes "}")
 
-abbrev pub closed_member : Option Closed → List ℕ
-closed_member None = []
-closed_member (Some c) =
+abbrev pub left_member : Left → List ℕ
+left_member Open = []
+left_member Unread = codes ",\"not_read_further\":true"
+left_member Replaced = codes ",\"replaced\":true"
+
+abbrev pub closed_member : Option Closed → Left → List ℕ
+closed_member None left = left_member left
+closed_member (Some c) left =
     codes ",\"closed\":{\"side\":\"" ++ (side_text c.first ++ (codes "\",\"by\":\"" ++ (means_text c.by ++ (codes "\",\"time\":" ++ (time_text c.at
     ++ (before_member (codes ",\"a\":{\"sent\":") c.a ++ (before_member (codes ",\"b\":{\"sent\":") c.b ++ codes "}")))))))
 
@@ -119,8 +127,8 @@ closed_member (Some c) =
 
 abbrev pub told_members : Told → List ℕ
 told_members t =
-    codes ",\"from_a\":" ++ (direction_object A (closer t.closed) t.a t.remarked_a ++ (codes ",\"from_b\":"
-    ++ (direction_object B (closer t.closed) t.b t.remarked_b ++ (closed_member t.closed ++ codes "}\n"))))
+    codes ",\"from_a\":" ++ (direction_object A (end_by t.closed t.left) t.a t.remarked_a ++ (codes ",\"from_b\":"
+    ++ (direction_object B (end_by t.closed t.left) t.b t.remarked_b ++ (closed_member t.closed t.left ++ codes "}\n"))))
 
 abbrev pub body_members : Body → List ℕ
 body_members body.NotBitTorrent = codes "\",\"bittorrent\":false}\n"

@@ -7,6 +7,9 @@ use Rattle.bt_told.specs.declared.report.Body.{Body}
 use Rattle.bt_told.specs.declared.report.Body.TheVariants as body
 use Rattle.bt_told.specs.declared.report.Closed.{Closed}
 use Rattle.bt_told.specs.declared.report.Report.{Report}
+use Rattle.bt_told.specs.declared.report.End.{End}
+use Rattle.bt_told.specs.declared.report.End.TheVariants.{By, Not}
+use Rattle.bt_told.specs.declared.report.Left.{Left}
 use Rattle.bt_told.specs.declared.report.Told.{Told}
 use Rattle.bt_told.specs.Closings.{closing_text}
 use Rattle.bt_told.specs.Remarked.{remarked_text}
@@ -17,10 +20,15 @@ abbrev pub closer : Option Closed → Option Side
 closer None = None
 closer (Some c) = Some c.first
 
+-- how the connection ended
+abbrev pub end_by : Option Closed → Left → End
+end_by None left = Not left
+end_by (Some c) left = By c.first
+
 abbrev pub told_text : Told → List ℕ
 told_text t =
-    direction_text A (closer t.closed) t.a ++ (direction_text B (closer t.closed) t.b
-    ++ (closing_text t.closed ++ (remarked_text A t.remarked_a ++ remarked_text B t.remarked_b)))
+    direction_text A (end_by t.closed t.left) t.a ++ (direction_text B (end_by t.closed t.left) t.b
+    ++ (closing_text t.closed t.left ++ (remarked_text A t.remarked_a ++ remarked_text B t.remarked_b)))
 
 abbrev pub body_text : Body → List ℕ
 body_text body.NotBitTorrent = codes "  no BitTorrent handshake: encrypted, another protocol, or its start isn't in the capture\n"

@@ -16,7 +16,11 @@ use Rattle.bt_wire.specs.declared.item.Refusal.{Refusal}
 use Rattle.bt_wire.specs.Numbers.{be64}
 use Rattle.bt_wire.specs.Reasons.{reason_name}
 use Rattle.bt_told.specs.declared.report.Direction.{Direction}
+use Rattle.bt_told.specs.declared.report.End.{End}
+use Rattle.bt_told.specs.declared.report.End.TheVariants.{By, Not}
 use Rattle.bt_told.specs.declared.report.Judged.{Judged}
+use Rattle.bt_told.specs.declared.report.Left.{Left}
+use Rattle.bt_told.specs.declared.report.Left.TheVariants.{Open, Unread, Replaced}
 use Rattle.bt_told.specs.declared.report.Sender.{Sender}
 use Rattle.bt_told.specs.declared.report.Sender.TheVariants.{Unknown, Known}
 use Rattle.bt_told.specs.Names.{title_text}
@@ -72,15 +76,20 @@ closed_by A A = []
 closed_by B B = []
 closed_by closer side = codes "cut by the close of the other end"
 
-abbrev pub open_or_closed : Option Side → Side → List ℕ
-open_or_closed None side = codes "cut by the capture's end"
-open_or_closed (Some closer) side = closed_by closer side
+abbrev pub left_note : Left → List ℕ
+left_note Open = codes "cut by the capture's end"
+left_note Unread = codes "cut: not read further"
+left_note Replaced = codes "cut by a later connection"
+
+abbrev pub open_or_closed : End → Side → List ℕ
+open_or_closed (Not left) side = left_note left
+open_or_closed (By closer) side = closed_by closer side
 
 -- Why a side's stream may end inside a message for a reason that isn't its sender's: it has a gap, or the other side closed first,
--- or nobody had closed at the capture's end.
-abbrev pub cut_note : Bool → Option Side → Side → List ℕ
-cut_note true closer side = codes "cut by the gap"
-cut_note false closer side = open_or_closed closer side
+-- or nobody closed.
+abbrev pub cut_note : Bool → End → Side → List ℕ
+cut_note true close side = codes "cut by the gap"
+cut_note false close side = open_or_closed close side
 
 -- such a reason matters only to a stream that ends inside a message
 abbrev pub if_cut : Reason → List ℕ → List ℕ
@@ -88,9 +97,9 @@ if_cut EndInside cut = cut
 if_cut reason cut = []
 
 -- what a verdict is limited by
-abbrev pub note : Ended → Bool → Option Side → Side → List ℕ
-note (Accepted messages bytes) has_gap closer side = if has_gap then codes "up to the gap" else []
-note (Refused r) has_gap closer side = if_cut r.reason (cut_note has_gap closer side)
+abbrev pub note : Ended → Bool → End → Side → List ℕ
+note (Accepted messages bytes) has_gap close side = if has_gap then codes "up to the gap" else []
+note (Refused r) has_gap close side = if_cut r.reason (cut_note has_gap close side)
 
 abbrev pub note_text : List ℕ → List ℕ
 note_text [] = []
@@ -124,16 +133,16 @@ free_text j limit =
 unfoldable pub bep_text : Judged → List ℕ → List ℕ
 bep_text j limit = verdict_line (codes "    bep  ") j.bep limit ++ why_line j.bep limit j.bep_message j.receiver
 
-abbrev pub judged_text : Side → Bool → Option Side → Judged → List ℕ
-judged_text side has_gap closer j =
-    free_text j (note j.free has_gap closer side) ++ (bep_text j (note j.bep has_gap closer side) ++ options_text j.receiver j.is_guessed)
+abbrev pub judged_text : Side → Bool → End → Judged → List ℕ
+judged_text side has_gap close j =
+    free_text j (note j.free has_gap close side) ++ (bep_text j (note j.bep has_gap close side) ++ options_text j.receiver j.is_guessed)
 
-abbrev pub verdicts_text : Side → Bool → Option Side → Sender → List ℕ
-verdicts_text side has_gap closer (Unknown sent) = []
-verdicts_text side has_gap closer (Known j) = judged_text side has_gap closer j
+abbrev pub verdicts_text : Side → Bool → End → Sender → List ℕ
+verdicts_text side has_gap close (Unknown sent) = []
+verdicts_text side has_gap close (Known j) = judged_text side has_gap close j
 
--- `closer` is the side that closed first
-abbrev pub direction_text : Side → Option Side → Direction → List ℕ
-direction_text side closer d =
+-- `close` is how the connection ended
+abbrev pub direction_text : Side → End → Direction → List ℕ
+direction_text side close d =
     sender_text side d.sender ++ (exchange_text d.exchange ++ (conflicts_text d.conflicts
-    ++ (gaps_text d.gaps ++ verdicts_text side (is_some d.gaps.first) closer d.sender)))
+    ++ (gaps_text d.gaps ++ verdicts_text side (is_some d.gaps.first) close d.sender)))

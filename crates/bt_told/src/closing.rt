@@ -1,10 +1,10 @@
 //! How a connection was closed, and what each side had sent then.
 ghost use Rattle.std.specs.Prelude.{◌≡◌, ◌+◌, ◌≤◌, ◌++◌, codes, decimal, length, take};
 ghost use Rattle.bt_remarks.specs.Said.{other as other_side};
-ghost use Rattle.bt_told.specs.Closings.{before_of, before_text, closed_text, closing_text, last_text, means_text};
+ghost use Rattle.bt_told.specs.Closings.{before_of, before_text, closed_text, closing_text, last_text, left_text, means_text};
 
 use crate::numbers::put_time;
-use crate::report::{Before, Closed, Last, Means};
+use crate::report::{Before, Closed, Last, Left, Means};
 use crate::said::put_said;
 use crate::sides::{letter, put_between, put_refusal};
 use bt_remarks::Side;
@@ -93,15 +93,37 @@ fn put_closed(closed: &Closed, text: &mut [u8], at: usize) -> usize
     put_sent(closed.first, closed, text, at)
 }
 
+/// Puts how a connection that no side closed was left.
+fn put_left(left: Left, text: &mut [u8], at: usize) -> usize
+    requires { at + 70 ≤ length text.old }
+    ensures room { (at ≤ result) × (result ≤ at + 70) }
+    ensures size { length text.new ≡ length text.old }
+    ensures text { take result text.new ≡ take at text.old ++ left_text left }
+{
+    match left {
+        Left::Open => put_word(b"  still open at the capture's end\n", text, at),
+        Left::Unread => put_word(
+            b"  not read further: too many connections at once\n",
+            text,
+            at,
+        ),
+        Left::Replaced => put_word(
+            b"  not closed; a later connection has the same ports\n",
+            text,
+            at,
+        ),
+    }
+}
+
 /// Puts how a connection ended.
-pub(crate) fn put_closing(closed: &Option<Closed>, text: &mut [u8], at: usize) -> usize
+pub(crate) fn put_closing(closed: &Option<Closed>, left: Left, text: &mut [u8], at: usize) -> usize
     requires { at + 470 ≤ length text.old }
     ensures room { (at ≤ result) × (result ≤ at + 470) }
     ensures size { length text.new ≡ length text.old }
-    ensures text { take result text.new ≡ take at text.old ++ closing_text closed.now }
+    ensures text { take result text.new ≡ take at text.old ++ closing_text closed.now left }
 {
     match closed {
-        None => put_word(b"  still open at the capture's end\n", text, at),
+        None => put_left(left, text, at),
         Some(closed) => put_closed(closed, text, at),
     }
 }

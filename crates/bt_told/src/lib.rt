@@ -28,8 +28,8 @@ pub use fronts::{RowForm, Stamp};
 pub use objects::put_report_object;
 pub use printing::put_report;
 pub use report::{
-    Before, Body, Closed, Direction, Judged, Last, Means, Noted, Remarked, Report, Sender, Title,
-    Told,
+    Before, Body, Closed, Direction, Judged, Last, Left, Means, Noted, Remarked, Report, Sender,
+    Title, Told,
 };
 pub use row_buffer::RowBuffer;
 pub use rows::{Deed, Row, put_row, put_row_object};

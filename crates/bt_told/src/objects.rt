@@ -1,14 +1,18 @@
 //! A report as a JSON object on a line (RFC 8259).
 ghost use Rattle.std.specs.Prelude.{◌≡◌, ◌+◌, ◌≤◌, ◌++◌, OnErr, OnOk, codes, decimal, length, take, vec_len};
-ghost use Rattle.bt_told.specs.Objects.{before_member, body_members, closed_member, count_member, direction_object, gap_members, guess_member, judged_members, last_member, note_member, noted_member, receiver_object, remarked_members, report_object, sender_member, told_members, verdict_object, why_member};
+ghost use Rattle.bt_told.specs.Objects.{before_member, body_members, closed_member, count_member, direction_object, gap_members, guess_member};
+ghost use Rattle.bt_told.specs.Objects.{judged_members, last_member, left_member, note_member, noted_member, receiver_object, remarked_members};
+ghost use Rattle.bt_told.specs.Objects.{report_object, sender_member, told_members, verdict_object, why_member};
 
 use crate::closing::means;
 use crate::ends::{cut_after_error, push_between, push_ends};
 use crate::members::{put_escaped, put_refusal_members, put_said_object, put_verdict_members};
 use crate::names::put_title;
 use crate::numbers::{put_option, put_time};
-use crate::printing::closer_of;
-use crate::report::{Before, Body, Closed, Direction, Last, Noted, Remarked, Report, Sender, Told};
+use crate::printing::end_of;
+use crate::report::{
+    Before, Body, Closed, Direction, End, Last, Left, Noted, Remarked, Report, Sender, Told,
+};
 use crate::sides::{count_of, letter, note_of, number_of, put_between};
 use crate::why::{RefusedMessage, put_why};
 use bt_remarks::Side;
@@ -176,7 +180,7 @@ fn put_receiver(own: &Own, is_guessed: bool, text: &mut [u8], at: usize) -> usiz
 fn put_judged(
     side: Side,
     has_gap: bool,
-    closer: Option<Side>,
+    close: End,
     sender: &Sender,
     text: &mut [u8],
     at: usize,
@@ -184,13 +188,13 @@ fn put_judged(
     requires { at + 1380 ≤ length text.old }
     ensures room { (at ≤ result) × (result ≤ at + 1380) }
     ensures size { length text.new ≡ length text.old }
-    ensures text { take result text.new ≡ take at text.old ++ judged_members side has_gap closer sender.now }
+    ensures text { take result text.new ≡ take at text.old ++ judged_members side has_gap close sender.now }
 {
     let Sender::Known(judged) = sender else {
         return at;
     };
     let own = &judged.receiver;
-    let note = note_of(&judged.free, has_gap, closer, side);
+    let note = note_of(&judged.free, has_gap, close, side);
     let at = put_verdict(
         b",\"free\":{",
         &judged.free,
@@ -200,7 +204,7 @@ fn put_judged(
         text,
         at,
     );
-    let note = note_of(&judged.bep, has_gap, closer, side);
+    let note = note_of(&judged.bep, has_gap, close, side);
     let at = put_verdict(
         b",\"bep\":{",
         &judged.bep,
@@ -255,7 +259,7 @@ fn put_remarked(remarked: &Remarked, text: &mut [u8], at: usize) -> usize
 /// Puts a direction and its side's remarks.
 fn put_direction(
     side: Side,
-    closer: Option<Side>,
+    close: End,
     direction: &Direction,
     remarked: &Remarked,
     text: &mut [u8],
@@ -264,14 +268,14 @@ fn put_direction(
     requires { at + 3750 ≤ length text.old }
     ensures room { (at ≤ result) × (result ≤ at + 3750) }
     ensures size { length text.new ≡ length text.old }
-    ensures text { take result text.new ≡ take at text.old ++ direction_object side closer direction.now remarked.now }
+    ensures text { take result text.new ≡ take at text.old ++ direction_object side close direction.now remarked.now }
 {
     let at = put_sender(&direction.sender, text, at);
     let at = put_count(b",\"exchange\":", direction.exchange, text, at);
     let at = put_count(b",\"conflicts\":", direction.conflicts, text, at);
     let at = put_gaps(&direction.gaps, text, at);
     let has_gap = direction.gaps.first.is_some();
-    let at = put_judged(side, has_gap, closer, &direction.sender, text, at);
+    let at = put_judged(side, has_gap, close, &direction.sender, text, at);
     let at = put_remarked(remarked, text, at);
     put_word(b"}", text, at)
 }
@@ -317,15 +321,29 @@ fn put_before<const N: usize>(
     put_word(b"}", text, at)
 }
 
-/// Puts how a connection was closed, if it was.
-fn put_closed(closed: &Option<Closed>, text: &mut [u8], at: usize) -> usize
+/// Puts how a connection that no side closed was left; nothing if the capture ended.
+fn put_left(left: Left, text: &mut [u8], at: usize) -> usize
+    requires { at + 30 ≤ length text.old }
+    ensures room { (at ≤ result) × (result ≤ at + 30) }
+    ensures size { length text.new ≡ length text.old }
+    ensures text { take result text.new ≡ take at text.old ++ left_member left }
+{
+    match left {
+        Left::Open => at,
+        Left::Unread => put_word(b",\"not_read_further\":true", text, at),
+        Left::Replaced => put_word(b",\"replaced\":true", text, at),
+    }
+}
+
+/// Puts how a connection was closed, or how it was left.
+fn put_closed(closed: &Option<Closed>, left: Left, text: &mut [u8], at: usize) -> usize
     requires { at + 900 ≤ length text.old }
     ensures room { (at ≤ result) × (result ≤ at + 900) }
     ensures size { length text.new ≡ length text.old }
-    ensures text { take result text.new ≡ take at text.old ++ closed_member closed.now }
+    ensures text { take result text.new ≡ take at text.old ++ closed_member closed.now left }
 {
     let Some(closed) = closed else {
-        return at;
+        return put_left(left, text, at);
     };
     let at = put_word(b",\"closed\":{\"side\":\"", text, at);
     let at = put_word(letter(closed.first), text, at);
@@ -345,12 +363,12 @@ fn put_told(told: &Told, text: &mut [u8], at: usize) -> usize
     ensures size { length text.new ≡ length text.old }
     ensures text { take result text.new ≡ take at text.old ++ told_members told.now }
 {
-    let closer = closer_of(&told.closed);
+    let close = end_of(told);
     let at = put_word(b",\"from_a\":", text, at);
-    let at = put_direction(Side::A, closer, &told.a, &told.remarked_a, text, at);
+    let at = put_direction(Side::A, close, &told.a, &told.remarked_a, text, at);
     let at = put_word(b",\"from_b\":", text, at);
-    let at = put_direction(Side::B, closer, &told.b, &told.remarked_b, text, at);
-    let at = put_closed(&told.closed, text, at);
+    let at = put_direction(Side::B, close, &told.b, &told.remarked_b, text, at);
+    let at = put_closed(&told.closed, told.left, text, at);
     put_word(b"}\n", text, at)
 }
 

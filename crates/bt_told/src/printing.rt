@@ -1,11 +1,11 @@
 //! A report as text.
 ghost use Rattle.std.specs.Prelude.{◌≡◌, ◌+◌, ◌≤◌, ◌++◌, OnErr, OnOk, codes, decimal, length, take, vec_len};
-ghost use Rattle.bt_told.specs.Reports.{body_text, closer, report_text, told_text};
+ghost use Rattle.bt_told.specs.Reports.{body_text, closer, end_by, report_text, told_text};
 
 use crate::closing::put_closing;
 use crate::ends::{cut_after_error, push_between, push_ends};
 use crate::remarked::put_remarked;
-use crate::report::{Body, Closed, Report, Told};
+use crate::report::{Body, Closed, End, Report, Told};
 use crate::sides::put_direction;
 use bt_remarks::Side;
 use bt_text::putting::{grow, put_word};
@@ -24,6 +24,16 @@ pub(crate) fn closer_of(closed: &Option<Closed>) -> Option<Side>
     }
 }
 
+/// Returns how a connection ended.
+pub(crate) fn end_of(told: &Told) -> End
+    ensures { result ≡ end_by told.now.closed told.now.left }
+{
+    match &told.closed {
+        Some(closed) => End::By(closed.first),
+        None => End::Not(told.left),
+    }
+}
+
 /// Puts what is told of a BitTorrent connection.
 fn put_told(told: &Told, text: &mut [u8], at: usize) -> usize
     requires { at + 5800 ≤ length text.old }
@@ -31,10 +41,10 @@ fn put_told(told: &Told, text: &mut [u8], at: usize) -> usize
     ensures size { length text.new ≡ length text.old }
     ensures text { take result text.new ≡ take at text.old ++ told_text told.now }
 {
-    let closer = closer_of(&told.closed);
-    let at = put_direction(Side::A, closer, &told.a, text, at);
-    let at = put_direction(Side::B, closer, &told.b, text, at);
-    let at = put_closing(&told.closed, text, at);
+    let close = end_of(told);
+    let at = put_direction(Side::A, close, &told.a, text, at);
+    let at = put_direction(Side::B, close, &told.b, text, at);
+    let at = put_closing(&told.closed, told.left, text, at);
     let at = put_remarked(Side::A, &told.remarked_a, text, at);
     put_remarked(Side::B, &told.remarked_b, text, at)
 }

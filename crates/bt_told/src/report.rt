@@ -107,13 +107,35 @@ pub struct Remarked {
     pub elsewhere: Option<Noted>,
 }
 
+/// Why nothing more is told of a connection that no side has closed.
+#[derive(Clone, Copy)]
+pub enum Left {
+    /// The capture ended.
+    Open,
+    /// It wasn't read further, since there were too many connections at once.
+    Unread,
+    /// Another connection began between the same ends.
+    Replaced,
+}
+
+/// How a connection ended.
+#[derive(Clone, Copy)]
+pub enum End {
+    /// This side closed first.
+    By(Side),
+    /// No side closed.
+    Not(Left),
+}
+
 /// What is told of a BitTorrent connection.
 #[derive(Clone, Copy)]
 pub struct Told {
     pub a: Direction,
     pub b: Direction,
-    /// How it was closed; none if it was still open at the capture's end.
+    /// How it was closed, if it was.
     pub closed: Option<Closed>,
+    /// How it was left, if it wasn't closed.
+    pub left: Left,
     pub remarked_a: Remarked,
     pub remarked_b: Remarked,
 }

@@ -130,7 +130,8 @@ fn announced(dict: &DictRef, rest: &[u8]) -> Words
 #[tactic(auto, unfolding(json::specs::Print::escape_byte, json::specs::Print::print_from, bt_json::specs::Objects::a_field))]
 fn metadata(dict: &DictRef, rest: &[u8]) -> Words
     ensures text { words_text result ≡ kind_words (kind_of (dictionary dict.now.tree.0)) (dictionary dict.now.tree.0) rest.now }
-    ensures fields { words_members result ++ codes "}\n" ≡ rest_of_line (metadata_fields (kind_of (dictionary dict.now.tree.0)) (dictionary dict.now.tree.0) rest.now) }
+    ensures fields { words_members result ++ codes "}\n" ≡ rest_of_line
+        (metadata_fields (kind_of (dictionary dict.now.tree.0)) (dictionary dict.now.tree.0) rest.now) }
 {
     let rest = rest.len() as u64;
     match dict.kind() {

@@ -2,11 +2,12 @@
 ghost use Rattle.std.specs.Prelude.{◌≡◌, ◌+◌, ◌≤◌, ◌++◌, [], codes, decimal, is_some, length, take};
 ghost use Rattle.hex.specs.Hex.{encode_lower};
 ghost use Rattle.bt_wire.specs.Numbers.{be64};
-ghost use Rattle.bt_told.specs.Sides.{bep_text, conflicts_text, cut_note, direction_text, exchange_text, free_text, gaps_text, guess_text, judged_text, more_text, note, note_text, options_text, refusal_text, sender_text, side_text, verdict_line, verdict_text};
+ghost use Rattle.bt_told.specs.Sides.{bep_text, conflicts_text, cut_note, direction_text, exchange_text, free_text, gaps_text, guess_text, judged_text};
+ghost use Rattle.bt_told.specs.Sides.{more_text, note, note_text, options_text, refusal_text, sender_text, side_text, verdict_line, verdict_text};
 
 use crate::names::put_title;
 use crate::numbers::put_option;
-use crate::report::{Direction, Judged, Sender};
+use crate::report::{Direction, End, Judged, Left, Sender};
 use crate::why::put_why_line;
 use bt_remarks::Side;
 use bt_tcp::Gaps;
@@ -161,36 +162,33 @@ fn put_verdict(ended: &Ended, text: &mut [u8], at: usize) -> usize
 
 /// Returns why a stream may end inside a message for a reason that isn't its sender's.
 ///
-/// `closer` is the side that closed first.
-fn cut_note_of(has_gap: bool, closer: Option<Side>, side: Side) -> &'static [u8]
-    ensures note { result.now ≡ cut_note has_gap closer side }
+/// `close` says how the connection ended.
+fn cut_note_of(has_gap: bool, close: End, side: Side) -> &'static [u8]
+    ensures note { result.now ≡ cut_note has_gap close side }
     ensures short { length result.now ≤ 40 }
 {
     if has_gap {
         return b"cut by the gap";
     }
-    match (closer, side) {
-        (None, _) => b"cut by the capture's end",
-        (Some(Side::A), Side::A) => b"",
-        (Some(Side::B), Side::B) => b"",
-        (Some(_), _) => b"cut by the close of the other end",
+    match (close, side) {
+        (End::Not(Left::Open), _) => b"cut by the capture's end",
+        (End::Not(Left::Unread), _) => b"cut: not read further",
+        (End::Not(Left::Replaced), _) => b"cut by a later connection",
+        (End::By(Side::A), Side::A) => b"",
+        (End::By(Side::B), Side::B) => b"",
+        (End::By(_), _) => b"cut by the close of the other end",
     }
 }
 
 /// Returns what a verdict is limited by.
-pub(crate) fn note_of(
-    ended: &Ended,
-    has_gap: bool,
-    closer: Option<Side>,
-    side: Side,
-) -> &'static [u8]
-    ensures note { result.now ≡ note ended.now has_gap closer side }
+pub(crate) fn note_of(ended: &Ended, has_gap: bool, close: End, side: Side) -> &'static [u8]
+    ensures note { result.now ≡ note ended.now has_gap close side }
     ensures short { length result.now ≤ 40 }
 {
     match ended {
         Ended::Accepted { .. } => { if has_gap { b"up to the gap" } else { b"" } }
         Ended::Refused(refusal) => match refusal.reason {
-            Reason::EndInside => cut_note_of(has_gap, closer, side),
+            Reason::EndInside => cut_note_of(has_gap, close, side),
             _ => b"",
         },
     }
@@ -321,7 +319,7 @@ fn put_bep(judged: &Judged, note: &[u8], text: &mut [u8], at: usize) -> usize
 fn put_judged(
     side: Side,
     has_gap: bool,
-    closer: Option<Side>,
+    close: End,
     judged: &Judged,
     text: &mut [u8],
     at: usize,
@@ -329,11 +327,11 @@ fn put_judged(
     requires { at + 940 ≤ length text.old }
     ensures room { (at ≤ result) × (result ≤ at + 940) }
     ensures size { length text.new ≡ length text.old }
-    ensures text { take result text.new ≡ take at text.old ++ judged_text side has_gap closer judged.now }
+    ensures text { take result text.new ≡ take at text.old ++ judged_text side has_gap close judged.now }
 {
-    let note = note_of(&judged.free, has_gap, closer, side);
+    let note = note_of(&judged.free, has_gap, close, side);
     let at = put_free(judged, note, text, at);
-    let note = note_of(&judged.bep, has_gap, closer, side);
+    let note = note_of(&judged.bep, has_gap, close, side);
     let at = put_bep(judged, note, text, at);
     put_options(&judged.receiver, judged.is_guessed, text, at)
 }
@@ -341,7 +339,7 @@ fn put_judged(
 /// Puts the lines of a direction.
 pub(crate) fn put_direction(
     side: Side,
-    closer: Option<Side>,
+    close: End,
     direction: &Direction,
     text: &mut [u8],
     at: usize,
@@ -349,7 +347,7 @@ pub(crate) fn put_direction(
     requires { at + 1370 ≤ length text.old }
     ensures room { (at ≤ result) × (result ≤ at + 1370) }
     ensures size { length text.new ≡ length text.old }
-    ensures text { take result text.new ≡ take at text.old ++ direction_text side closer direction.now }
+    ensures text { take result text.new ≡ take at text.old ++ direction_text side close direction.now }
 {
     let at = put_sender(side, &direction.sender, text, at);
     let at = put_exchange(direction.exchange, text, at);
@@ -358,6 +356,6 @@ pub(crate) fn put_direction(
     let has_gap = direction.gaps.first.is_some();
     match &direction.sender {
         Sender::Unknown(_) => at,
-        Sender::Known(judged) => put_judged(side, has_gap, closer, judged, text, at),
+        Sender::Known(judged) => put_judged(side, has_gap, close, judged, text, at),
     }
 }

@@ -1,6 +1,7 @@
 //! Why a stream is refused, as a sentence.
 ghost use Rattle.std.specs.Prelude.{◌≡◌, ◌+◌, ◌-◌, ◌^◌, ◌<◌, ◌≤◌, ◌++◌, IfSome, codes, decimal, drop, length, option_map, take, unwrap_or};
-ghost use Rattle.bt_told.specs.Whys.{any_lengths, bencode_sentence, bitfield_length, byte_inside, byte_text, end_sentence, extension_text, field_sentence, first_or_zero, id_text, last_index, lengths_text, message_in, number_or_zero, row_in, rows, why_line, why_text};
+ghost use Rattle.bt_told.specs.Whys.{any_lengths, bencode_sentence, bitfield_length, byte_inside, byte_text, end_sentence, extension_text, field_sentence};
+ghost use Rattle.bt_told.specs.Whys.{first_or_zero, id_text, last_index, lengths_text, message_in, number_or_zero, row_in, rows, why_line, why_text};
 
 use crate::sides::put_between;
 use bt_text::ended::Ended;

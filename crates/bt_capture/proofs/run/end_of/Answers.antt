@@ -1,6 +1,6 @@
 use Rattle.std.proofs.Common.{◌∙◌, length}
 use Rattle.bt_capture.specs.Following.{reports_of}
-use Rattle.bt_capture.proofs.Outcomes.{all_over, whole_written, texts_written, stream_told, absent_by, begun_all}
+use Rattle.bt_capture.proofs.Outcomes.{all_over, whole_written, texts_written, stream_told, rows_told, absent_by, begun_all}
 use Rattle.bt_capture.proofs.run.end_of.Goals as goal
 
 pub returns : goal.returns
@@ -24,6 +24,7 @@ returns c o left before now i empty ended added =
       text = written;
       texts_are = texts_written o left before run r empty i;
       stream = stream_told o left before run r empty i;
+      rows = rows_told o left before run r empty i;
       written = whole_written o left before now run r empty i added.0;
       calm = added.1 ∙ known.tells.calm;
       torrents = c.torrents.ensures o.target before (reports_of fs) written known.tells;

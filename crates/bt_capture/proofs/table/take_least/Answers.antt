@@ -24,7 +24,8 @@ returns-in-None-clause-oldest c =
     let es' : List (Pair × Held) = c.pop_lru-in-None.new.self.entries in
     let o = c.pop_lru-in-None.result in
     let P : LruCache Pair Held → Type 0 = λ l. es ≡ l.entries ++ option_to_list o in
-    popped_front es fs es' fs' o (none_last fs c.in-None.ensures.value) (ap (λ (l : LruCache Pair Held). l.entries) c.in-None.ensures.entries ∙ no_more fs c.in-None.ensures.value)
+    popped_front es fs es' fs' o (none_last fs c.in-None.ensures.value)
+    (ap (λ (l : LruCache Pair Held). l.entries) c.in-None.ensures.entries ∙ no_more fs c.in-None.ensures.value)
     (subst P (sym c.pop_lru-in-None.ensures.entries) (popped es o c.pop_lru-in-None.ensures.value))
 
 pub returns-in-None-clause-empty : goal.returns-in-None-clause-empty

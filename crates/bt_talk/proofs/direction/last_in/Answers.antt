@@ -14,7 +14,8 @@ pub returns-in-Open : goal.returns-in-Open
 returns-in-Open c = λ terms p other xs s i l.
     let j = c.deref.result.now in
     let own = j.receiver.own in
-    let by = subst (λ (k : Judged). IsJudgedBy k.receiver.own p k.judge) (sym c.deref.ensures) (subst (λ (k : Stage). IsStage terms p other k) c.in-Open.is s).1 in
+    let by = subst (λ (k : Judged). IsJudgedBy k.receiver.own p k.judge) (sym c.deref.ensures)
+    (subst (λ (k : Stage). IsStage terms p other k) c.in-Open.is s).1 in
     let are = subst (λ (k : Judged). AreItems k.receiver.own p xs) (sym c.deref.ensures) (subst (λ (k : Stage). AreItemsIn k p xs) c.in-Open.is i) in
     let same = items_only own p xs by.free by.judged.bep.limit are (judged_items own p j.judge by) in
     subst (λ (k : Stage). IsCutBy (receiver_in k) p.front p.out c.last.result) (sym c.in-Open.is)

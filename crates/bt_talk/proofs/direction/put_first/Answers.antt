@@ -17,5 +17,6 @@ returns c =
     let fresh = c.args.fresh.now in
     let later = c.args.out.now.items in
     let new : c.rotate_right.new.self.items ≡ fresh ++ later = turned later fresh c.extend_from_slice.new.self.items c.rotate_right.new.self.items _
-    (length fresh) c.in_ok-extend_from_slice.ensures.items (λ i. length fresh) (omega (arith, c.extend_from_slice.new.self.ok.0)) c.rotate_right.ensures.items in
+    (length fresh) c.in_ok-extend_from_slice.ensures.items (λ i. length fresh)
+    (omega (arith, c.extend_from_slice.new.self.ok.0)) c.rotate_right.ensures.items in
     subst (λ (w : Bool). c.rotate_right.new.self.items ≡ (if w then fresh ++ later else [])) (sym c.if-not-is_wanted.false) new

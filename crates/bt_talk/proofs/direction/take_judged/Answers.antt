@@ -1,4 +1,4 @@
-use Rattle.std.proofs.Common.{◌≡◌, ◌∙◌, ◌++◌, ℕ, List, [], false, if◌then◌else◌, drop, sym, ap}
+use Rattle.std.proofs.Common.{◌≡◌, ◌∙◌, ◌++◌, ℕ, List, [], false, if◌then◌else◌, drop, ap}
 use Rattle.bt_talk.proofs.Items.{judged_more_items}
 use Rattle.bt_talk.proofs.Pasts.{more_next}
 use Rattle.bt_talk.proofs.Receivers.{judged_more}

@@ -20,7 +20,8 @@ returns-in-Some c = λ events xs matched said.
       found = subst (λ (o : Option Request). AreFoundOf requests (record { count = c.unanswered-found.result.count; first = o })) c.in-Some.is
           (c.unanswered-found.ensures.found events matched);
       said = c.request_said.ensures;
-      item = subst (λ (s : Said). IsAmong xs request.mark s) (sym c.request_said.ensures) (asked_item c.args.side events xs request (asked events matched) said);
+      item = subst (λ (s : Said). IsAmong xs request.mark s) (sym c.request_said.ensures)
+          (asked_item c.args.side events xs request (asked events matched) said);
     }
 
 pub returns-in-None : goal.returns-in-None

@@ -6,4 +6,5 @@ use Rattle.bt_told.proofs.said.metadata.Goals as goal
 
 pub returns-in-Data-clause-fields : goal.returns-in-Data-clause-fields
 unfolding escape_byte
-returns-in-Data-clause-fields c = rw (sym c.in-Data.ensures, c.from-in-Data.ensures) (three_shown (codes "metadata-data") (codes "piece") (codes "total_size") (codes "bytes") _ _ _)
+returns-in-Data-clause-fields c =
+    rw (sym c.in-Data.ensures, c.from-in-Data.ensures) (three_shown (codes "metadata-data") (codes "piece") (codes "total_size") (codes "bytes") _ _ _)

@@ -1,6 +1,6 @@
-use Rattle.std.proofs.Common.{refl}
+use Rattle.std.proofs.Common.{Bool, [], refl, subst, sym}
 use Rattle.bt_talk.specs.Pasts.{no_past}
-use Rattle.bt_talk.specs.Talks.{of_side}
+use Rattle.bt_talk.specs.Talks.{AreShownIn, of_side}
 use Rattle.bt_capture.proofs.Sending.{nothing_sent}
 use Rattle.bt_capture.proofs.connection.Connection.new.Goals as goal
 
@@ -29,3 +29,9 @@ pub returns-clause-sent : goal.returns-clause-sent
 unfolding returns-clause-open
 returns-clause-sent c when side there =
     ((returns-clause-open c when).made there, nothing_sent (of_side side no_past no_past) _ c.new.ensures.opening)
+
+pub returns-clause-shown : goal.returns-clause-shown
+unfolding returns-clause-open
+returns-clause-shown c when h there =
+    let P : Bool → Type 0 = λ o. AreShownIn o h no_past no_past c.new.result [] in
+    ((returns-clause-open c when).made there, subst P (sym c.new.ensures.opening) refl)

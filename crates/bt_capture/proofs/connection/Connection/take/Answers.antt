@@ -1,8 +1,13 @@
-use Rattle.std.proofs.Common.{◌||◌, ◌∙◌, ap, sym, refl}
-use Rattle.std.specs.List.{list_any}
+use Rattle.std.proofs.Common.{◌≡◌, ◌||◌, ◌∙◌, List, true, false, ap, sym, refl}
+use Rattle.std.specs.List.{filter, list_any}
 use Rattle.bt_talk.specs.Rooms.{rows_in}
+use Rattle.bt_talk.specs.Rows.{Shown, is_item}
+use Rattle.bt_talk.specs.Talks.{is_in_opening}
 use Rattle.bt_capture.specs.Arrivals.{arrived, has_data}
-use Rattle.bt_capture.proofs.Shown.{has_taken}
+use Rattle.bt_capture.specs.Rowed.{ShowsOn}
+use Rattle.bt_capture.proofs.Parts.{on_ok}
+use Rattle.bt_capture.proofs.Rowing.{more_of, none_of}
+use Rattle.bt_capture.proofs.Shown.{has_taken, shows_taken}
 use Rattle.bt_capture.proofs.Taking.{any_more, on_there, was_there, made_more}
 use Rattle.bt_capture.proofs.connection.Connection.take.Goals as goal
 
@@ -47,3 +52,30 @@ returns-clause-shows c a b t there empty =
       after = on_there c.take-taken.result now c.take-taken.ensures.order c.take-taken.ensures.lost there a b t;
       opening = on_there c.take-taken.result now c.take-taken.ensures.opened c.take-taken.ensures.lost there a b t;
     }
+
+pub returns-clause-shown : goal.returns-clause-shown
+unfolding made_more
+returns-clause-shown c terms taken before empty h =
+    let x = arrived c.args.segment.now c.args.when in
+    let was = c.args.self.now.talk.is_lost in
+    let lost = c.take-taken.new.self.is_lost in
+    let head = (rows_in c.args.room.now).heading in
+    let P : List Shown → Type 0 = λ rows. ShowsOn head before rows terms taken x _ in
+    shows_taken c.take-taken.result was lost _ c.args.room.now c.take-taken.new.room P c.take-taken.ensures.stays c.take-taken.ensures.lost
+    c.take-taken.ensures.none empty
+    (λ gone. record { are_of = none_of head.connection; shown = λ there. absurd (let e : true ≡ false = sym gone ∙ there in cc) })
+    (λ on. on_ok c.take-taken.result (λ shown.
+    let g = h on in
+    let w = shown g.0.a g.0.b before g.0.made.is g.1 in
+    let rows = w.1.0 in (
+      rows,
+      w.1.1,
+      record {
+        are_of = more_of (is_in_opening c.take-taken.new.self) head w.0.a' w.0.b' c.take-taken.new.self before (filter is_item rows) w.1.2;
+        shown = λ there. (
+          made_more terms taken c.args.segment.now x c.args.self.now.talk c.take-taken.new.self refl c.take-taken.ensures.ends c.take-taken.ensures.terms g.0
+              w.0,
+          w.1.2,
+        );
+      },
+    )) c.take-taken.ensures.shown)

@@ -3,7 +3,9 @@ use Rattle.bt_remarks.specs.declared.events.Side.{Side}
 use Rattle.bt_capture.specs.Arrivals.{arrived}
 use Rattle.bt_capture.specs.Connections.{IsOpen}
 use Rattle.bt_capture.specs.declared.connection.Connection.{Connection}
+use Rattle.bt_talk.specs.declared.rows.Heading.{Heading}
 use Rattle.bt_capture.specs.Sending.{HasSent}
+use Rattle.bt_capture.specs.Rowed.{HasShown}
 use Rattle.bt_capture.proofs.Reported.{begun, stops_of, stops_same}
 use Rattle.bt_capture.proofs.connections.Run.begin.Goals as goal
 
@@ -13,9 +15,10 @@ returns-in-Ok-clause-finds c start now came when p es absent i =
     let Q : Connection → Type 0 = λ k. IsOpen c.args.self.now.terms [] (x ∷ []) k in
     let same : c.in-Ok.connection.value ≡ c.new-connection.result = search rules in
     let R : Connection → Type 0 = λ k. (side : Side) → HasSent side [] c.args.self.now.terms [] (x ∷ []) k in
+    let S : Connection → Type 0 = λ k. (h : Heading) → HasShown h [] c.args.self.now.terms [] (x ∷ []) k in
     begun start now came x p c.in-Ok.connection es c.args.self.now _ absent refl refl refl refl c.saturating_add-self.ensures
     (subst Q (sym same) (c.new-connection.ensures.open when)) (ap (λ (k : Connection). k.number) same ∙ c.new-connection.ensures.number)
-    (subst R (sym same) (λ side. c.new-connection.ensures.sent when side)) i
+    (subst R (sym same) (λ side. c.new-connection.ensures.sent when side)) (subst S (sym same) (λ h. c.new-connection.ensures.shown when h)) i
 
 pub returns-in-Ok-clause-sent : goal.returns-in-Ok-clause-sent
 returns-in-Ok-clause-sent c = λ when side.

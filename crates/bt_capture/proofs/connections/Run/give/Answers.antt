@@ -1,4 +1,4 @@
-use Rattle.std.proofs.Common.{◌≡◌, ◌∙◌, ℕ, List, [], ◌∷◌, ◌++◌, append-nil, Some, unwrap_or, ap, sym, subst}
+use Rattle.std.proofs.Common.{◌≡◌, ◌∙◌, ℕ, List, [], ◌∷◌, ◌++◌, append-nil, append_assoc, Some, unwrap_or, ap, sym, subst}
 use Rattle.std.proofs.lemmas.Result.{on_err_weaker}
 use Rattle.bt_talk.specs.declared.rows.Heading.{Heading}
 use Rattle.bt_talk.specs.declared.rows.Showing.{Showing}
@@ -7,6 +7,7 @@ use Rattle.bt_talk.specs.Rows.{shown_texts}
 use Rattle.bt_capture.specs.Arrivals.{arrived}
 use Rattle.bt_capture.specs.Forms.{handed, showing_by}
 use Rattle.bt_capture.specs.Sending.{HasSent}
+use Rattle.bt_capture.specs.Rowed.{HasShown, ShowsOn, heading_of}
 use Rattle.bt_capture.specs.Shown.{AreOfSegment, HasRows}
 use Rattle.bt_capture.proofs.InOrder.{no_rows}
 use Rattle.bt_capture.proofs.Parts.{on_ok}
@@ -57,3 +58,26 @@ returns-clause-shows c a b t there =
     let P : Heading → Type 0 = λ h.
     AreOfSegment h c.args.segment.now c.args.when a b c.args.connection.now.talk c.take.new.self.talk (rows_in c.take.new.room) in
     subst P heading (c.take.ensures.shows a b t there c.turn_to.ensures.empty)
+
+pub returns-clause-shown : goal.returns-clause-shown
+returns-clause-shown c =
+    let form = c.args.self.now.teller.form in
+    let number = c.args.connection.now.number in
+    let from = c.unwrap_or-from.result in
+    let room = c.take.new.room in
+    let before_text : List ℕ = c.args.self.now.teller.text.items in
+    let more : List ℕ = handed form c.take.new.self.number room in
+    let x = arrived c.args.segment.now c.args.when in
+    let showing : showing_in c.turn_to.new.self ≡ showing_by form = ap (λ (h : Heading). h.showing) c.turn_to.ensures.heading ∙ c.showing.ensures in
+    let heading : (rows_in c.turn_to.new.self).heading ≡ heading_of form number (unwrap_or c.args.self.now.start 0) =
+    c.turn_to.ensures.heading ∙ ap (λ (s : Showing). heading_by s number from) c.showing.ensures
+    ∙ ap (λ (n : ℕ). heading_by (showing_by form) number n) c.unwrap_or-from.ensures in
+    on_ok c.show.result (λ text terms taken before h.
+    let P : Heading → Type 0 = λ k. HasShown k before terms taken (x ∷ []) c.args.connection.now in
+    let w = c.take.ensures.shown terms taken before c.turn_to.ensures.empty (subst P (sym heading) h) in
+    let Q : Heading → Type 0 = λ k. ShowsOn k before w.0 terms taken x c.take.new.self in
+    let rows : (rows_in room).text.items ≡ shown_texts (showing_by form) w.0 = w.1 ∙ ap (λ (s : Showing). shown_texts s w.0) showing in (
+      w.0,
+      subst Q heading w.2,
+      text ∙ ap (λ (l : List ℕ). (before_text ++ l) ++ more) rows ∙ append_assoc before_text (shown_texts (showing_by form) w.0) more,
+    )) c.show.ensures.text

@@ -4,19 +4,22 @@ use Rattle.bt_talk.specs.declared.rows.Heading.{Heading}
 use Rattle.bt_talk.specs.declared.rows.Showing.{Showing}
 use Rattle.bt_talk.specs.Pasts.{Past}
 use Rattle.bt_remarks.specs.declared.events.Side.{Side}
-use Rattle.bt_talk.specs.Rooms.{sent_in, showing_in, wanted_in}
+use Rattle.std.specs.List.{filter}
+use Rattle.bt_talk.specs.Rooms.{rows_in, sent_in, showing_in, wanted_in}
 use Rattle.bt_talk.specs.Sent.{IsSent, SendsOn}
-use Rattle.bt_talk.specs.Talks.{IsTalk, is_in_opening, is_lost, of_side}
+use Rattle.bt_talk.specs.Rows.{Shown, is_item, shown_texts}
+use Rattle.bt_talk.specs.Talks.{AreShown, AreShownIn, IsTalk, ShowsMore, is_in_opening, is_lost, of_side}
 use Rattle.bt_talk.specs.declared.talk.Talk.{Talk}
 use Rattle.bt_capture.specs.Following.{IsEnded}
 use Rattle.bt_capture.specs.declared.connection.Connection.{Connection}
 use Rattle.bt_capture.specs.Forms.{handed, is_stream, showing_by, wanted_by}
+use Rattle.bt_capture.specs.Rowed.{heading_of}
 use Rattle.bt_capture.specs.Shown.{HasRows}
 use Rattle.bt_capture.proofs.InOrder.{wants_stream}
 use Rattle.bt_capture.proofs.Parts.{on_ok}
 use Rattle.bt_capture.proofs.Sending.{handed_all, handed_none}
 use Rattle.bt_capture.proofs.Shown.{has_first}
-use Rattle.bt_capture.specs.Tellings.{Says}
+use Rattle.bt_capture.specs.Tellings.{SaysAfter}
 use Rattle.bt_capture.proofs.Reported.{silent, lost_one, not_lost, reported}
 use Rattle.bt_capture.proofs.connections.Run.report.Goals as goal
 
@@ -53,23 +56,39 @@ returns-in-Ok-clause-goes c start now came p es absent i =
     let room = c.end_opening.new.room in
     let same : number ≡ connection.number = search rules in
     let start_is : ℕ = unwrap_or c.args.self.now.start 0 in
-    let R : Talk → Type 0 = λ t. OnOk c.report.result (P → Says c.args.self.now.teller c.report.new.self number c.unwrap_or-from.result t) in
-    let S : ℕ → Type 0 = λ n. OnOk c.report.result (P → Says c.args.self.now.teller c.report.new.self number n talk) in
-    let T : ℕ → Type 0 = λ n. OnOk c.report.result (P → Says c.args.self.now.teller c.report.new.self n start_is talk) in
+    let more : List ℕ = handed form number room in
+    let R : Talk → Type 0 = λ t.
+    OnOk c.report.result ((h : P) → SaysAfter c.args.self.now.teller c.report.new.self number c.unwrap_or-from.result t more h.rows) in
+    let S : ℕ → Type 0 = λ n. OnOk c.report.result ((h : P) → SaysAfter c.args.self.now.teller c.report.new.self number n talk more h.rows) in
+    let T : ℕ → Type 0 = λ n. OnOk c.report.result ((h : P) → SaysAfter c.args.self.now.teller c.report.new.self n start_is talk more h.rows) in
+    let says = subst T same (subst S c.unwrap_or-from.ensures (subst R new c.report.ensures.told)) in
+    let heading : (rows_in c.turn_to.new.self).heading ≡ heading_of form connection.number start_is = search rules in
+    let V : Connection → Type 0 = λ x. (a b : Past) (before : List Shown) → IsTalk a b x.talk
+    → AreShownIn (is_in_opening x.talk) (rows_in c.turn_to.new.self).heading a b x.talk before
+    → ShowsMore false (rows_in c.turn_to.new.self).heading (rows_in c.turn_to.new.self) (rows_in room) a b talk before in
+    let ended = subst V old c.in-Ok.ensures.shown in
+    let showing_is : showing_in c.turn_to.new.self ≡ showing = ap (λ (h : Heading). h.showing) c.turn_to.ensures.heading ∙ c.showing.ensures in
+    let reports = on_ok c.report.result (λ says a b before t sh.
+    let e = ended a b before t (subst (λ (h : Heading). AreShownIn (is_in_opening connection.talk) h a b connection.talk before) (sym heading) sh) in
+    let text : (rows_in room).text.items ≡ shown_texts showing e.0 =
+    e.1.text ∙ ap (λ (l : List ℕ). l ++ shown_texts (showing_in c.turn_to.new.self) e.0) c.turn_to.ensures.empty
+    ∙ ap (λ (s : Showing). shown_texts s e.0) showing_is in
+    let h : P = record { showing_is = ap (λ (k : Heading). k.showing) e.1.heading ∙ showing_is; rows = e.0; text = text } in
+    (e.0, subst (λ (k : Heading). AreShown k a b talk (before ++ filter is_item e.0)) heading e.2, says h)) says in
     let U : Connection → Type 0 = λ x. (a b : Past) (side : Side) → IsTalk a b x.talk → wanted_in c.turn_to.new.self ≡ Some side
     → SendsOn (is_in_opening x.talk) (of_side side a b) (is_in_opening talk) (of_side side a b) (sent_in room) in
     let sends = subst U old c.in-Ok.ensures.sent in
     let wanted : wanted_in c.turn_to.new.self ≡ wanted_by form connection.number = search rules in
     reported c.report.result start now came p c.args.connection es c.args.self.now _ absent some refl refl refl c.report.ensures.form refl
     (subst (λ (x : Connection). is_lost x.talk ≡ false) old there) talk (subst Q old ends) P (subst Z old shown)
-    (subst T same (subst S c.unwrap_or-from.ensures (subst R new c.report.ensures.told))) c.report.ensures.same (handed form number room)
+    c.report.ensures.same more
     c.report.ensures.text c.report.ensures.part (λ w. handed_none form number room (ap (λ n. wanted_by form n) same ∙ w))
     (λ a b side before t w sent.
     let all : handed form number room ≡ sent_in room = handed_all form connection.number number room side same w in
     let V : List ℕ → Type 0 = λ l. IsSent false (of_side side a b) (before ++ l) in
     let W : Bool → Type 0 = λ o. IsSent o (of_side side a b) (before ++ sent_in room) in
     subst V (sym all) (subst W c.in-Ok.ensures.over (sends a b side t (wanted ∙ w) before sent)))
-    i
+    reports i
 
 pub returns-clause-goes : goal.returns-clause-goes
 returns-clause-goes c start now came p es absent i =

@@ -1,10 +1,12 @@
-use Rattle.std.proofs.Common.{rules, ◌≡◌, ◌∙◌, Some, true, sym, ap, subst, List, [], ◌∷◌, ◌++◌}
+use Rattle.std.proofs.Common.{rules, ◌≡◌, ◌∙◌, Some, true, unwrap_or, sym, ap, subst, List, [], ◌∷◌, ◌++◌}
 use Rattle.bt_remarks.specs.declared.events.Side.{Side}
 use Rattle.bt_capture.specs.Arrivals.{arrived}
 use Rattle.bt_capture.specs.Connections.{IsOpen}
 use Rattle.bt_capture.specs.Following.{told_by}
-use Rattle.bt_capture.specs.Forms.{handed, is_stream, wanted_by}
+use Rattle.bt_talk.specs.Rows.{Shown, shown_texts}
+use Rattle.bt_capture.specs.Forms.{handed, is_stream, showing_by, wanted_by}
 use Rattle.bt_capture.specs.Sending.{HasSent}
+use Rattle.bt_capture.specs.Rowed.{HasShown, ShowsOn, heading_of}
 use Rattle.bt_capture.specs.Tables.{Held}
 use Rattle.bt_capture.specs.declared.connection.Connection.{Connection}
 use Rattle.bt_capture.specs.declared.connections.Run.{Run}
@@ -34,12 +36,17 @@ returns-in-Ok-give-clause-goes c start now came i =
     let T : Connection → Type 0 = λ k. (side : Side) → wanted_by form k.number ≡ Some side → HasSent side told run.terms h.taken (x ∷ []) k
     → HasSent side (told ++ more) run.terms (h.taken ++ x ∷ []) [] after in
     let sends = subst T was (λ side. c.give.ensures.sent run.terms h.taken side told) in
+    let from = unwrap_or run.start 0 in
+    let S : Connection → Type 0 = λ k. (before : List Shown) → HasShown (heading_of form k.number from) before run.terms h.taken (x ∷ []) k
+    → (rows : List Shown) × ShowsOn (heading_of form k.number from) before rows run.terms h.taken x after
+    × (c.give.new.self.teller.text.items ≡ run.teller.text.items ++ (shown_texts (showing_by form) rows ++ more)) in
+    let shows = subst S was (c.in-Ok-give.ensures.shown run.terms h.taken) in
     c.put.ensures.goes start now (came ++ x ∷ [])
     (follows_table start now (came ++ x ∷ []) _ _ es _ _ (ap (λ (k : Run). k.table) rest)
     (follows_took start now came x c.of-pair.result c.in-Ok.connection _ es run c.give.new.self (sym c.of-pair.ensures.key) (ap (λ (k : Run). k.terms) rest)
     (ap (λ (k : Run). k.start) rest) (ap (λ (k : Run). k.lost) rest) (ap (λ (k : Run). k.begun) rest) c.give.ensures.form tells number h
     (c.give.ensures.takes run.terms h.taken taking) more text (λ w. handed_none form after.number c.give.new.self.room (ap (λ n. wanted_by form n) number ∙ w))
-    sends))
+    sends shows))
 
 pub returns-in-Err-give-clause-goes : goal.returns-in-Err-give-clause-goes
 returns-in-Err-give-clause-goes c start now came i =

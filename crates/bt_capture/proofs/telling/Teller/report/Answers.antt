@@ -1,10 +1,11 @@
-use Rattle.std.proofs.Common.{◌≡◌, ◌∙◌, ◌⊎◌, ℕ, true, List, [], ◌++◌, append-nil, inl, inr, ap, sym, subst}
+use Rattle.std.proofs.Common.{◌≡◌, ◌∙◌, ◌⊎◌, ℕ, true, List, [], ◌++◌, append-nil, append_assoc, inl, inr, ap, sym, subst}
 use Rattle.bt_talk.specs.Rooms.{rows_in}
+use Rattle.bt_talk.specs.Rows.{shown_texts}
 use Rattle.bt_capture.specs.Forms.{handed, is_stream, showing_by}
 use Rattle.bt_capture.specs.Shown.{HasRows}
-use Rattle.bt_capture.specs.Tellings.{TellsOn}
+use Rattle.bt_capture.specs.Tellings.{TellsOn, report_by}
 use Rattle.bt_capture.proofs.InOrder.{no_rows}
-use Rattle.bt_capture.proofs.Shown.{has_more, on_err}
+use Rattle.bt_capture.proofs.Shown.{has_more, on_err, texts_more}
 use Rattle.bt_capture.specs.declared.ending.Form.{Form}
 use Rattle.bt_capture.specs.declared.telling.Teller.{Teller}
 use Rattle.bt_talk.specs.declared.room.Room.{Room}
@@ -21,13 +22,29 @@ IsPart t t' number room = is_stream t.form ≡ true → HasRows (showing_by t.fo
 pub returns-clause-told : goal.returns-clause-told
 returns-clause-told c = λ h.
     let g = c.in_ok-show_gaps.ensures.others in
-    let rows = has_more (showing_by c.args.self.now.form) c.args.room.now c.show_gaps.new.room g.0 g.2 h in
-    let r = c.in_ok-report_on.ensures.told in (
+    let old = c.args.self.now in
+    let form = old.form in
+    let rows = has_more (showing_by form) c.args.room.now c.show_gaps.new.room g.0 g.2 h in
+    let r = c.in_ok-report_on.ensures.told in
+    let all : List ℕ = shown_texts (showing_by form) (h.rows ++ g.0) in
+    let text : (rows_in c.show_gaps.new.room).text.items ≡ all =
+    texts_more (showing_by form) c.args.room.now c.show_gaps.new.room h.rows g.0 h.showing_is h.text g.2 in
+    let bytes : List ℕ = handed form c.args.number c.args.room.now in
+    let same : c.show_rows.new.self.form ≡ form = c.show_rows.ensures.form ∙ c.hand_out.ensures.form in
+    let last : List ℕ = report_by form r.0 in
+    let shown : c.show_rows.new.self.text.items ≡ (old.text.items ++ bytes) ++ all =
+    c.in_ok-show_rows.ensures.text ∙ ap (λ (l : List ℕ). c.hand_out.new.self.text.items ++ l) text
+    ∙ ap (λ (l : List ℕ). l ++ all) c.in_ok-hand_out.ensures.text in (
       r.0,
       r.1,
       λ start now reports written t. r.2 start now reports written
           (c.show_rows.ensures.told (in_form _ _ _ c.hand_out.ensures.form rows) start now reports written
           (c.hand_out.ensures.told start now reports written t)),
+      g.0,
+      g.1,
+      r.3 ∙ ap (λ (k : Form). c.show_rows.new.self.text.items ++ report_by k r.0) same ∙ ap (λ (l : List ℕ). l ++ last) shown
+          ∙ append_assoc (old.text.items ++ bytes) all last ∙ append_assoc old.text.items bytes (all ++ last)
+          ∙ ap (λ (l : List ℕ). old.text.items ++ l) (sym (append_assoc bytes all last)),
     )
 
 pub returns-in_err-show_rows-clause-same : goal.returns-in_err-show_rows-clause-same

@@ -13,4 +13,5 @@ returns-in-Ok-clause-told c =
         body = c.body_of-body.ensures a b i;
       },
       c.in-Ok.ensures.told,
+      c.in-Ok.ensures.text,
     )

@@ -12,7 +12,8 @@ use Rattle.std.proofs.Common.{refl, sym}
 pub returns-then-closes_first-clause-kept : goal.returns-then-closes_first-clause-kept
 returns-then-closes_first-clause-kept c = λ a b t.
     let self = c.args.self.now in
-    closed_both a b self _ refl refl (ap (λ (d : Direction). d.stage) c.close.ensures.rest) (ap (λ (d : Direction). d.stage) c.close-then-closes_first.ensures.rest)
+    closed_both a b self _ refl refl (ap (λ (d : Direction). d.stage) c.close.ensures.rest)
+    (ap (λ (d : Direction). d.stage) c.close-then-closes_first.ensures.rest)
     (c.close.ensures.cut self.terms a b (t.said.items A) t.a_is t.said.a_items
     (subst (λ (o : Option Said). IsLast (t.said.items A) o) (sym c.last.ensures) (t.said.watched.notes A).last))
     (c.close-then-closes_first.ensures.cut self.terms b a (t.said.items B) t.b_is t.said.b_items
@@ -26,10 +27,15 @@ returns-then-closes_first-clause-cuts c = λ a b side t.
 
 pub returns-then-closes_first-clause-flows : goal.returns-then-closes_first-clause-flows
 returns-then-closes_first-clause-flows c = λ side.
-    flows_same side c.args.self.now _ (ap (λ (d : Direction). d.flow) c.close.ensures.rest) (ap (λ (d : Direction). d.flow) c.close-then-closes_first.ensures.rest)
+    flows_same side c.args.self.now _ (ap (λ (d : Direction). d.flow) c.close.ensures.rest)
+    (ap (λ (d : Direction). d.flow) c.close-then-closes_first.ensures.rest)
 
 pub returns-then-closes_first-clause-opening : goal.returns-then-closes_first-clause-opening
 returns-then-closes_first-clause-opening c = ap (λ (d : Direction). is_opening d.stage) c.close.ensures.rest
+
+pub returns-then-closes_first-clause-stages : goal.returns-then-closes_first-clause-stages
+returns-then-closes_first-clause-stages c =
+    (ap (λ (d : Direction). d.stage) c.close.ensures.rest, ap (λ (d : Direction). d.stage) c.close-then-closes_first.ensures.rest)
 
 pub returns-else-closes_first-clause-cuts : goal.returns-else-closes_first-clause-cuts
 returns-else-closes_first-clause-cuts c = λ a b side t.

@@ -1,11 +1,13 @@
-use Rattle.std.proofs.Common.{◌∙◌, true, false, [], refl, sym, ap, inl, inr}
+use Rattle.std.proofs.Common.{◌≡◌, ◌∙◌, true, false, List, [], append-nil, refl, sym, ap, subst, inl, inr}
 use Rattle.std.proofs.lemmas.Bool.{cases_Bool}
 use Rattle.bt_talk.specs.declared.room.Room.{Room}
 use Rattle.bt_talk.specs.declared.talk.Talk.{Talk}
 use Rattle.bt_talk.specs.declared.watch.Watch.{Watch}
-use Rattle.bt_talk.specs.Talks.{is_in_opening, of_side}
+use Rattle.bt_talk.specs.Rows.{Shown}
+use Rattle.bt_talk.specs.Talks.{AreShown, is_in_opening, of_side}
 use Rattle.bt_talk.proofs.Lent.{Alike, with_watch, talk_alike, opened_alike}
 use Rattle.bt_talk.proofs.Shown.{appends_none, appends_same}
+use Rattle.bt_talk.proofs.Grows.{shown_after, shown_alike, shown_in, shows_opened}
 use Rattle.bt_talk.proofs.Sent.{sends_first, sends_nothing}
 use Rattle.bt_talk.proofs.Talks.{both_same, flow_same}
 use Rattle.bt_talk.proofs.talk.Talk.end_opening.Goals as goal
@@ -18,8 +20,10 @@ returns-in-Ok-clause-kept c = λ a b t.
     let u : Talk = record self { is_lost = true; watch = c.swap_rows.new.self } in
     let v = c.open-opened.new.self in
     let w : Talk = record v { is_lost = false; watch = c.swap_rows-2.new.self } in
-    let i : Alike self u = with_watch self true c.swap_rows.new.self (ap (λ (x : Watch). x.matcher) mine) (ap (λ (x : Watch). x.a) mine) (ap (λ (x : Watch). x.b) mine) in
-    let k : Alike v w = with_watch v false c.swap_rows-2.new.self (ap (λ (x : Watch). x.matcher) back) (ap (λ (x : Watch). x.a) back) (ap (λ (x : Watch). x.b) back) in
+    let i : Alike self u = with_watch self true c.swap_rows.new.self (ap (λ (x : Watch). x.matcher) mine) (ap (λ (x : Watch). x.a) mine)
+    (ap (λ (x : Watch). x.b) mine) in
+    let k : Alike v w = with_watch v false c.swap_rows-2.new.self (ap (λ (x : Watch). x.matcher) back) (ap (λ (x : Watch). x.a) back)
+    (ap (λ (x : Watch). x.b) back) in
     talk_alike a b v w k (c.in-Ok.ensures.kept a b (talk_alike a b self u i t))
 
 pub returns-in-Ok-clause-cuts : goal.returns-in-Ok-clause-cuts
@@ -27,7 +31,8 @@ returns-in-Ok-clause-cuts c = λ a b side t.
     let self = c.args.self.now in
     let mine = c.swap_rows.ensures.mine in
     let u : Talk = record self { is_lost = true; watch = c.swap_rows.new.self } in
-    let i : Alike self u = with_watch self true c.swap_rows.new.self (ap (λ (x : Watch). x.matcher) mine) (ap (λ (x : Watch). x.a) mine) (ap (λ (x : Watch). x.b) mine) in
+    let i : Alike self u = with_watch self true c.swap_rows.new.self (ap (λ (x : Watch). x.matcher) mine) (ap (λ (x : Watch). x.a) mine)
+    (ap (λ (x : Watch). x.b) mine) in
     both_same side c.open-opened.new.self _ refl refl ∙ c.in-Ok.ensures.cuts a b side (talk_alike a b self u i t) ∙ both_same side self u refl refl
 
 pub returns-in-Ok-clause-flows : goal.returns-in-Ok-clause-flows
@@ -43,7 +48,8 @@ returns-in-Ok-clause-opened c = λ a b t o.
     let back = c.swap_rows-2.ensures.mine in
     let u : Talk = record self { is_lost = true; watch = c.swap_rows.new.self } in
     let v = c.open-opened.new.self in
-    let i : Alike self u = with_watch self true c.swap_rows.new.self (ap (λ (x : Watch). x.matcher) mine) (ap (λ (x : Watch). x.a) mine) (ap (λ (x : Watch). x.b) mine) in
+    let i : Alike self u = with_watch self true c.swap_rows.new.self (ap (λ (x : Watch). x.matcher) mine) (ap (λ (x : Watch). x.a) mine)
+    (ap (λ (x : Watch). x.b) mine) in
     opened_alike a b v.a.stage v.b.stage v.watch c.swap_rows-2.new.self c.args.room.now.rows c.swap_rows-2.new.rows u.watch.rows v.watch.rows
     (ap (λ (x : Watch). x.matcher) back) (ap (λ (x : Watch). x.a) back) (ap (λ (x : Watch). x.b) back) (ap (λ (x : Watch). x.rows) mine)
     (sym c.swap_rows-2.ensures.others) (c.in-Ok.ensures.opened a b (talk_alike a b self u i t) o)
@@ -69,11 +75,39 @@ returns-in-Ok-clause-sent c = λ a b side t w.
     let mine = c.swap_rows.ensures.mine in
     let u : Talk = record self { is_lost = true; watch = c.swap_rows.new.self } in
     let v = c.open-opened.new.self in
-    let i : Alike self u = with_watch self true c.swap_rows.new.self (ap (λ (x : Watch). x.matcher) mine) (ap (λ (x : Watch). x.a) mine) (ap (λ (x : Watch). x.b) mine) in
+    let i : Alike self u = with_watch self true c.swap_rows.new.self (ap (λ (x : Watch). x.matcher) mine) (ap (λ (x : Watch). x.a) mine)
+    (ap (λ (x : Watch). x.b) mine) in
     let out = c.open-opened.new.room.out.items in
     elim (cases_Bool (is_in_opening self)) [
       | inl o ↦ sends_first (is_in_opening self) (is_in_opening v) (of_side side a b) (of_side side a b) out o
           (c.in-Ok.ensures.sent a b side (talk_alike a b self u i t) o w c.clear.ensures.items)
       | inr o ↦ sends_nothing (is_in_opening self) (is_in_opening v) (of_side side a b) out (ap is_in_opening (c.in-Ok.ensures.open_already o))
           (ap (λ (r : Room). r.out.items) (c.in-Ok.ensures.room_already o) ∙ c.clear.ensures.items)
+    ]
+
+pub returns-in-Ok-clause-shown : goal.returns-in-Ok-clause-shown
+returns-in-Ok-clause-shown c = λ a b before t sh.
+    let self = c.args.self.now in
+    let mine = c.swap_rows.ensures.mine in
+    let back = c.swap_rows-2.ensures.mine in
+    let u : Talk = record self { is_lost = true; watch = c.swap_rows.new.self } in
+    let v = c.open-opened.new.self in
+    let w : Talk = record v { is_lost = false; watch = c.swap_rows-2.new.self } in
+    let i : Alike self u = with_watch self true c.swap_rows.new.self (ap (λ (x : Watch). x.matcher) mine) (ap (λ (x : Watch). x.a) mine)
+    (ap (λ (x : Watch). x.b) mine) in
+    let k : Alike v w = with_watch v false c.swap_rows-2.new.self (ap (λ (x : Watch). x.matcher) back) (ap (λ (x : Watch). x.a) back)
+    (ap (λ (x : Watch). x.b) back) in
+    let rows = c.args.room.now.rows in
+    let rows' = c.swap_rows-2.new.rows in
+    let head = rows.heading in
+    elim (cases_Bool (is_in_opening self)) [
+      | inl o ↦ shows_opened a b w rows rows' before (shown_in (is_in_opening self) head a b self before o sh) (returns-in-Ok-clause-opened c a b t o)
+      | inr o ↦
+          let was = shown_alike head a b self u before i (shown_after (is_in_opening self) head a b self before o sh) in
+          let same : v ≡ u = c.in-Ok.ensures.open_already o in
+          let now : AreShown head a b v before = subst (λ (x : Talk). AreShown head a b x before) (sym same) was in (
+            [],
+            appends_same [] rows rows rows rows' refl (returns-in-Ok-clause-open_already c o) (appends_none rows),
+            subst (λ (l : List Shown). AreShown head a b w l) (sym (append-nil before)) (shown_alike head a b v w before k now),
+          )
     ]

@@ -47,7 +47,8 @@ pub returns-clause-open_already : goal.returns-clause-open_already
 returns-clause-open_already c = λ o. absurd (let e : true ≡ false = sym (sym c.is_opening.ensures ∙ c.if-not-is_opening.false) ∙ o in cc)
 
 pub returns-then-not-is_opening-clause-sent : goal.returns-then-not-is_opening-clause-sent
-returns-then-not-is_opening-clause-sent c = λ a b side t o w e. absurd (let e : true ≡ false = sym o ∙ sym c.is_opening.ensures ∙ c.if-not-is_opening.true in cc)
+returns-then-not-is_opening-clause-sent c =
+    λ a b side t o w e. absurd (let e : true ≡ false = sym o ∙ sym c.is_opening.ensures ∙ c.if-not-is_opening.true in cc)
 
 pub returns-clause-sent : goal.returns-clause-sent
 returns-clause-sent c = λ a b side t o w e.

@@ -1,4 +1,5 @@
 use Rattle.std.proofs.Common.{◌≡◌, ◌∙◌, ◌+◌, ◌-◌, ◌^◌, min, true, false, not, refl, sym, ap, arith}
+use Rattle.bt_talk.specs.declared.talk.Talk.{Talk}
 use Rattle.bt_talk.specs.Talks.{is_in_opening, of_side}
 use Rattle.bt_talk.proofs.Sent.{sent_none}
 use Rattle.bt_talk.proofs.Shown.{appends_none}
@@ -50,7 +51,8 @@ returns-clause-opened c = λ a b t o. record {
 }
 
 pub returns-then-not-is_opening-clause-sent : goal.returns-then-not-is_opening-clause-sent
-returns-then-not-is_opening-clause-sent c = λ a b side t o w e. absurd (let e : true ≡ false = sym o ∙ sym c.is_opening.ensures ∙ c.if-not-is_opening.true in cc)
+returns-then-not-is_opening-clause-sent c =
+    λ a b side t o w e. absurd (let e : true ≡ false = sym o ∙ sym c.is_opening.ensures ∙ c.if-not-is_opening.true in cc)
 
 pub returns-then-not-is_over-clause-sent : goal.returns-then-not-is_over-clause-sent
 returns-then-not-is_over-clause-sent c = λ a b side t o w e. sent_none (is_in_opening c.args.self.now) (of_side side a b) c.args.room.now.out.items o e
@@ -58,6 +60,14 @@ returns-then-not-is_over-clause-sent c = λ a b side t o w e. sent_none (is_in_o
 pub returns-clause-sent : goal.returns-clause-sent
 returns-clause-sent c = λ a b side t o w e.
     c.in_ok-open.ensures.sent a b side (record { a_is = t.a_is; b_is = t.b_is; stages = t.stages; said = t.said }) o w e
+
+pub returns-then-not-is_over-clause-stages : goal.returns-then-not-is_over-clause-stages
+returns-then-not-is_over-clause-stages c = λ o. (refl, refl)
+
+pub returns-clause-stages : goal.returns-clause-stages
+returns-clause-stages c = λ o.
+    let same = c.in_ok-open.ensures.open_already o in
+    (ap (λ (k : Talk). k.a.stage) same, ap (λ (k : Talk). k.b.stage) same)
 
 pub returns-clause-room_already : goal.returns-clause-room_already
 returns-clause-room_already c = λ o. c.in_ok-open.ensures.room_already o

@@ -23,7 +23,8 @@ returns-clause-others c =
     )
 
 pub returns-in_err-show_inside-clause-err : goal.returns-in_err-show_inside-clause-err
-returns-in_err-show_inside-clause-err c = rows_before c.from_residual.result [] c.args.room.now.rows c.show_inside.new.room.rows c.in_err-show_inside.ensures.err
+returns-in_err-show_inside-clause-err c =
+    rows_before c.from_residual.result [] c.args.room.now.rows c.show_inside.new.room.rows c.in_err-show_inside.ensures.err
 
 pub returns-in_err-show_gap-clause-err : goal.returns-in_err-show_gap-clause-err
 returns-in_err-show_gap-clause-err c =

@@ -1,6 +1,10 @@
-use Rattle.std.proofs.Common.{◌≡◌, ◌∙◌, true, false, sym, ap}
+use Rattle.std.proofs.Common.{◌≡◌, ◌∙◌, true, false, inl, inr, sym, ap, subst}
+use Rattle.std.proofs.lemmas.Bool.{cases_Bool}
+use Rattle.bt_talk.specs.declared.rows.Rows.{Rows}
 use Rattle.bt_talk.specs.declared.talk.Talk.{Talk}
 use Rattle.bt_talk.specs.declared.watch.Watch.{Watch}
+use Rattle.bt_talk.specs.Talks.{AreShown, is_in_opening}
+use Rattle.bt_talk.proofs.Grows.{shown_after, shown_alike, shown_in, shows_alike_more, shows_by, shows_nothing, shows_opened}
 use Rattle.bt_talk.proofs.Lent.{Alike, alike_back, with_watch, talk_alike, takes_alike, shows_alike, settled_alike, some_rows}
 use Rattle.bt_talk.proofs.talk.Talk.take.Goals as goal
 
@@ -12,9 +16,11 @@ returns-in-Ok-clause-taken c = λ a b t.
     let w : Talk = record v { is_lost = false; watch = c.swap_rows-2.new.self } in
     let watch : c.come_to.new.self ≡ record self.watch { rows = c.args.room.now.rows; when = c.args.when } =
     c.come_to.ensures ∙ ap (λ (k : Watch). record k { when = c.args.when }) c.swap_rows.ensures.mine in
-    let i : Alike self u = with_watch self true c.come_to.new.self (ap (λ (k : Watch). k.matcher) watch) (ap (λ (k : Watch). k.a) watch) (ap (λ (k : Watch). k.b) watch) in
+    let i : Alike self u = with_watch self true c.come_to.new.self (ap (λ (k : Watch). k.matcher) watch) (ap (λ (k : Watch). k.a) watch)
+    (ap (λ (k : Watch). k.b) watch) in
     let back = c.swap_rows-2.ensures.mine in
-    let k : Alike v w = with_watch v false c.swap_rows-2.new.self (ap (λ (x : Watch). x.matcher) back) (ap (λ (x : Watch). x.a) back) (ap (λ (x : Watch). x.b) back) in
+    let k : Alike v w = with_watch v false c.swap_rows-2.new.self (ap (λ (x : Watch). x.matcher) back) (ap (λ (x : Watch). x.a) back)
+    (ap (λ (x : Watch). x.b) back) in
     let x = c.in-Ok.ensures.taken a b (talk_alike a b self u i t) in
     takes_alike c.args.segment.now c.args.when a b u v self w (alike_back self u i) k x.0
 
@@ -26,9 +32,11 @@ returns-in-Ok-clause-order c = λ a b t o.
     let w : Talk = record v { is_lost = false; watch = c.swap_rows-2.new.self } in
     let watch : c.come_to.new.self ≡ record self.watch { rows = c.args.room.now.rows; when = c.args.when } =
     c.come_to.ensures ∙ ap (λ (k : Watch). record k { when = c.args.when }) c.swap_rows.ensures.mine in
-    let i : Alike self u = with_watch self true c.come_to.new.self (ap (λ (k : Watch). k.matcher) watch) (ap (λ (k : Watch). k.a) watch) (ap (λ (k : Watch). k.b) watch) in
+    let i : Alike self u = with_watch self true c.come_to.new.self (ap (λ (k : Watch). k.matcher) watch) (ap (λ (k : Watch). k.a) watch)
+    (ap (λ (k : Watch). k.b) watch) in
     let back = c.swap_rows-2.ensures.mine in
-    let k : Alike v w = with_watch v false c.swap_rows-2.new.self (ap (λ (x : Watch). x.matcher) back) (ap (λ (x : Watch). x.a) back) (ap (λ (x : Watch). x.b) back) in
+    let k : Alike v w = with_watch v false c.swap_rows-2.new.self (ap (λ (x : Watch). x.matcher) back) (ap (λ (x : Watch). x.a) back)
+    (ap (λ (x : Watch). x.b) back) in
     shows_alike c.args.segment.now c.args.when c.come_to.new.self.when self w u v c.args.room.now.rows c.swap_rows-2.new.rows u.watch.rows v.watch.rows i
     (alike_back v w k) (ap (λ (x : Watch). x.when) watch) (ap (λ (x : Watch). x.rows) watch) (sym c.swap_rows-2.ensures.others)
     (c.in-Ok.ensures.order a b (talk_alike a b self u i t) o)
@@ -41,9 +49,11 @@ returns-in-Ok-clause-opened c = λ a b t o.
     let w : Talk = record v { is_lost = false; watch = c.swap_rows-2.new.self } in
     let watch : c.come_to.new.self ≡ record self.watch { rows = c.args.room.now.rows; when = c.args.when } =
     c.come_to.ensures ∙ ap (λ (k : Watch). record k { when = c.args.when }) c.swap_rows.ensures.mine in
-    let i : Alike self u = with_watch self true c.come_to.new.self (ap (λ (k : Watch). k.matcher) watch) (ap (λ (k : Watch). k.a) watch) (ap (λ (k : Watch). k.b) watch) in
+    let i : Alike self u = with_watch self true c.come_to.new.self (ap (λ (k : Watch). k.matcher) watch) (ap (λ (k : Watch). k.a) watch)
+    (ap (λ (k : Watch). k.b) watch) in
     let back = c.swap_rows-2.ensures.mine in
-    let k : Alike v w = with_watch v false c.swap_rows-2.new.self (ap (λ (x : Watch). x.matcher) back) (ap (λ (x : Watch). x.a) back) (ap (λ (x : Watch). x.b) back) in
+    let k : Alike v w = with_watch v false c.swap_rows-2.new.self (ap (λ (x : Watch). x.matcher) back) (ap (λ (x : Watch). x.a) back)
+    (ap (λ (x : Watch). x.b) back) in
     let x = c.in-Ok.ensures.taken a b (talk_alike a b self u i t) in (
       takes_alike c.args.segment.now c.args.when a b u v self w (alike_back self u i) k x.0,
       settled_alike c.args.segment.now c.args.when a b self w u v c.args.room.now.rows c.swap_rows-2.new.rows u.watch.rows v.watch.rows (alike_back self u i) k
@@ -63,8 +73,49 @@ returns-in-Ok-clause-sent c = λ a b t.
     let w : Talk = record v { is_lost = false; watch = c.swap_rows-2.new.self } in
     let watch : c.come_to.new.self ≡ record self.watch { rows = c.args.room.now.rows; when = c.args.when } =
     c.come_to.ensures ∙ ap (λ (k : Watch). record k { when = c.args.when }) c.swap_rows.ensures.mine in
-    let i : Alike self u = with_watch self true c.come_to.new.self (ap (λ (k : Watch). k.matcher) watch) (ap (λ (k : Watch). k.a) watch) (ap (λ (k : Watch). k.b) watch) in
+    let i : Alike self u = with_watch self true c.come_to.new.self (ap (λ (k : Watch). k.matcher) watch) (ap (λ (k : Watch). k.a) watch)
+    (ap (λ (k : Watch). k.b) watch) in
     let back = c.swap_rows-2.ensures.mine in
-    let k : Alike v w = with_watch v false c.swap_rows-2.new.self (ap (λ (x : Watch). x.matcher) back) (ap (λ (x : Watch). x.a) back) (ap (λ (x : Watch). x.b) back) in
+    let k : Alike v w = with_watch v false c.swap_rows-2.new.self (ap (λ (x : Watch). x.matcher) back) (ap (λ (x : Watch). x.a) back)
+    (ap (λ (x : Watch). x.b) back) in
     let x = c.in-Ok.ensures.taken a b (talk_alike a b self u i t) in
     (takes_alike c.args.segment.now c.args.when a b u v self w (alike_back self u i) k x.0, x.2 c.clear.ensures.items)
+
+pub returns-in-Ok-clause-shown : goal.returns-in-Ok-clause-shown
+returns-in-Ok-clause-shown c = λ a b before t sh.
+    let self = c.args.self.now in
+    let u : Talk = record self { is_lost = true; watch = c.come_to.new.self } in
+    let v = c.take_next-taken.new.self in
+    let w : Talk = record v { is_lost = false; watch = c.swap_rows-2.new.self } in
+    let watch : c.come_to.new.self ≡ record self.watch { rows = c.args.room.now.rows; when = c.args.when } =
+    c.come_to.ensures ∙ ap (λ (k : Watch). record k { when = c.args.when }) c.swap_rows.ensures.mine in
+    let i : Alike self u = with_watch self true c.come_to.new.self (ap (λ (k : Watch). k.matcher) watch) (ap (λ (k : Watch). k.a) watch)
+    (ap (λ (k : Watch). k.b) watch) in
+    let back = c.swap_rows-2.ensures.mine in
+    let k : Alike v w = with_watch v false c.swap_rows-2.new.self (ap (λ (x : Watch). x.matcher) back) (ap (λ (x : Watch). x.a) back)
+    (ap (λ (x : Watch). x.b) back) in
+    let x = c.in-Ok.ensures.taken a b (talk_alike a b self u i t) in
+    let took = takes_alike c.args.segment.now c.args.when a b u v self w (alike_back self u i) k x.0 in
+    let rows = c.args.room.now.rows in
+    let rows' = c.swap_rows-2.new.rows in
+    let head = rows.heading in
+    let mine : u.watch.rows ≡ rows = ap (λ (x : Watch). x.rows) watch in
+    elim (cases_Bool (is_in_opening self)) [
+      | inl o ↦
+          let none = shown_in (is_in_opening self) head a b self before o sh in
+          let h = returns-in-Ok-clause-opened c a b t o in (
+            h.0,
+            shows_by (is_in_opening w) head rows rows' h.0.a' h.0.b' w before
+                (λ q. shows_nothing head rows rows' h.0.a' h.0.b' w before none (h.1.quiet q))
+                (λ q. shows_opened h.0.a' h.0.b' w rows rows' before none (h.1.opened q)),
+          )
+      | inr o ↦
+          let was = shown_alike head a b self u before i (shown_after (is_in_opening self) head a b self before o sh) in
+          let first = subst (λ (z : Rows). AreShown z.heading a b u before) (sym mine) was in
+          let more = x.3 before o first in (
+            took,
+            shows_by (is_in_opening w) head rows rows' took.a' took.b' w before (λ q. absurd (let e : true ≡ false = sym q ∙ took.after o in cc))
+                (λ q. shows_alike_more u.watch.rows.heading head took.a' took.b' v w u.watch.rows v.watch.rows rows rows' before k
+                (sym (ap (λ (z : Rows). z.heading) mine)) (sym mine) c.swap_rows-2.ensures.others more),
+          )
+    ]

@@ -1,22 +1,26 @@
-use Rattle.std.proofs.Common.{◌≡◌, ◌∙◌, ℕ, ◌+◌, ◌-◌, ◌^◌, [], min, length, Option, Some, sym, ap, subst, refl}
+use Rattle.std.proofs.Common.{◌≡◌, ◌∙◌, ℕ, ◌+◌, ◌-◌, ◌^◌, ◌++◌, [], min, length, Option, sym, ap, subst, refl}
 use Rattle.std.specs.Prelude.{◌↔◌}
+use Rattle.std.specs.List.{filter}
 use Rattle.bt_remarks.specs.declared.events.Side.{Side}
 use Rattle.bt_remarks.specs.declared.events.Side.TheVariants.{A, B}
 use Rattle.bt_remarks.specs.Said.{other}
 use Rattle.bt_talk.specs.declared.closing.Closed.{Closed}
 use Rattle.bt_talk.specs.declared.closing.Closing.{Closing}
+use Rattle.bt_talk.specs.declared.direction.Direction.{Direction}
 use Rattle.bt_talk.specs.declared.ends.Ends.{Ends}
 use Rattle.bt_talk.specs.declared.room.Room.{Room}
 use Rattle.bt_talk.specs.declared.talk.Talk.{Talk}
 use Rattle.bt_talk.specs.declared.watch.Watch.{Watch}
 use Rattle.bt_talk.specs.Cuts.{cut_after}
 use Rattle.bt_talk.specs.Talks.{IsTalk, is_in_opening, flow_of, cut_of, of_side}
+use Rattle.bt_talk.specs.Rows.{is_item}
 use Rattle.bt_talk.specs.Sent.{IsReady, is_wanted}
 use Rattle.bt_talk.proofs.Closes.{closes_same}
 use Rattle.bt_talk.proofs.Lent.{Alike, talk_alike, opening_alike, opened_after, after_steps}
+use Rattle.bt_talk.proofs.Grows.{shown_same, shows_others_too}
 use Rattle.bt_talk.proofs.Shown.{appends_more, appends_same}
 use Rattle.bt_talk.proofs.Sent.{ready_kept, fronts_kept, sends_on, parts_of}
-use Rattle.bt_talk.proofs.Talks.{acked_same, sender_same, end_same, flow_same, sent_same, both_same}
+use Rattle.bt_talk.proofs.Talks.{acked_same, end_same, flow_same, sent_same, both_same}
 use Rattle.bt_talk.proofs.Watching.{watched_same}
 use Rattle.bt_talk.proofs.talk.Talk.take_next.Goals as goal
 
@@ -27,10 +31,12 @@ returns-clause-taken c = λ a b t.
     let shown = c.show.new.self in
     let y = c.in_ok-exchange.ensures.taken a b t in
     let x = y.0 in
-    let al : Alike given shown = after_steps given c.go_on-closed.new.self c.keep_mark.new.self shown c.go_on-closed.ensures.rest c.keep_mark.ensures c.show.ensures.rest in
+    let al : Alike given shown =
+    after_steps given c.go_on-closed.new.self c.keep_mark.new.self shown c.go_on-closed.ensures.rest c.keep_mark.ensures c.show.ensures.rest in
     let marked = talk_alike x.a' x.b' given shown al x.is in
     let cut = c.cut.ensures.kept x.a' x.b' marked in
-    let sends = subst (λ (e : Ends). (x.side ≡ A) ↔ (c.args.segment.now.source ≡ e.a)) (sym (c.cut.ensures.ends ∙ al.ends ∙ c.in_ok-exchange.ensures.ends)) x.is_side in
+    let sends = subst (λ (e : Ends). (x.side ≡ A) ↔ (c.args.segment.now.source ≡ e.a))
+    (sym (c.cut.ensures.ends ∙ al.ends ∙ c.in_ok-exchange.ensures.ends)) x.is_side in
     let n = c.note.ensures.closes x.a' x.b' x.side cut sends in
     let noted = subst (λ (k : Talk). IsTalk x.a' x.b' k) (sym c.note.ensures.rest)
     (record { a_is = cut.a_is; b_is = cut.b_is; stages = cut.stages; said = cut.said }) in
@@ -51,7 +57,8 @@ returns-clause-taken c = λ a b t.
         a' = x.a';
         b' = x.b';
         is = s.is;
-        sent = sent_same c.args.segment.now (is_in_opening self) (of_side x.side a b) _ _ (of_side x.side x.a' x.b') _ _ refl (kept x.side ∙ flows x.side) x.sent;
+        sent = sent_same c.args.segment.now (is_in_opening self) (of_side x.side a b) _ _ (of_side x.side x.a' x.b') _ _ refl
+            (kept x.side ∙ flows x.side) x.sent;
         acked = x.acked;
         opening = λ o. end_same x.a' x.b' _ _ _ _ (ap (λ (n : ℕ). min (n + 1) (2 ^ 32 - 1)) segments) refl (s.opening (was ∙ o));
         after = λ o. c.in_ok-settle.ensures.after (was ∙ o);
@@ -75,7 +82,8 @@ returns-clause-taken c = λ a b t.
           let op = c.in_ok-settle.ensures.opened x.a' x.b' noted (was ∙ o) in
           record {
             quiet = λ q. appends_more [] [] self.watch.rows given.watch.rows c.settle.new.self.watch.rows silent
-                (appends_same [] c.note.new.self.watch.rows c.settle.new.self.watch.rows given.watch.rows c.settle.new.self.watch.rows (sym rows) refl (op.quiet q));
+                (appends_same [] c.note.new.self.watch.rows c.settle.new.self.watch.rows given.watch.rows c.settle.new.self.watch.rows (sym rows) refl
+                (op.quiet q));
             opened = λ n. opened_after x.a' x.b' c.settle.new.self.a.stage c.settle.new.self.b.stage c.settle.new.self.watch self.watch.rows given.watch.rows
                 c.note.new.self.watch.rows c.settle.new.self.watch.rows silent rows (op.opened n);
           },
@@ -84,7 +92,8 @@ returns-clause-taken c = λ a b t.
           let parts = parts_of side a b self t in
           let is = ap (λ (r : Room). r.wanted) c.exchange.ensures.room ∙ w in
           let out = c.exchange.new.room.out.items in
-          let sent = subst (λ (o : Option Side). IsReady (is_in_opening self) (is_wanted x.side o) (of_side x.side a b) (of_side x.side x.a' x.b') out) w (y.1 none) in
+          let sent = subst (λ (o : Option Side). IsReady (is_in_opening self) (is_wanted x.side o) (of_side x.side a b)
+          (of_side x.side x.a' x.b') out) w (y.1 none) in
           let ready = ready_kept (is_in_opening self) x.side side a b x.a' x.b' out sent
           (acked_same s (of_side (other x.side) a b) (of_side (other x.side) x.a' x.b') x.acked).1 in
           sends_on (is_in_opening self) (is_in_opening c.settle.new.self) (of_side side a b) (of_side side x.a' x.b') parts.0 out
@@ -93,6 +102,32 @@ returns-clause-taken c = λ a b t.
           (λ o. c.in_ok-settle.ensures.after (was ∙ o))
           (λ o. ap (λ (r : Room). r.out.items) (c.in_ok-settle.ensures.room_already (was ∙ o)))
           (λ o nil. c.in_ok-settle.ensures.sent x.a' x.b' side noted (was ∙ o) is nil),
+      λ before o sh.
+          let m = y.2 before sh in
+          let marked = c.keep_mark.new.self in
+          let settled = c.settle.new.self in
+          let others = c.in_ok-show.ensures.others in
+          let stages = c.in_ok-settle.ensures.stages (was ∙ o) in
+          let noted_a : c.note.new.self.a ≡ c.cut.new.self.a = ap (λ (k : Talk). k.a) c.note.ensures.rest in
+          let noted_b : c.note.new.self.b ≡ c.cut.new.self.b = ap (λ (k : Talk). k.b) c.note.ensures.rest in
+          let a_stage : settled.a.stage ≡ given.a.stage =
+          stages.0 ∙ ap (λ (d : Direction). d.stage) noted_a ∙ c.cut.ensures.stages.0 ∙ ap (λ (d : Direction). d.stage) al.a in
+          let b_stage : settled.b.stage ≡ given.b.stage =
+          stages.1 ∙ ap (λ (d : Direction). d.stage) noted_b ∙ c.cut.ensures.stages.1 ∙ ap (λ (d : Direction). d.stage) al.b in
+          let watch : settled.watch ≡ shown.watch =
+          c.in_ok-settle.ensures.watch (was ∙ o) ∙ ap (λ (k : Talk). k.watch) c.note.ensures.rest ∙ c.cut.ensures.watch in
+          let before_is : given.watch ≡ marked.watch =
+          sym (ap (λ (k : Talk). k.watch) c.keep_mark.ensures ∙ ap (λ (k : Talk). k.watch) c.go_on-closed.ensures.rest) in
+          let head = self.watch.rows.heading in (
+            m.0 ++ others.others,
+            appends_more m.0 others.others self.watch.rows given.watch.rows settled.watch.rows m.1
+                (appends_same others.others marked.watch.rows shown.watch.rows given.watch.rows settled.watch.rows
+                (ap (λ (w : Watch). w.rows) before_is) (ap (λ (w : Watch). w.rows) watch) others.appends),
+            shows_others_too head x.a' x.b' settled before m.0 others.others others.no_item
+                (shown_same head x.a' x.b' given settled (before ++ filter is_item m.0) a_stage b_stage
+                (ap (λ (w : Watch). w.matcher) watch ∙ al.matcher) (ap (λ (w : Watch). w.a) watch ∙ al.a_notes)
+                (ap (λ (w : Watch). w.b) watch ∙ al.b_notes) m.2),
+          ),
     )
 
 pub returns-clause-order : goal.returns-clause-order
