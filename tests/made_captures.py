@@ -470,6 +470,15 @@ isn't in the capture
 """
 
 
+def replaced():
+    """Another connection between the same ports begins before one is closed."""
+    left, right = handshakes()
+    link, found = frames(Talk().say("A", left).say("B", right).packets + Talk(start=5000).say("A", left).say("B", right).packets)
+    both = report("-AA0001-000000000000", 68, *2 * ["ok messages=0 bytes=68"]) + empty_b()
+    first = NAMES + both + "  not closed; a later connection has the same ports\n"
+    return pcap((link, found)), first + NAMES.replace("0", "1", 1) + both + "  still open at the capture's end\n"
+
+
 def conflict():
     """A segment comes again with two other bytes."""
     other = b"\xff\xff" + SERVING[1002:2000] if SERVING[1000] != 255 != SERVING[1001] else None
@@ -787,6 +796,7 @@ def rows():
     yield "cut by itself", [], *cut_by_itself(), b"", 1
     yield "a close before the other end's handshake is whole", [], *late(), b"", 0
     yield "two connections", [], *twice(), b"", 0
+    yield "ports that another connection takes", [], *replaced(), b"", 0
     yield "other bytes again", [], *conflict(), b"", 0
     yield "a torrent", ["--torrent", "TORRENT"], *with_torrent(), b"", 1
     yield "a segment before the stream", [], pcap(frames(stray())), WHOLE, b"", 0

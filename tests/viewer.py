@@ -126,7 +126,7 @@ def closing_lines(it):
     """Who closed first, and what both had sent by then."""
     closing = it["closing"]
     if not closing or not closing["event"]:
-        yield "  still open at the capture's end"
+        yield "  not closed; a later connection has the same ports" if it["isReplaced"] else "  still open at the capture's end"
         return
     event = closing["event"]
     yield "  %s closed first, by %s, at %.6f s" % ("AB"[event["side"]], event["word"], event["time"])

@@ -151,6 +151,7 @@ export class Session {
       remarks: remarks.map(side => side.map(({ count, row }, k) => ({ name: REMARKS[k], count, row: rowOf(row) }))),
       closing: closing && { ...closing, lasts: closing.lasts.map(rowOf), cause: closing.cause < 0 ? null
         : maker.message(closing.cause) },
+      isReplaced: pair.connection?.isReplaced ?? false,
       isOrderGuessed: !talk.hasTimes && pair.directions.every(it => it.isBegun),
     };
   }

@@ -14,6 +14,7 @@ export class Connection {
     this.halves = [new Half(file), new Half(file)];
     this.start = this.last = time;
     this.packets = 0;
+    this.isReplaced = false;    // a later connection has its ports
   }
 
   /**
@@ -74,6 +75,7 @@ export class Traffic {
     const key = source < target ? `${source} ${target}` : `${target} ${source}`, isFresh = (flags & (SYN | ACK)) === SYN;
     let connection = this.latest.get(key);
     if (!connection || (isFresh && connection.isOpenedAgain(source, headers))) {
+      if (connection) connection.isReplaced = true;
       const opens = !(flags & SYN) || !(flags & ACK);
       connection = new Connection(opens ? [source, target] : [target, source], this.file, time);
       this.latest.set(key, connection);

@@ -30,6 +30,7 @@ export function whyText(it, tables) {
   const { closing } = it;
   if (!closing) {
     if (it.isRaw) return 'Nothing is refused. Raw bytes say nothing of a close.';
+    if (it.isReplaced) return 'No side closed the connection. A later one has the same ports, and nothing is refused.';
     return "The connection is still open at the capture's end, and nothing is refused.";
   }
   const { event, kind, cause } = closing, text = causeText(closing, tables), sender = cause && 'AB'[cause.side];
