@@ -92,11 +92,10 @@ def direction_lines(side, found):
 
 def closing_lines(closed, is_unread, is_replaced):
     """The lines on how a connection was closed, and on what each side had sent; or on how it was left."""
-    if closed is None and is_unread:
-        return ["  not read further: too many connections at once\n"]
+    unread = ["  not read further: too many connections at once\n"] if is_unread else []
     if closed is None:
-        return ["  not closed; a later connection has the same ports\n" if is_replaced else "  still open at the capture's end\n"]
-    assert not is_unread and not is_replaced
+        return unread or ["  not closed; a later connection has the same ports\n" if is_replaced else "  still open at the capture's end\n"]
+    assert not is_replaced
     lines = ["  %(side)s closed first, by %(by)s, at %(time)s s\n" % closed]
     for side in "BA" if closed["side"] == "A" else "AB":
         before = closed.pop(side.lower(), None)
@@ -105,7 +104,7 @@ def closing_lines(closed, is_unread, is_replaced):
             words = "nothing" if not last else item_of(last) if "item" in last else verdict_of(last)
             lines.append("    %s had sent %d bytes, last: %s\n" % (side, before["sent"], words))
     assert set(closed) == {"side", "by", "time"}, closed
-    return lines
+    return lines + unread
 
 
 REMARKS = {

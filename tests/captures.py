@@ -681,12 +681,13 @@ def model_differs(program):
 
 
 def left_differs(program):
-    """What is wrong with how connections were left: the first two of two more than are followed at once, and one whose ports another takes."""
+    """What is wrong with how connections were left: the first two of two more than are followed at once, the second of which has ended its
+    other direction, and one whose ports another takes."""
     hello, frames = writer.handshakes()[0], []
-    packet = writer.Packet("A", ACK, 7, 0, hello + bytes(2), 0)
+    packet, fin = writer.Packet("A", ACK, 7, 0, hello + bytes(2), 0), writer.Packet("B", ACK | FIN, 7, 0, b"", 0)
     for number in range(MOST + 2):
         end = "10.0.%d.%d" % divmod(number, 256), 6881
-        link, more = writer.frames([packet], ends=(end, ("10.1.0.1", 6881)))
+        link, more = writer.frames([packet, fin] if number == 1 else [packet], ends=(end, ("10.1.0.1", 6881)))
         frames += more
     crowd = writer.pcap((link, frames))
     told = re.split("(?m)^connection ", run(program, crowd, "-")[0].decode())[1:]
@@ -696,9 +697,11 @@ def left_differs(program):
     for words, wanted in ((unread, 2), (still, MOST)):
         found = [it for it in told if all(text in it for text in words)]
         yield "" if len(found) == wanted else "crowded: %d connections have %s" % (len(found), words)
-    objects = map(json.loads, run(program, crowd, "--json", "-")[0].splitlines())
+    objects = list(map(json.loads, run(program, crowd, "--json", "-")[0].splitlines()))
     numbers = [it["connection"] for it in objects if it.get("not_read_further")]
     yield "" if numbers == [0, 1] else "crowded: these aren't read further: %s" % numbers
+    closed = [it["connection"] for it in objects if "closed" in it]
+    yield "" if closed == [1] and "\n  B closed first, by FIN, at " in told[1] else "crowded: these are closed: %s" % closed
     first, second = (writer.Talk(start=start).say("A", hello).packets for start in (7, 70_000))
     objects = map(json.loads, run(program, writer.pcap(writer.frames(first + second)), "--json", "-")[0].splitlines())
     found = [it.get("replaced") for it in objects]

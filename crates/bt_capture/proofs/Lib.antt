@@ -21,3 +21,4 @@ pub mod Shown
 pub mod Sending
 mod Rowing
 mod Seeing
+mod Parting

@@ -24,18 +24,19 @@ use Rattle.bt_capture.specs.declared.ending.Form.{Form}
 use Rattle.bt_capture.specs.declared.pair.Pair.{Pair}
 use Rattle.bt_capture.specs.Arrivals.{arrivals, first_time}
 use Rattle.bt_capture.specs.FlowTexts.{datagrams, flow_texts}
-use Rattle.bt_capture.specs.Following.{Finished, IsFinished, IsSentBy, IsShared, IsStreaming, IsStreamSoFar, Follows, Stops, Streams}
+use Rattle.bt_capture.specs.Following.{AtEnd, Finished, IsFinished, IsSentBy, IsShared, IsStreaming, IsStreamSoFar, Follows, Phase, Stops, Streams}
 use Rattle.bt_capture.specs.Following.{reports_of, told_by}
 use Rattle.bt_capture.specs.Forms.{absent_from, is_stream, wanted_by}
 use Rattle.bt_capture.specs.Readings.{Reading, IsReading, GoesOn, Hands, nothing_read, shown}
 use Rattle.bt_capture.specs.Tables.{Held}
 use Rattle.bt_capture.specs.Tellings.{Tells, IsStopped, IsEmpty, AreTexts}
-use Rattle.bt_capture.specs.Runs.{Origin, HasRead, IsTelling, IsLeft, IsEndOf, AreOver, AreAllOver, AreWritten, ArePartlyWritten, AfterFault, Adds}
+use Rattle.bt_capture.specs.Runs.{Origin, HasRead, IsTelling, IsTellingIn, IsLeft, IsEndOf, AreOver, AreAllOver, AreWritten, ArePartlyWritten, AfterFault, Adds}
 use Rattle.bt_capture.specs.Runs.{AreRowsTold, IsOfTelling, IsOfReading, IsToldTo, IsOnlyStream, IsStreamTold, StreamsSoFar, utp_lines}
 use Rattle.bt_capture.proofs.Going.{fresh}
 use Rattle.bt_capture.proofs.InOrder.{no_texts}
 use Rattle.bt_capture.proofs.Numbers.{one_if_began}
-use Rattle.bt_capture.proofs.Reported.{follows_flushed, follows_moved, follows_same, follows_so_far, stops_of}
+use Rattle.bt_capture.proofs.Parting.{parted_all}
+use Rattle.bt_capture.proofs.Reported.{follows_end, follows_flushed, follows_moved, follows_same, follows_so_far, stops_of}
 use Rattle.bt_capture.proofs.Rowing.{rows_same}
 use Rattle.bt_capture.proofs.SoFar.{so_far_same}
 use Rattle.bt_capture.proofs.Streaming.{find_over, numbered_end, streaming_same, untold_end}
@@ -91,8 +92,9 @@ read_kept o left left' packets r r' same keeps i = record {
 
 -- ---- a step
 
-pub told_read : (o : Origin) (left left' : Option (List ℕ)) (now : TargetSeen) (es : List (Pair × Held)) (run : Run) (r r' : Reading)
-    → ((packets : List Captured) → HasRead o left packets r → HasRead o left' packets r') → IsTelling o left now es run r → IsTelling o left' now es run r'
+pub told_read : {ph : Phase} (o : Origin) (left left' : Option (List ℕ)) (now : TargetSeen) (es : List (Pair × Held)) (run : Run) (r r' : Reading)
+    → ((packets : List Captured) → HasRead o left packets r → HasRead o left' packets r') → IsTellingIn ph o left now es run r
+    → IsTellingIn ph o left' now es run r'
 told_read o left left' now es run r r' reads i = record {
   packets = i.packets;
   read = reads i.packets i.read;
@@ -103,12 +105,12 @@ told_read o left left' now es run r r' reads i = record {
   utp = i.utp;
 }
 
-pub flushed : (o : Origin) (left : Option (List ℕ)) (now after : TargetSeen) (es : List (Pair × Held)) (old new : Run) (r : Reading)
+pub flushed : {ph : Phase} (o : Origin) (left : Option (List ℕ)) (now after : TargetSeen) (es : List (Pair × Held)) (old new : Run) (r : Reading)
     → new.terms ≡ old.terms → new.teller.form ≡ old.teller.form → new.start ≡ old.start → new.lost ≡ old.lost → new.begun ≡ old.begun
     → new.utp ≡ old.utp → IsEmpty new.teller
     → ((reports : List Report) (written : List ℕ) → Tells o.target now old.teller reports written
     → Tells o.target after new.teller reports (written ++ old.teller.text.items))
-    → IsTelling o left now es old r → IsTelling o left after es new r
+    → IsTellingIn ph o left now es old r → IsTellingIn ph o left after es new r
 flushed o left now after es old new r terms form begin lost count utp empty tells i = record {
   packets = i.packets;
   read = i.read;
@@ -146,7 +148,8 @@ so_far_by o packets fs run written terms form time i =
     so_far_same run.teller.form o.form told told run.terms o.terms (unwrap_or run.start 0) (unwrap_or (first_time packets) 0) (arrivals packets) fs
     (sym form) refl (sym terms) (ap (λ x. unwrap_or x 0) (sym time)) i
 
-so_far : (o : Origin) (left : Option (List ℕ)) (now : TargetSeen) (es : List (Pair × Held)) (run : Run) (r : Reading) → (i : IsTelling o left now es run r)
+so_far : {ph : Phase} (o : Origin) (left : Option (List ℕ)) (now : TargetSeen) (es : List (Pair × Held)) (run : Run) (r : Reading)
+    → (i : IsTellingIn ph o left now es run r)
     → StreamsSoFar o i.packets i.follows.fs (told_by i.follows.written run)
 so_far o left now es run r i =
     so_far_by o i.packets i.follows.fs run i.follows.written i.terms i.form i.time (follows_so_far o.target now (arrivals i.packets) es run i.follows)
@@ -155,10 +158,10 @@ so_far o left now es run r i =
 no_lines : (o : Origin) (now : TargetSeen) (text : List ℕ) → AppendsPrefix o.target.held now.held text → AppendsPrefix o.target.held now.held (text ++ [])
 no_lines o now text front = subst (AppendsPrefix o.target.held now.held) (sym (append-nil text)) front
 
-pub left_by : (o : Origin) (left : Option (List ℕ)) (now after : TargetSeen) (es : List (Pair × Held)) (run : Run) (r : Reading)
+pub left_by : {ph : Phase} (o : Origin) (left : Option (List ℕ)) (now after : TargetSeen) (es : List (Pair × Held)) (run : Run) (r : Reading)
     → ((reports : List Report) (written : List ℕ) → Tells o.target now run.teller reports written
     → IsStopped run.teller.form o.target after reports (written ++ run.teller.text.items))
-    → IsTelling o left now es run r → IsLeft o left after
+    → IsTellingIn ph o left now es run r → IsLeft o left after
 left_by o left now after es run r stopped i =
     let s = stops_of o.target now (arrivals i.packets) es run i.follows in
     let fs = i.follows.fs in
@@ -202,8 +205,8 @@ given_up o left now packets run r read terms form time s =
       front = no_lines o now text (s.written, run.teller.text.items, refl, t.held);
     }
 
-pub partly : (o : Origin) (left : Option (List ℕ)) (now : TargetSeen) (es : List (Pair × Held)) (run : Run) (r : Reading) → IsTelling o left now es run r
-    → ArePartlyWritten o left now
+pub partly : {ph : Phase} (o : Origin) (left : Option (List ℕ)) (now : TargetSeen) (es : List (Pair × Held)) (run : Run) (r : Reading)
+    → IsTellingIn ph o left now es run r → ArePartlyWritten o left now
 partly o left now es run r i =
     given_up o left now i.packets run r i.read i.terms i.form i.time (stops_of o.target now (arrivals i.packets) es run i.follows)
 
@@ -229,22 +232,27 @@ all_told : (written : List ℕ) (run : Run) → IsEmpty run.teller → told_by w
 all_told written run empty = ap (λ (l : List ℕ). written ++ l) empty ∙ append-nil written
 
 pub texts_written : (o : Origin) (left : Option (List ℕ)) (now : TargetSeen) (run : Run) (r : Reading) → IsEmpty run.teller
-    → (i : IsTelling o left now [] run r) → AreTexts o.form (reports_of i.follows.fs) i.follows.written
+    → (i : IsTellingIn AtEnd o left now [] run r) → AreTexts o.form (reports_of i.follows.fs) i.follows.written
 texts_written o left now run r empty i =
     let reports = reports_of i.follows.fs in
     subst (λ f. AreTexts f reports i.follows.written) i.form
     (subst (λ l. AreTexts run.teller.form reports l) (all_told i.follows.written run empty) i.follows.known.tells.whole)
 
-pub all_over : (o : Origin) (left : Option (List ℕ)) (now : TargetSeen) (run : Run) (r : Reading) → (i : IsTelling o left now [] run r)
+all_shared : (o : Origin) (left : Option (List ℕ)) (now : TargetSeen) (run : Run) (r : Reading) → (i : IsTellingIn AtEnd o left now [] run r) → (k : Pair)
+    → IsShared k (arrivals i.packets) i.follows.fs []
+all_shared o left now run r i k = let s = i.follows.shared k in subst (IsShared k (arrivals i.packets) i.follows.fs) s.is s.share
+
+pub all_over : (o : Origin) (left : Option (List ℕ)) (now : TargetSeen) (run : Run) (r : Reading) → (i : IsTellingIn AtEnd o left now [] run r)
     → AreAllOver o i.packets i.follows.fs
 all_over o left now run r i = record {
   finished = finished_by o i.packets i.follows.fs run i.terms i.time i.follows.known.finished;
   numbered = numbered_end run.begun i.follows.fs i.follows.begun i.follows.streams.numbered;
-  shared = λ k. let s = i.follows.shared k in subst (IsShared k (arrivals i.packets) i.follows.fs) s.is s.share;
+  shared = λ k. all_shared o left now run r i k;
+  parted = λ k. parted_all (arrivals i.packets) i.follows.fs k (all_shared o left now run r i k) i.follows.parting;
 }
 
 pub stream_told : (o : Origin) (left : Option (List ℕ)) (now : TargetSeen) (run : Run) (r : Reading) → IsEmpty run.teller
-    → (i : IsTelling o left now [] run r) → IsStreamTold o i.packets i.follows.fs i.follows.written
+    → (i : IsTellingIn AtEnd o left now [] run r) → IsStreamTold o i.packets i.follows.fs i.follows.written
 stream_told o left now run r empty i =
     let fs = i.follows.fs in
     let written = i.follows.written in
@@ -257,7 +265,7 @@ stream_told o left now run r empty i =
     subst P (all_told written run empty) told
 
 pub rows_told : (o : Origin) (left : Option (List ℕ)) (now : TargetSeen) (run : Run) (r : Reading) → IsEmpty run.teller
-    → (i : IsTelling o left now [] run r) → AreRowsTold o i.packets i.follows.fs i.follows.written
+    → (i : IsTellingIn AtEnd o left now [] run r) → AreRowsTold o i.packets i.follows.fs i.follows.written
 rows_told o left now run r empty i =
     let f = i.follows in
     let rows = rows_same run.teller.form o.form f.parts (told_by f.written run) f.written run.terms o.terms (unwrap_or run.start 0)
@@ -272,14 +280,14 @@ rows_told o left now run r empty i =
 
 -- the reports and the lines on uTP, one after the other
 pub whole_written : (o : Origin) (left : Option (List ℕ)) (before now : TargetSeen) (run : Run) (r : Reading) → IsEmpty run.teller
-    → (i : IsTelling o left before [] run r) → Appends before.held now.held (utp_lines run.teller.form i.packets)
+    → (i : IsTellingIn AtEnd o left before [] run r) → Appends before.held now.held (utp_lines run.teller.form i.packets)
     → Appends o.target.held now.held (i.follows.written ++ utp_lines o.form i.packets)
 whole_written o left before now run r empty i held =
     Appends-trans o.target.held before.held now.held i.follows.written (utp_lines o.form i.packets) i.follows.known.tells.held
     (subst (λ f. Appends before.held now.held (utp_lines f i.packets)) i.form held)
 
 all_written : (o : Origin) (left : Option (List ℕ)) (before now : TargetSeen) (run : Run) (r : Reading) → IsEmpty run.teller
-    → (i : IsTelling o left before [] run r) → Appends before.held now.held (utp_lines run.teller.form i.packets) → AreWritten o left now
+    → (i : IsTellingIn AtEnd o left before [] run r) → Appends before.held now.held (utp_lines run.teller.form i.packets) → AreWritten o left now
 all_written o left before now run r empty i held = record {
   packets = i.packets;
   r = r;
@@ -295,7 +303,7 @@ all_written o left before now run r empty i held = record {
 
 -- The lines on uTP couldn't be made or written.
 part_written : (o : Origin) (left : Option (List ℕ)) (before now : TargetSeen) (run : Run) (r : Reading) → IsEmpty run.teller
-    → (i : IsTelling o left before [] run r) → AppendsPrefix before.held now.held (utp_lines run.teller.form i.packets) → WriteFailed before now
+    → (i : IsTellingIn AtEnd o left before [] run r) → AppendsPrefix before.held now.held (utp_lines run.teller.form i.packets) → WriteFailed before now
     → IsLeft o left now
 part_written o left before now run r empty i p failed =
     let known = i.follows.known in
@@ -325,7 +333,7 @@ part_written o left before now run r empty i p failed =
     }
 
 pub not_added : (T : Type 0) (f : CaptureFault) (o : Origin) (left : Option (List ℕ)) (before now : TargetSeen) (run : Run) (r : Reading)
-    → IsEmpty run.teller → (i : IsTelling o left before [] run r) → Adds {T = T} (utp_lines run.teller.form i.packets) before now (Err f)
+    → IsEmpty run.teller → (i : IsTellingIn AtEnd o left before [] run r) → Adds {T = T} (utp_lines run.teller.form i.packets) before now (Err f)
     → IsToldTo f o left now
 not_added T Write o left before now run r empty i a = part_written o left before now run r empty i a.0 a.1
 not_added T Memory o left before now run r empty i a = subst (ArePartlyWritten o left) (sym a) (partly o left before [] run r i)
@@ -334,17 +342,17 @@ not_added T Read o left before now run r empty i a = absurd a
 not_added T Turns o left before now run r empty i a = absurd a
 
 -- The text couldn't be made or written.
-pub told_fault : (f : CaptureFault) (o : Origin) (left : Option (List ℕ)) (now : TargetSeen) (es : List (Pair × Held)) (run : Run) (r : Reading)
-    → IsOfTelling f → AfterFault f o left now es run r → IsToldTo f o left now
-told_fault Write o left now es run r x i = i
-told_fault Memory o left now es run r x i = i
-told_fault (File f) o left now es run r x i = absurd x
-told_fault Read o left now es run r x i = absurd x
-told_fault Turns o left now es run r x i = absurd x
+pub told_fault : (ph : Phase) (f : CaptureFault) (o : Origin) (left : Option (List ℕ)) (now : TargetSeen) (es : List (Pair × Held)) (run : Run) (r : Reading)
+    → IsOfTelling f → AfterFault f ph o left now es run r → IsToldTo f o left now
+told_fault ph Write o left now es run r x i = i
+told_fault ph Memory o left now es run r x i = i
+told_fault ph (File f) o left now es run r x i = absurd x
+told_fault ph Read o left now es run r x i = absurd x
+told_fault ph Turns o left now es run r x i = absurd x
 
 -- The file couldn't be read on.
 pub told_unread : (f : CaptureFault) (o : Origin) (left : Option (List ℕ)) (before now : TargetSeen) (run : Run) (r : Reading) → IsOfReading f
-    → IsEmpty run.teller → (i : IsTelling o left before [] run r) → Appends before.held now.held (utp_lines run.teller.form i.packets)
+    → IsEmpty run.teller → (i : IsTellingIn AtEnd o left before [] run r) → Appends before.held now.held (utp_lines run.teller.form i.packets)
     → IsToldTo f o left now
 told_unread Write o left before now run r x empty i held = absurd x
 told_unread Memory o left before now run r x empty i held = absurd x
@@ -353,28 +361,28 @@ told_unread Read o left before now run r x empty i held = all_written o left bef
 told_unread Turns o left before now run r x empty i held = absurd x
 
 -- A fault of telling leaves no connection.
-pub fault_any : (f : CaptureFault) (o : Origin) (left : Option (List ℕ)) (now : TargetSeen) (es gs : List (Pair × Held)) (run : Run) (r : Reading)
-    → IsOfTelling f → AfterFault f o left now es run r → AfterFault f o left now gs run r
-fault_any Write o left now es gs run r x i = i
-fault_any Memory o left now es gs run r x i = i
-fault_any (File f) o left now es gs run r x i = absurd x
-fault_any Read o left now es gs run r x i = absurd x
-fault_any Turns o left now es gs run r x i = absurd x
+pub fault_any : (ph : Phase) (f : CaptureFault) (o : Origin) (left : Option (List ℕ)) (now : TargetSeen) (es gs : List (Pair × Held)) (run : Run) (r : Reading)
+    → IsOfTelling f → AfterFault f ph o left now es run r → AfterFault f ph o left now gs run r
+fault_any ph Write o left now es gs run r x i = i
+fault_any ph Memory o left now es gs run r x i = i
+fault_any ph (File f) o left now es gs run r x i = absurd x
+fault_any ph Read o left now es gs run r x i = absurd x
+fault_any ph Turns o left now es gs run r x i = absurd x
 
 -- Those that are left are taken out of the table.
 pub told_rest : (o : Origin) (left : Option (List ℕ)) (now : TargetSeen) (old new : Run) (es : List (Pair × Held)) (r : Reading)
-    → IsPermutation old.table es → new ≡ record old { table = new.table } → IsTelling o left now old.table old r → IsTelling o left now es new r
+    → IsPermutation old.table es → new ≡ record old { table = new.table } → IsTelling o left now old.table old r → IsTellingIn AtEnd o left now es new r
 told_rest o left now old new es r all same i =
     let table : List (Pair × Held) = old.table in
     let mid : Run = record old { table = new.table } in
-    subst (λ x. IsTelling o left now es x r) (sym same) (record {
+    subst (λ x. IsTellingIn AtEnd o left now es x r) (sym same) (record {
       packets = i.packets;
       read = i.read;
       terms = i.terms;
       form = i.form;
       time = i.time;
       follows = follows_same o.target now (arrivals i.packets) es old mid refl refl refl refl refl
-          (follows_moved o.target now (arrivals i.packets) table es old all i.follows);
+          (follows_end o.target now (arrivals i.packets) es old (follows_moved o.target now (arrivals i.packets) table es old all i.follows));
       utp = i.utp;
     })
 

@@ -20,18 +20,21 @@ use Rattle.bt_talk.specs.declared.rows.Heading.{Heading}
 use Rattle.bt_talk.specs.Rows.{Shown, is_item, shown_texts}
 use Rattle.bt_talk.specs.Talks.{AreShown, AreShownIn, IsTalk, is_in_opening, is_lost, of_side}
 use Rattle.bt_talk.specs.declared.talk.Talk.{Talk}
+use Rattle.bt_told.specs.declared.report.Left.{Left}
 use Rattle.bt_told.specs.declared.report.Report.{Report}
 use Rattle.bt_capture.specs.Arrivals.{Arrival, arrivals, arrivals_of, arrivals_after, has_data, is_between, pair_of, first_time}
 use Rattle.bt_capture.specs.Connections.{IsFirst, IsMade, IsOpen}
-use Rattle.bt_capture.specs.Following.{AreRowsOf, IsRowing, Rows}
+use Rattle.bt_capture.specs.Following.{AreRowsOf, AtEnd, Cause, Coming, During, FollowsIn, GoesIn, IsOverBy, IsParted, IsRowing, MayBe, MayEnd, Phase, Rows}
+use Rattle.bt_capture.specs.Following.{Unknown, coming, left_by}
 use Rattle.bt_capture.specs.Following.{Finished, Fate, Reported, Silent, Lost, IsFinished, IsFate, IsKnown, IsReported, IsSentBy, IsShared, IsEnded}
-use Rattle.bt_capture.specs.Following.{IsStreaming, IsStreamSoFar, Follows, Stops, Goes, Holds, Shares, Streams, count_lost, count_open, is_lost_by}
+use Rattle.bt_capture.specs.Following.{IsStreaming, IsStreamSoFar, Follows, Stops, Holds, Shares, Streams, count_lost, count_open, is_lost_by}
 use Rattle.bt_capture.specs.Following.{report_in, reports_of, taken_between, told_by}
 use Rattle.bt_capture.specs.Forms.{is_stream, showing_by, wanted_by}
 use Rattle.bt_capture.specs.Sending.{HasSent, IsSending}
 use Rattle.bt_capture.specs.Rowed.{HasShown, IsShowing, ShowsOn, heading_of}
 use Rattle.bt_capture.specs.Tables.{Held, IsApart, same_pair}
 use Rattle.bt_capture.specs.Tellings.{ArePartsOf, Part, SaysAfter, Tells, TellsOn, item_rows, report_by}
+use Rattle.bt_capture.specs.declared.connection.Connection.{Connection}
 use Rattle.bt_capture.specs.declared.connections.Run.{Run}
 use Rattle.bt_capture.specs.declared.ending.Form.{Form}
 use Rattle.bt_capture.specs.declared.pair.Pair.{Pair}
@@ -40,8 +43,9 @@ use Rattle.bt_capture.proofs.Entries.{apart_moved, apart_none, apart_put, apart_
 use Rattle.bt_capture.proofs.Entries.{same_is, same_self}
 use Rattle.bt_capture.proofs.Rowing.{AddsRows, adds_by, adds_nothing, items_of_report, items_of_segment, more_of, own_rows_of, parts_more, parts_of_report}
 use Rattle.bt_capture.proofs.Rowing.{parts_of_segment, parts_same, rows_begun, rows_held, rows_moved, rows_nothing, rows_over, rows_same, rows_started}
+use Rattle.bt_capture.proofs.Parting.{parts_coming, parts_end, parts_nothing, parts_over, parts_took}
 use Rattle.bt_capture.proofs.Rowing.{rows_to_same, rows_took, text_of_report, text_of_segment}
-use Rattle.bt_capture.proofs.Shares.{own_of, others_of, others_on, over, moved, took, own_none, ready, ready_sent, share_same}
+use Rattle.bt_capture.proofs.Shares.{IsIts, own_of, others_of, others_on, over, moved, took, own_none, ready, ready_sent, share_same}
 use Rattle.bt_capture.proofs.SoFar.{EndsStream, ended_so_far, held_so_far, open_so_far, so_far_more, so_far_on, so_far_same}
 use Rattle.bt_capture.proofs.Streaming.{AddsFor, alone_open, alone_over, has_begun}
 use Rattle.bt_capture.proofs.Streaming.{sending_begun, sending_same, streaming_begun, streaming_moved, streaming_nothing, streaming_out}
@@ -134,17 +138,19 @@ shares_same written written' came fs old new k o terms form told i =
     share_same old.teller.form new.teller.form (told_by written old) (told_by written' new) old.terms new.terms came fs k o form told terms i
 
 -- The first of these is over.
-pub follows_over : (start now : TargetSeen) (came : List Arrival) (p : Pair) (c : Held) (es : List (Pair × Held)) (old new : Run) (end : Fate)
+pub follows_over : {ph : Phase} (start now : TargetSeen) (came : List Arrival) (p : Pair) (c : Held) (es : List (Pair × Held)) (old new : Run)
     → lookup (same_pair p) es ≡ None → new.terms ≡ old.terms → new.start ≡ old.start → new.teller.form ≡ old.teller.form → new.begun ≡ old.begun
-    → (i : Follows start now came ((p, c) ∷ es) old) → (f : Finished) → f.number ≡ c.value.number → f.pair ≡ p → IsShared p came i.fs f.taken
+    → (i : FollowsIn ph start now came ((p, c) ∷ es) old) → (f : Finished) → f.number ≡ c.value.number → f.pair ≡ p → IsShared p came i.fs f.taken
+    → IsParted f.cause (coming ph p) → MayBe ph f.cause
     → AddsFor old.teller.form c.value.number (told_by i.written old) (told_by i.written new)
     → Tells start now new.teller (reports_of i.fs ++ report_in f.fate) i.written → new.lost ≡ count_lost (i.fs ++ f ∷ [])
     → IsFinished old.terms (unwrap_or old.start 0) f → IsSentBy old.teller.form (told_by i.written new) old.terms (unwrap_or old.start 0) f
     → (parts : List Part) (rows : List Shown) → AddsRows c.value.number rows i.parts parts
     → ArePartsOf old.teller.form (reports_of (i.fs ++ f ∷ [])) (told_by i.written new) parts
     → AreRowsOf old.teller.form parts old.terms (unwrap_or old.start 0) f
-    → Follows start now came es new
-follows_over start now came p c es old new end absent terms begin form count i f number ends share adds tells lost is sent parts rows gets parts_are shows =
+    → FollowsIn ph start now came es new
+follows_over {ph} start now came p c es old new absent terms begin form count i f number ends share parted may adds tells lost is sent parts rows gets
+    parts_are shows =
     let n = c.value.number in
     let shown = old.teller.form in
     let told = told_by i.written old in
@@ -168,6 +174,7 @@ follows_over start now came p c es old new end absent terms begin form count i f
           form refl terms (ap (λ o. unwrap_or o 0) begin) count
           (rows_over shown old.terms from i.parts parts told told' old.begun came i.fs f p c es rows ends absent share
           (alone_over old.begun i.fs p c es i.streams.numbered) alone (has_begun old.begun i.fs p c es i.streams.numbered) gets parts_are shows i.rows);
+      parting = parts_over ph came i.fs p f ends share parted may i.parting;
     }
 
 pub known_same : (start now : TargetSeen) (fs : List Finished) (written written' : List ℕ) (old new : Run) → new.terms ≡ old.terms
@@ -184,9 +191,9 @@ known_kept start now fs written old new terms begin lost teller i =
     known_same start now fs written written old new terms begin lost
     (subst (λ t. Tells start now t (reports_of fs) written) (sym teller) i.tells) i
 
-pub follows_same : (start now : TargetSeen) (came : List Arrival) (es : List (Pair × Held)) (old new : Run) → new.terms ≡ old.terms
-    → new.start ≡ old.start → new.lost ≡ old.lost → new.teller ≡ old.teller → new.begun ≡ old.begun → Follows start now came es old
-    → Follows start now came es new
+pub follows_same : {ph : Phase} (start now : TargetSeen) (came : List Arrival) (es : List (Pair × Held)) (old new : Run) → new.terms ≡ old.terms
+    → new.start ≡ old.start → new.lost ≡ old.lost → new.teller ≡ old.teller → new.begun ≡ old.begun → FollowsIn ph start now came es old
+    → FollowsIn ph start now came es new
 follows_same start now came es old new terms begin lost teller count i =
     let form = ap (λ (t : Teller). t.form) teller in
     let told = told_same i.written old new teller in
@@ -200,6 +207,7 @@ follows_same start now came es old new terms begin lost teller count i =
       shared = λ k. shares_same i.written i.written came i.fs old new k (lookup (same_pair k) es) terms form told (i.shared k);
       parts = i.parts;
       rows = rows_as i.parts i.written i.written came i.fs es old new terms begin form count told i.rows;
+      parting = i.parting;
     }
 
 pub stops_same : (start now : TargetSeen) (came : List Arrival) (old new : Run) → new.terms ≡ old.terms → new.start ≡ old.start → new.lost ≡ old.lost
@@ -214,12 +222,14 @@ stops_same start now came old new terms begin lost teller i = record {
   shared = i.shared;
 }
 
-pub follows_so_far : (start now : TargetSeen) (came : List Arrival) (es : List (Pair × Held)) (run : Run) → (i : Follows start now came es run)
+pub follows_so_far : {ph : Phase} (start now : TargetSeen) (came : List Arrival) (es : List (Pair × Held)) (run : Run)
+    → (i : FollowsIn ph start now came es run)
     → IsStreamSoFar run.teller.form (told_by i.written run) run.terms (unwrap_or run.start 0) came i.fs
 follows_so_far start now came es run i =
     open_so_far run.teller.form (told_by i.written run) run.terms (unwrap_or run.start 0) run.begun came i.fs es i.apart i.streams i.shared
 
-pub stops_of : (start now : TargetSeen) (came : List Arrival) (es : List (Pair × Held)) (run : Run) → Follows start now came es run → Stops start now came run
+pub stops_of : {ph : Phase} (start now : TargetSeen) (came : List Arrival) (es : List (Pair × Held)) (run : Run) → FollowsIn ph start now came es run
+    → Stops start now came run
 stops_of start now came es run i = record {
   fs = i.fs;
   written = i.written;
@@ -229,11 +239,11 @@ stops_of start now came es run i = record {
 }
 
 -- The text that was kept is written.
-pub follows_flushed : (start now after : TargetSeen) (came : List Arrival) (es : List (Pair × Held)) (old new : Run) → new.terms ≡ old.terms
+pub follows_flushed : {ph : Phase} (start now after : TargetSeen) (came : List Arrival) (es : List (Pair × Held)) (old new : Run) → new.terms ≡ old.terms
     → new.start ≡ old.start → new.lost ≡ old.lost → new.begun ≡ old.begun → new.teller.form ≡ old.teller.form → new.teller.text.items ≡ []
     → ((reports : List Report) (written : List ℕ) → Tells start now old.teller reports written
     → Tells start after new.teller reports (written ++ old.teller.text.items))
-    → Follows start now came es old → Follows start after came es new
+    → FollowsIn ph start now came es old → FollowsIn ph start after came es new
 follows_flushed start now after came es old new terms begin lost count form empty tells i =
     let written = told_by i.written old in
     let told : told_by written new ≡ written = ap (λ (l : List ℕ). written ++ l) empty ∙ append-nil written in
@@ -253,53 +263,85 @@ follows_flushed start now after came es old new terms begin lost count form empt
       shared = λ k. shares_same i.written written came i.fs old new k (lookup (same_pair k) es) terms form told (i.shared k);
       parts = i.parts;
       rows = rows_as i.parts i.written written came i.fs es old new terms begin form count told i.rows;
+      parting = i.parting;
     }
 
 -- The first connection's share of the segments.
-abbrev own : (start now : TargetSeen) (came : List Arrival) (p : Pair) (c : Held) (es : List (Pair × Held)) (run : Run)
-    → (i : Follows start now came ((p, c) ∷ es) run) → Shares i.written came i.fs run p (Some c)
+abbrev own : {ph : Phase} (start now : TargetSeen) (came : List Arrival) (p : Pair) (c : Held) (es : List (Pair × Held)) (run : Run)
+    → (i : FollowsIn ph start now came ((p, c) ∷ es) run) → Shares i.written came i.fs run p (Some c)
 own start now came p c es run i = own_of run.teller.form run.terms came i.fs (told_by i.written run) p c es i.shared
 
 -- It is over without a report.
-unreported : (start now : TargetSeen) (came : List Arrival) (p : Pair) (c : Held) (es : List (Pair × Held)) (old new : Run) (end : Fate)
-    → lookup (same_pair p) es ≡ None → new.terms ≡ old.terms → new.start ≡ old.start → new.teller ≡ old.teller → new.begun ≡ old.begun
-    → report_in end ≡ [] → (i : Follows start now came ((p, c) ∷ es) old)
-    → (f : Finished) → f ≡ record { number = c.value.number; pair = p; taken = (own start now came p c es old i).taken; fate = end }
+unreported : {ph : Phase} (start now : TargetSeen) (came : List Arrival) (p : Pair) (c : Held) (es : List (Pair × Held)) (old new : Run) (end : Fate)
+    (cause : Cause) → IsParted cause (coming ph p) → MayBe ph cause → lookup (same_pair p) es ≡ None → new.terms ≡ old.terms
+    → new.start ≡ old.start → new.teller ≡ old.teller → new.begun ≡ old.begun
+    → report_in end ≡ [] → (i : FollowsIn ph start now came ((p, c) ∷ es) old)
+    → (f : Finished) → f ≡ record { number = c.value.number; pair = p; taken = (own start now came p c es old i).taken; fate = end; cause = cause }
     → new.lost ≡ count_lost (i.fs ++ f ∷ []) → IsFinished old.terms (unwrap_or old.start 0) f
     → IsSentBy old.teller.form (told_by i.written old) old.terms (unwrap_or old.start 0) f
-    → AreRowsOf old.teller.form i.parts old.terms (unwrap_or old.start 0) f → Follows start now came es new
-unreported start now came p c es old new end absent terms begin teller count none i f is lost finished sent shows =
+    → AreRowsOf old.teller.form i.parts old.terms (unwrap_or old.start 0) f → FollowsIn ph start now came es new
+unreported {ph} start now came p c es old new end cause parted may absent terms begin teller count none i f is lost finished sent shows =
     let told = told_same i.written old new teller in
     let P : List ℕ → Type 0 = λ l. IsSentBy old.teller.form l old.terms (unwrap_or old.start 0) f in
     let reports : reports_of i.fs ≡ reports_of i.fs ++ report_in f.fate =
     sym (append-nil (reports_of i.fs)) ∙ ap (λ (l : List Report). reports_of i.fs ++ l) (sym (ap (λ (g : Finished). report_in g.fate) is ∙ none)) in
     let tells = subst (λ t. Tells start now t (reports_of i.fs) i.written) (sym teller) i.known.tells in
-    follows_over start now came p c es old new end absent terms begin (ap (λ (t : Teller). t.form) teller) count i f (ap (λ (g : Finished). g.number) is)
+    let why : f.cause ≡ cause = ap (λ (g : Finished). g.cause) is in
+    follows_over start now came p c es old new absent terms begin (ap (λ (t : Teller). t.form) teller) count i f (ap (λ (g : Finished). g.number) is)
     (ap (λ (g : Finished). g.pair) is)
     (subst (λ (l : List Arrival). IsShared p came i.fs l) (sym (ap (λ (g : Finished). g.taken) is)) (own start now came p c es old i).share)
+    (subst (λ (x : Cause). IsParted x (coming ph p)) (sym why) parted) (subst (λ (x : Cause). MayBe ph x) (sym why) may)
     (λ stream w. told) (subst (λ l. Tells start now new.teller l i.written) reports tells) lost finished (subst P (sym told) sent)
     i.parts [] (adds_nothing c.value.number i.parts)
     (parts_same old.teller.form old.teller.form (reports_of i.fs) (reports_of (i.fs ++ f ∷ [])) (told_by i.written old) (told_by i.written new) i.parts refl
     (reports_more i.fs f ∙ sym reports) told i.rows.rowed.parts_are) shows
 
+may_unknown : (ph : Phase) → MayBe ph Unknown
+may_unknown During = refl
+may_unknown (Coming p x) = refl
+may_unknown AtEnd = tt
+
+over_by : (terms : Terms) (taken : List Arrival) (ph : Phase) (p : Pair) (c : Connection) (cause : Cause) → MayEnd ph cause p c → IsMade terms taken [] c.talk
+    → IsOverBy terms taken cause
+over_by terms taken ph p c cause may m = record {
+  first = m.first;
+  is_first = subst (IsFirst m.first) (append-nil taken) m.is_first;
+  a = m.a;
+  b = m.b;
+  last = c.talk;
+  made = m.made;
+  why = may.why m.a m.b m.made.is;
+}
+
 -- no byte of it was captured
-pub silent : (start now : TargetSeen) (came : List Arrival) (p : Pair) (c : Held) (es : List (Pair × Held)) (run : Run) → lookup (same_pair p) es ≡ None
-    → c.value.has_payload ≡ false → Follows start now came ((p, c) ∷ es) run → Follows start now came es run
-silent start now came p c es run absent none i =
+pub silent : {ph : Phase} (start now : TargetSeen) (came : List Arrival) (p : Pair) (c : Held) (es : List (Pair × Held)) (run : Run) (cause : Cause)
+    → MayEnd ph cause p c.value → lookup (same_pair p) es ≡ None → c.value.has_payload ≡ false → FollowsIn ph start now came ((p, c) ∷ es) run
+    → FollowsIn ph start now came es run
+silent {ph} start now came p c es run cause may absent none i =
     let s = own start now came p c es run i in
-    let f : Finished = record { number = c.value.number; pair = p; taken = s.taken; fate = Silent } in
-    unreported start now came p c es run run Silent absent refl refl refl refl refl i f refl (i.known.lost ∙ lost_same i.fs f refl)
-    (sym s.is.0.has_payload ∙ none) (λ side small w. tt) (λ small. tt)
+    let no_data = sym s.is.0.has_payload ∙ none in
+    elim (cases_Bool (is_lost c.value.talk)) [
+      | inl gone ↦
+          let f : Finished = record { number = c.value.number; pair = p; taken = s.taken; fate = Silent; cause = Unknown } in
+          unreported start now came p c es run run Silent Unknown tt (may_unknown ph) absent refl refl refl refl refl i f refl
+          (i.known.lost ∙ lost_same i.fs f refl) (no_data, inl refl) (λ side small w. tt) (λ small. tt)
+      | inr there ↦
+          let f : Finished = record { number = c.value.number; pair = p; taken = s.taken; fate = Silent; cause = cause } in
+          unreported start now came p c es run run Silent cause may.parted may.may_be absent refl refl refl refl refl i f refl
+          (i.known.lost ∙ lost_same i.fs f refl) (no_data, inr (over_by run.terms s.taken ph p c.value cause may (s.is.0.made there)))
+          (λ side small w. tt) (λ small. tt)
+    ]
 
 -- its opening couldn't be ended
-pub lost_one : (start now : TargetSeen) (came : List Arrival) (p : Pair) (c : Held) (es : List (Pair × Held)) (old new : Run)
+pub lost_one : {ph : Phase} (start now : TargetSeen) (came : List Arrival) (p : Pair) (c : Held) (es : List (Pair × Held)) (old new : Run)
     → lookup (same_pair p) es ≡ None → c.value.has_payload ≡ true → new.terms ≡ old.terms → new.start ≡ old.start → new.teller ≡ old.teller
-    → new.lost ≡ min (old.lost + 1) (2 ^ 64 - 1) → new.begun ≡ old.begun → Follows start now came ((p, c) ∷ es) old → Follows start now came es new
-lost_one start now came p c es old new absent some terms begin teller lost count i =
+    → new.lost ≡ min (old.lost + 1) (2 ^ 64 - 1) → new.begun ≡ old.begun → FollowsIn ph start now came ((p, c) ∷ es) old
+    → FollowsIn ph start now came es new
+lost_one {ph} start now came p c es old new absent some terms begin teller lost count i =
     let s = own start now came p c es old i in
-    let f : Finished = record { number = c.value.number; pair = p; taken = s.taken; fate = Lost } in
-    unreported start now came p c es old new Lost absent terms begin teller count refl i f refl
-    (lost ∙ ap (λ n. min (n + 1) (2 ^ 64 - 1)) i.known.lost ∙ lost_more i.fs f refl) (sym s.is.0.has_payload ∙ some) (λ side small w. tt)
+    let f : Finished = record { number = c.value.number; pair = p; taken = s.taken; fate = Lost; cause = Unknown } in
+    unreported start now came p c es old new Lost Unknown tt (may_unknown ph) absent terms begin teller count refl i f refl
+    (lost ∙ ap (λ n. min (n + 1) (2 ^ 64 - 1)) i.known.lost ∙ lost_more i.fs f refl) (sym s.is.0.has_payload ∙ some, refl) (λ side small w. tt)
     (λ small. tt)
 
 -- What is told after these bytes were appended, if a stream is told.
@@ -311,12 +353,13 @@ adds_more : (form : Form) (n : ℕ) (told told' more : List ℕ) → (is_stream 
 adds_more form n told told' more is none stream w = is stream ∙ ap (λ (l : List ℕ). told ++ l) (none w) ∙ append-nil told
 
 -- Its opening is ended, and its report told: bytes of a stream come first, and rows, which show the last items.
-abbrev pub Reports : Teller → Teller → Heading → Talk → Talk → List ℕ → Type 0
-Reports t t' h last talk bytes = (a b : Past) (before : List Shown) → IsTalk a b last → AreShownIn (is_in_opening last) h a b last before
-    → (rows : List Shown) × AreShown h a b talk (before ++ filter is_item rows) × SaysAfter t t' h.connection h.start talk bytes rows
+abbrev pub Reports : Teller → Teller → Heading → Left → Talk → Talk → List ℕ → Type 0
+Reports t t' h left last talk bytes = (a b : Past) (before : List Shown) → IsTalk a b last → AreShownIn (is_in_opening last) h a b last before
+    → (rows : List Shown) × AreShown h a b talk (before ++ filter is_item rows) × SaysAfter t t' h.connection h.start left talk bytes rows
 
-pub reported : {A E : Type 0} (r : Result A E) (start now : TargetSeen) (came : List Arrival) (p : Pair) (c : Held) (es : List (Pair × Held))
-    (old new : Run) → lookup (same_pair p) es ≡ None → c.value.has_payload ≡ true → new.terms ≡ old.terms → new.start ≡ old.start
+pub reported : {A E : Type 0} {ph : Phase} (r : Result A E) (start now : TargetSeen) (came : List Arrival) (p : Pair) (c : Held) (es : List (Pair × Held))
+    (old new : Run) (cause : Cause) (left : Left) → MayEnd ph cause p c.value → left ≡ left_by cause → lookup (same_pair p) es ≡ None
+    → c.value.has_payload ≡ true → new.terms ≡ old.terms → new.start ≡ old.start
     → new.lost ≡ old.lost → new.teller.form ≡ old.teller.form → new.begun ≡ old.begun → is_lost c.value.talk ≡ false → (talk : Talk)
     → ((a b : Past) → IsTalk a b c.value.talk → IsEnded a b c.value.talk talk) → (Q : Type 0) → ((a b : Past) → IsTalk a b c.value.talk → Q)
     → OnErr r (Q → TellsOn old.teller new.teller) → (more : List ℕ)
@@ -324,9 +367,10 @@ pub reported : {A E : Type 0} (r : Result A E) (start now : TargetSeen) (came : 
     → OnErr r (is_stream old.teller.form ≡ true → Q
     → (new.teller.text.items ≡ old.teller.text.items) ⊎ (new.teller.text.items ≡ old.teller.text.items ++ more))
     → (wanted_by old.teller.form c.value.number ≡ None → more ≡ []) → EndsStream old.teller.form c.value.number c.value.talk more
-    → OnOk r (Reports old.teller new.teller (heading_of old.teller.form c.value.number (unwrap_or old.start 0)) c.value.talk talk more)
-    → Follows start now came ((p, c) ∷ es) old → Goes start now came es new r
-reported (Ok x) start now came p c es old new absent some terms begin lost form count there talk ended Q shown nothing more text part none ends reports i =
+    → OnOk r (Reports old.teller new.teller (heading_of old.teller.form c.value.number (unwrap_or old.start 0)) left c.value.talk talk more)
+    → FollowsIn ph start now came ((p, c) ∷ es) old → GoesIn ph start now came es new r
+reported {A} {E} {ph} (Ok x) start now came p c es old new cause left may left_is absent some terms begin lost form count there talk ended Q shown nothing
+    more text part none ends reports i =
     let s = own start now came p c es old i in
     let n = c.value.number in
     let m = s.is.0.made there in
@@ -340,7 +384,7 @@ reported (Ok x) start now came p c es old new absent some terms begin lost form 
     let said = w.2 in
     let others = said.3 in
     let told' = told_by i.written new in
-    let f : Finished = record { number = n; pair = p; taken = s.taken; fate = Reported said.0 } in
+    let f : Finished = record { number = n; pair = p; taken = s.taken; fate = Reported said.0; cause = cause } in
     let is : is_stream old.teller.form ≡ true → told' ≡ told ++ more = λ stream. appended i.written more old new (text stream q) in
     let all = w.0 ++ others in
     let last : List ℕ = (more ++ shown_texts (showing_by old.teller.form) all) ++ report_by old.teller.form said.0 in
@@ -364,11 +408,13 @@ reported (Ok x) start now came p c es old new absent some terms begin lost form 
       made = k.made;
       talk = talk;
       ended = e;
+      left = left;
       is = said.1 k.a k.b e.is;
     } in
-    follows_over start now came p c es old new (Reported said.0) absent terms begin form count i f refl refl s.share
+    follows_over start now came p c es old new absent terms begin form count i f refl refl s.share may.parted may.may_be
     (adds_more old.teller.form n told told' more is none) (said.2 start now (reports_of i.fs) i.written i.known.tells)
-    (lost ∙ i.known.lost ∙ lost_same i.fs f refl) (sym s.is.0.has_payload ∙ some, report m)
+    (lost ∙ i.known.lost ∙ lost_same i.fs f refl)
+    ((sym s.is.0.has_payload ∙ some, report m, left_is), over_by old.terms s.taken ph p c.value cause may m)
     (λ side small w.
     let h = s.is.1 side small w there in
     let k = h.0 in
@@ -376,7 +422,8 @@ reported (Ok x) start now came p c es old new absent some terms begin lost form 
     (report k, subst R (sym (is (wanted_stream old.teller.form n side w))) (ends k.a k.b side told k.made.is w h.1)))
     parts (filter is_item w.0) gets parts_are (λ small.
     (report g.0, subst (λ l. AreShown head g.0.a g.0.b talk l) (sym (gets.0 ∙ ap (λ (l : List Shown). l ++ filter is_item w.0) (own.2 small))) w.1))
-reported (Err x) start now came p c es old new absent some terms begin lost form count there talk ended Q shown nothing more text part none ends reports i =
+reported (Err x) start now came p c es old new cause left may left_is absent some terms begin lost form count there talk ended Q shown nothing more text
+    part none ends reports i =
     let m = (own start now came p c es old i).is.0.made there in
     let q = shown m.a m.b m.made.is in
     let told = told_by i.written old in
@@ -410,7 +457,7 @@ pub begun : (start now : TargetSeen) (came : List Arrival) (x : Arrival) (p : Pa
     → lookup (same_pair p) es ≡ None → new.terms ≡ old.terms → new.start ≡ old.start → new.lost ≡ old.lost → new.teller ≡ old.teller
     → new.begun ≡ min (old.begun + 1) (2 ^ 64 - 1) → IsOpen old.terms [] (x ∷ []) c.value → c.value.number ≡ old.begun
     → ((side : Side) → HasSent side [] old.terms [] (x ∷ []) c.value) → ((h : Heading) → HasShown h [] old.terms [] (x ∷ []) c.value)
-    → Follows start now came es old → Holds start now came x p c es new
+    → FollowsIn (Coming p x) start now came es old → Holds start now came x p c es new
 begun start now came x p c es old new absent terms begin lost teller count is number sent shown i =
     let form = ap (λ (t : Teller). t.form) teller in
     let told = told_by i.written old in
@@ -438,11 +485,12 @@ begun start now came x p c es old new absent terms begin lost teller count is nu
       rows = rows_to_same old.teller.form new.teller.form i.parts told told' old.terms new.terms from (unwrap_or new.start 0) new.begun came i.fs x p []
           c.value es form same terms (ap (λ o. unwrap_or o 0) begin)
           (rows_begun old.teller.form old.terms from i.parts told old.begun new.begun came i.fs x p c.value es number count shown i.rows);
+      parting = i.parting;
     }
 
 pub held : (start now : TargetSeen) (came : List Arrival) (x : Arrival) (p : Pair) (c : Held) (es : List (Pair × Held)) (run : Run)
-    → lookup (same_pair p) es ≡ None → Follows start now came ((p, c) ∷ es) run → Holds start now came x p c es run
-held start now came x p c es run absent i =
+    → IsIts x c.value → lookup (same_pair p) es ≡ None → FollowsIn (Coming p x) start now came ((p, c) ∷ es) run → Holds start now came x p c es run
+held start now came x p c es run its absent i =
     let s = own start now came p c es run i in
     record {
       fs = i.fs;
@@ -451,15 +499,49 @@ held start now came x p c es run absent i =
       begun = begun_held run.begun (length i.fs) (p, c) es i.begun;
       streams = i.streams;
       taken = s.taken;
-      is = ready run.terms s.taken x c.value s.is.0;
-      sends = ready_sent run.teller.form (told_by i.written run) run.terms s.taken x c.value s.is.1;
+      is = ready run.terms s.taken x c.value its s.is.0;
+      sends = ready_sent run.teller.form (told_by i.written run) run.terms s.taken x c.value its s.is.1;
       share = s.share;
       absent = absent;
       apart = apart_rest (p, c) es i.apart;
       others = others_of run.teller.form run.terms came i.fs (told_by i.written run) p c es i.shared;
       parts = i.parts;
-      rows = rows_held run.teller.form run.terms (unwrap_or run.start 0) i.parts (told_by i.written run) run.begun came i.fs x p c es s.taken s.share i.rows;
+      rows = rows_held run.teller.form run.terms (unwrap_or run.start 0) i.parts (told_by i.written run) run.begun came i.fs x p c es s.taken its s.share
+          i.rows;
+      parting = i.parting;
     }
+
+-- The next segment is known.
+pub follows_coming : (start now : TargetSeen) (came : List Arrival) (es : List (Pair × Held)) (run : Run) (p : Pair) (x : Arrival)
+    → Follows start now came es run → FollowsIn (Coming p x) start now came es run
+follows_coming start now came es run p x i = record {
+  fs = i.fs;
+  written = i.written;
+  known = i.known;
+  begun = i.begun;
+  apart = i.apart;
+  streams = i.streams;
+  shared = i.shared;
+  parts = i.parts;
+  rows = i.rows;
+  parting = parts_coming came i.fs p x i.parting;
+}
+
+-- None comes any more.
+pub follows_end : (start now : TargetSeen) (came : List Arrival) (es : List (Pair × Held)) (run : Run) → Follows start now came es run
+    → FollowsIn AtEnd start now came es run
+follows_end start now came es run i = record {
+  fs = i.fs;
+  written = i.written;
+  known = i.known;
+  begun = i.begun;
+  apart = i.apart;
+  streams = i.streams;
+  shared = i.shared;
+  parts = i.parts;
+  rows = i.rows;
+  parting = parts_end came i.fs i.parting;
+}
 
 -- The connection takes the segment.
 pub follows_took : (start now : TargetSeen) (came : List Arrival) (x : Arrival) (p : Pair) (c c' : Held) (es : List (Pair × Held)) (old new : Run)
@@ -521,6 +603,7 @@ follows_took start now came x p c c' es old new ends terms begin lost count form
           ((p, c') ∷ es) form refl terms (ap (λ o. unwrap_or o 0) begin) count
           (rows_took shown old.terms from i.parts parts told told' old.begun came i.fs x p i.taken c c' es items ends i.share
           (alone_over old.begun i.fs p c es i.streams.numbered) alone (has_begun old.begun i.fs p c es i.streams.numbered) gets parts_are shows_now i.rows);
+      parting = parts_took came i.fs p x ends i.parting;
     }
 
 more_shared : (k : Pair) (came more : List Arrival) (fs : List Finished) (rest : List Arrival) → IsShared k came fs rest
@@ -558,19 +641,20 @@ none_taken (f ∷ fs) none =
 not_both : (b : Bool) → b ≡ false → b ≡ true → ⊥
 not_both b e f = cc
 
-fate_any : (terms : Terms) (from from' number : ℕ) (taken : List Arrival) (end : Fate) → taken ≡ [] → IsFate terms from number taken end
-    → IsFate terms from' number taken end
-fate_any terms from from' number taken (Reported r) e i =
+fate_any : (terms : Terms) (from from' number : ℕ) (taken : List Arrival) (cause : Cause) (end : Fate) → taken ≡ []
+    → IsFate terms from number taken cause end → IsFate terms from' number taken cause end
+fate_any terms from from' number taken cause (Reported r) e i =
     absurd (not_both (list_any has_data taken) (subst (λ l. list_any has_data l ≡ false) (sym e) refl) i.0)
-fate_any terms from from' number taken Silent e i = i
-fate_any terms from from' number taken Lost e i = i
+fate_any terms from from' number taken cause Silent e i = i
+fate_any terms from from' number taken cause Lost e i = i
 
 all_any : (terms : Terms) (from from' : ℕ) (fs : List Finished) → All (λ f. f.taken ≡ []) fs → All (IsFinished terms from) fs
     → All (IsFinished terms from') fs
 all_any terms from from' [] none i = All-nil (IsFinished terms from')
 all_any terms from from' (f ∷ fs) none i =
+    let is = All-head (IsFinished terms from) f fs i in
     All-cons (IsFinished terms from') f fs
-    (fate_any terms from from' f.number f.taken f.fate (All-head (λ g. g.taken ≡ []) f fs none) (All-head (IsFinished terms from) f fs i))
+    (fate_any terms from from' f.number f.taken f.cause f.fate (All-head (λ g. g.taken ≡ []) f fs none) is.0, is.1)
     (all_any terms from from' fs (All-tail (λ g. g.taken ≡ []) f fs none) (All-tail (IsFinished terms from) f fs i))
 
 shares_none : (k : Pair) (fs : List Finished) (rest : List Arrival) → IsShared k [] fs rest → taken_between k fs ≡ []
@@ -604,6 +688,7 @@ started start now [] old new time is begin terms lost teller table count i =
       parts = i.parts;
       rows = rows_same old.teller.form new.teller.form i.parts told told' old.terms new.terms from' from' old.begun new.begun [] i.fs old.table form same
           terms refl count (rows_started old.teller.form i.parts told old.terms from from' old.begun i.fs old.table none i.rows);
+      parting = i.parting;
     } in
     subst P (sym table) follows
 started start now (p ∷ ps) old new time is begin terms lost teller table count i =
@@ -651,11 +736,12 @@ follows_out start now came p c es out run found is i =
       parts = i.parts;
       rows = subst (λ l. Rows i.parts i.written came i.fs ((p, c) ∷ l) run) (sym is)
           (rows_moved form run.terms (unwrap_or run.start 0) i.parts told run.begun came i.fs es ((p, c) ∷ gone) (lookup_back p c es found) i.rows);
+      parting = i.parting;
     }
 
 -- They are in another order.
-pub follows_moved : (start now : TargetSeen) (came : List Arrival) (es gs : List (Pair × Held)) (run : Run) → IsPermutation es gs
-    → Follows start now came es run → Follows start now came gs run
+pub follows_moved : {ph : Phase} (start now : TargetSeen) (came : List Arrival) (es gs : List (Pair × Held)) (run : Run) → IsPermutation es gs
+    → FollowsIn ph start now came es run → FollowsIn ph start now came gs run
 follows_moved start now came es gs run moves i =
     let form = run.teller.form in
     let told = told_by i.written run in
@@ -669,6 +755,7 @@ follows_moved start now came es gs run moves i =
       shared = moved form run.terms came i.fs told es gs (lookup_moved es gs moves i.apart) i.shared;
       parts = i.parts;
       rows = rows_moved form run.terms (unwrap_or run.start 0) i.parts told run.begun came i.fs es gs (lookup_moved es gs moves i.apart) i.rows;
+      parting = i.parting;
     }
 
 -- The connection of the segment x is given up.
@@ -718,5 +805,6 @@ follows_nothing start run tells empty lost count none =
       parts = [];
       rows = subst (λ n. IsRowing run.teller.form [] (told_by [] run) run.terms from n [] [] []) (sym count)
           (rows_nothing run.teller.form (told_by [] run) run.terms from empty);
+      parting = parts_nothing;
     } in
     subst P (sym none) follows

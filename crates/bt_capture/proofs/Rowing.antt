@@ -33,7 +33,7 @@ use Rattle.bt_capture.specs.declared.ending.Form.{Form}
 use Rattle.bt_capture.specs.declared.pair.Pair.{Pair}
 use Rattle.bt_capture.proofs.Entries.{same_is, same_self}
 use Rattle.bt_capture.proofs.Numbers.{not_equal, one_if, same_counts, same_number, counted_cons}
-use Rattle.bt_capture.proofs.Shares.{filter_and, filter_less, first_more, taken_and, taken_less}
+use Rattle.bt_capture.proofs.Shares.{IsIts, filter_and, filter_less, made_ready, taken_and, taken_less}
 use Rattle.bt_capture.proofs.Streaming.{other_open}
 
 -- ---- rows of one connection
@@ -335,17 +335,14 @@ module _ (form : Form) (terms : Terms) (from : ℕ) where
 
   -- The next segment is of this one.
   pub rows_held : (parts : List Part) (text : List ℕ) (begun : ℕ) (came : List Arrival) (fs : List Finished) (x : Arrival) (p : Pair) (c : Held)
-      (es : List (Pair × Held)) (taken : List Arrival) → IsShared p came fs taken → IsRowing form parts text terms from begun came fs ((p, c) ∷ es)
-      → IsRowingTo form parts text terms from begun came fs x p taken c.value es
-  rows_held parts text begun came fs x p c es taken share i = record {
+      (es : List (Pair × Held)) (taken : List Arrival) → IsIts x c.value → IsShared p came fs taken
+      → IsRowing form parts text terms from begun came fs ((p, c) ∷ es) → IsRowingTo form parts text terms from begun came fs x p taken c.value es
+  rows_held parts text begun came fs x p c es taken its share i = record {
     rowed = i.rowed;
     own =
         let s = own_rows_of parts text begun came fs p c es taken share i in (
           s.0,
-          λ there.
-              let g = s.1 there in
-              let m = g.0 in
-              (record { first = m.first; is_first = first_more taken x m.first m.is_first; a = m.a; b = m.b; made = m.made }, g.1),
+          λ there. let g = s.1 there in (made_ready terms taken x c.value its g.0, g.1),
           s.2,
         );
     others = others_of parts came fs p c es i.shares;

@@ -7,8 +7,11 @@ use Rattle.std.specs.Map.{lookup}
 use Rattle.std.proofs.lemmas.Bool.{cases_Bool}
 use Rattle.std.proofs.lemmas.Grind.{flat_map-append}
 use Rattle.std.proofs.lemmas.List.Elements.{filter-append}
+use Rattle.bt_talk.specs.Pasts.{Past}
+use Rattle.bt_talk.specs.Talks.{IsTalk}
+use Rattle.bt_talk.specs.declared.talk.Talk.{Talk}
 use Rattle.bt_capture.specs.Arrivals.{Arrival, pair_of, is_between}
-use Rattle.bt_capture.specs.Connections.{IsFirst, IsOpen}
+use Rattle.bt_capture.specs.Connections.{Begins, IsFirst, IsMade, IsNext, IsOpen}
 use Rattle.bt_capture.specs.Following.{Finished, IsLeft, IsShared, IsShare, count_open, taken_between}
 use Rattle.bt_capture.specs.Sending.{IsSending}
 use Rattle.bt_capture.specs.Tables.{Held, same_pair}
@@ -124,15 +127,28 @@ pub first_more : (taken : List Arrival) (x : Arrival) (s : _) → IsFirst s (tak
 first_more [] x s i = absurd i
 first_more (y ∷ ys) x s i = i
 
-pub ready : (terms : Terms) (taken : List Arrival) (x : Arrival) (c : Connection) → IsOpen terms taken [] c → IsOpen terms taken (x ∷ []) c
-ready terms taken x c i = record {
-  has_payload = i.has_payload;
-  made = λ there. let m = i.made there in record { first = m.first; is_first = first_more taken x m.first m.is_first; a = m.a; b = m.b; made = m.made };
+pub next_is : (taken : List Arrival) (x : Arrival) (a b : Past) (t : Talk) → Begins false x a b t → IsNext taken (x ∷ []) a b t
+next_is [] x a b t i = tt
+next_is (y ∷ ys) x a b t i = i
+
+-- The next segment is one of the connection's.
+abbrev pub IsIts : Arrival → Connection → Type 0
+IsIts x c = (a b : Past) → IsTalk a b c.talk → Begins false x a b c.talk
+
+abbrev pub made_ready : (terms : Terms) (taken : List Arrival) (x : Arrival) (c : Connection) → IsIts x c → (m : IsMade terms taken [] c.talk)
+    → IsMade terms taken (x ∷ []) c.talk
+made_ready terms taken x c its m = record {
+  first = m.first;
+  is_first = first_more taken x m.first m.is_first;
+  a = m.a;
+  b = m.b;
+  made = m.made;
+  next = next_is taken x m.a m.b c.talk (its m.a m.b m.made.is);
 }
 
+pub ready : (terms : Terms) (taken : List Arrival) (x : Arrival) (c : Connection) → IsIts x c → IsOpen terms taken [] c → IsOpen terms taken (x ∷ []) c
+ready terms taken x c its i = record { has_payload = i.has_payload; made = λ there. made_ready terms taken x c its (i.made there) }
+
 pub ready_sent : (form : Form) (told : List ℕ) (terms : Terms) (taken : List Arrival) (x : Arrival) (c : Connection)
-    → IsSending form told terms taken [] c → IsSending form told terms taken (x ∷ []) c
-ready_sent form told terms taken x c i side small w there =
-    let s = i side small w there in
-    let m = s.0 in
-    (record { first = m.first; is_first = first_more taken x m.first m.is_first; a = m.a; b = m.b; made = m.made }, s.1)
+    → IsIts x c → IsSending form told terms taken [] c → IsSending form told terms taken (x ∷ []) c
+ready_sent form told terms taken x c its i side small w there = let s = i side small w there in (made_ready terms taken x c its s.0, s.1)

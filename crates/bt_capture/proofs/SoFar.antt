@@ -52,10 +52,7 @@ sent_more terms came came' fs n side bytes i =
       number = i.number;
       opening = i.opening;
       sent = λ there.
-          let s = i.sent there in
-          let m = s.0 in
-          let first = subst (IsFirst m.first) both (first_front (i.taken ++ i.more) rest m.first m.is_first) in
-          (record { first = m.first; is_first = first; a = m.a; b = m.b; made = m.made }, s.1);
+          let s = i.sent there in (s.0, subst (IsFirst s.0) both (first_front (i.taken ++ i.more) rest s.0 s.1), s.2, s.3, s.4, s.5);
     }
 
 pub so_far_more : (form : Form) (told : List ℕ) (terms : Terms) (from : ℕ) (came came' : List Arrival) (fs : List Finished)
@@ -104,7 +101,7 @@ own_so_far form told terms came fs p c n side s same small asked =
       connection = c.value;
       number = same;
       opening = is_in_opening c.value.talk;
-      sent = s.is.1 side below wanted;
+      sent = λ there. let h = s.is.1 side below wanted there in (h.0.first, h.0.is_first, h.0.a, h.0.b, h.0.made, h.1);
     }
 
 -- It is another one's than the first.
@@ -173,7 +170,7 @@ held_so_far form told terms from begun came x fs p c es taken ends absent apart 
           connection = c.value;
           number = same;
           opening = is_in_opening c.value.talk;
-          sent = sends side below wanted;
+          sent = λ there. let h = sends side below wanted there in (h.0.first, h.0.is_first, h.0.a, h.0.b, h.0.made, h.1);
         })
     | inr f ↦ elim (other_so_far form told terms from begun came fs p c es n side absent apart i others asked small none f) [
       | inl e ↦ inl e
@@ -217,7 +214,7 @@ ended_so_far form told told' more terms from begun came fs p c es absent apart i
                     opening = false;
                     sent = λ there.
                         let h = own.is.1 side below wanted there in
-                        (h.0, ends h.0.a h.0.b side told h.0.made.is wanted h.1);
+                        (h.0.first, h.0.is_first, h.0.a, h.0.b, h.0.made, ends h.0.a h.0.b side told h.0.made.is wanted h.1);
                   }))
             ]
         | inr f ↦

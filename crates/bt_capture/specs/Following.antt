@@ -1,7 +1,7 @@
 -- The connections of a capture: those that are over, and those that aren't.
 use Rattle.bt_talk.specs.declared.terms.Terms.{Terms}
 use Rattle.std.specs.Prelude.{◌≡◌, ◌⊎◌, ◌==◌, ℕ, ◌+◌, ◌-◌, ◌^◌, ◌<◌, ◌≤◌, min, nat_lt, Bool, true, false, if◌then◌else◌, List, [], ◌∷◌, ◌++◌, length}
-use Rattle.std.specs.Prelude.{Option, Some, None, unwrap_or, Result, Ok, Err}
+use Rattle.std.specs.Prelude.{Option, Some, None, is_some, unwrap_or, Result, Ok, Err}
 use Rattle.std.specs.List.{All, count_by, filter, flat_map, list_any}
 use Rattle.std.specs.Map.{lookup}
 use Rattle.bt_io.specs.Seen.{TargetSeen}
@@ -9,11 +9,13 @@ use Rattle.bt_packet.specs.declared.tcp.Segment.{Segment}
 use Rattle.bt_talk.specs.Pasts.{Past}
 use Rattle.bt_remarks.specs.declared.events.Side.{Side}
 use Rattle.bt_talk.specs.Sent.{IsSent}
-use Rattle.bt_talk.specs.Talks.{AreShown, IsTalk, ends_of, flow_of, terms_of, is_in_opening, is_lost, of_side}
+use Rattle.bt_talk.specs.Talks.{AreShown, IsTalk, closing_of, cut_of, ends_of, flow_of, terms_of, is_in_opening, is_lost, of_side}
 use Rattle.bt_talk.specs.declared.talk.Talk.{Talk}
+use Rattle.bt_told.specs.declared.report.Left.{Left}
+use Rattle.bt_told.specs.declared.report.Left.TheVariants.{Open, Unread, Replaced}
 use Rattle.bt_told.specs.declared.report.Report.{Report}
 use Rattle.bt_capture.specs.Arrivals.{Arrival, is_between, has_data}
-use Rattle.bt_capture.specs.Connections.{IsFirst, IsMade, IsMadeOf, IsOpen}
+use Rattle.bt_capture.specs.Connections.{Begins, IsFirst, IsMadeOf, IsOpen}
 use Rattle.bt_capture.specs.Forms.{absent_from, wanted_by}
 use Rattle.bt_capture.specs.Reportings.{IsReportOf}
 use Rattle.bt_capture.specs.Sending.{IsSending}
@@ -33,12 +35,22 @@ pub data Fate : Type 0 where
   Silent : Fate
   Lost : Fate
 
--- a connection that is over: its number, its ends, the segments that it took, and what became of it
+-- Why it is over: no segment between its ends follows; it had ended, by a RST or both FINs; there were too many at once; memory ran out; or this
+-- segment between its ends, which follows, begins another.
+pub data Cause : Type 0 where
+  Final : Cause
+  Ended : Cause
+  Crowded : Cause
+  Unknown : Cause
+  Before : Arrival → Cause
+
+-- a connection that is over: its number, its ends, the segments that it took, what became of it, and why
 pub record Finished : Type 0 where
   pub number : ℕ
   pub pair : Pair
   pub taken : List Arrival
   pub fate : Fate
+  pub cause : Cause
 
 -- Its opening was ended; nothing came.
 pub record IsEnded (a b : Past) (t t' : Talk) : Type 0 where
@@ -46,6 +58,8 @@ pub record IsEnded (a b : Past) (t t' : Talk) : Type 0 where
   pub flows : (side : Side) → flow_of side t' ≡ flow_of side t
   pub ends : ends_of t' ≡ ends_of t
   pub terms : terms_of t' ≡ terms_of t
+  pub closing : closing_of t' ≡ closing_of t
+  pub cuts : (side : Side) → cut_of side t' ≡ cut_of side t
   pub over : is_in_opening t' ≡ false
 
 -- The report on the connection with this number says what was captured of both sides by these segments. The capture starts at the time `from`.
@@ -58,15 +72,49 @@ pub record IsReported (terms : Terms) (from number : ℕ) (taken : List Arrival)
   pub made : IsMadeOf terms first taken a b last
   pub talk : Talk
   pub ended : IsEnded a b last talk
-  pub is : IsReportOf number from a b talk r
+  pub left : Left
+  pub is : IsReportOf number from left a b talk r
 
-abbrev pub IsFate : Terms → (from number : ℕ) → List Arrival → Fate → Type 0
-IsFate terms from number taken (Reported r) = (list_any has_data taken ≡ true) × IsReported terms from number taken r
-IsFate terms from number taken Silent = list_any has_data taken ≡ false
-IsFate terms from number taken Lost = list_any has_data taken ≡ true
+-- how the connection was left, if it hasn't ended
+abbrev pub left_by : Cause → Left
+left_by Final = Open
+left_by Ended = Open
+left_by Crowded = Unread
+left_by Unknown = Open
+left_by (Before x) = Replaced
+
+abbrev pub IsFate : Terms → (from number : ℕ) → List Arrival → Cause → Fate → Type 0
+IsFate terms from number taken cause (Reported r) =
+    (list_any has_data taken ≡ true) × (i : IsReported terms from number taken r) × (i.left ≡ left_by cause)
+IsFate terms from number taken cause Silent = list_any has_data taken ≡ false
+IsFate terms from number taken cause Lost = list_any has_data taken ≡ true
+
+-- The connection is over for this reason.
+abbrev pub IsWhy : Cause → Past → Past → Talk → Type 0
+IsWhy Final a b t = Unit {0}
+IsWhy Ended a b t = is_some (closing_of t).over ≡ true
+IsWhy Crowded a b t = Unit {0}
+IsWhy Unknown a b t = ⊥
+IsWhy (Before x) a b t = Begins true x a b t
+
+-- It is over for this reason after these segments.
+pub record IsOverBy (terms : Terms) (taken : List Arrival) (cause : Cause) : Type 0 where
+  pub first : Segment
+  pub is_first : IsFirst first taken
+  pub a : Past
+  pub b : Past
+  pub last : Talk
+  pub made : IsMadeOf terms first taken a b last
+  pub why : IsWhy cause a b last
+
+-- If memory ran out with a connection no reason is known.
+abbrev pub IsCause : Terms → List Arrival → Cause → Fate → Type 0
+IsCause terms taken cause (Reported r) = IsOverBy terms taken cause
+IsCause terms taken cause Silent = (cause ≡ Unknown) ⊎ IsOverBy terms taken cause
+IsCause terms taken cause Lost = cause ≡ Unknown
 
 abbrev pub IsFinished : Terms → ℕ → Finished → Type 0
-IsFinished terms from f = IsFate terms from f.number f.taken f.fate
+IsFinished terms from f = IsFate terms from f.number f.taken f.cause f.fate × IsCause terms f.taken f.cause f.fate
 
 abbrev pub report_in : Fate → List Report
 report_in (Reported r) = r ∷ []
@@ -122,9 +170,17 @@ pub record IsStreaming (form : Form) (told : List ℕ) (terms : Terms) (from beg
 
 -- ---- whose segments
 
+-- the connections between two ends, in order
+abbrev pub between : Pair → List Finished → List Finished
+between k fs = filter (λ f. same_pair k f.pair) fs
+
+-- the segments that connections took
+abbrev pub taken_by : List Finished → List Arrival
+taken_by fs = flat_map (λ f. f.taken) fs
+
 -- the segments that connections between two ends took, in order
 abbrev pub taken_between : Pair → List Finished → List Arrival
-taken_between k fs = flat_map (λ f. f.taken) (filter (λ f. same_pair k f.pair) fs)
+taken_between k fs = taken_by (between k fs)
 
 -- Of these segments, those between the two ends were taken by connections that are over, in order, except the rest.
 abbrev pub IsShared : Pair → List Arrival → List Finished → List Arrival → Type 0
@@ -140,6 +196,63 @@ pub record IsShare (form : Form) (told : List ℕ) (terms : Terms) (arrivals : L
   pub taken : List Arrival
   pub is : IsLeft form told terms taken left
   pub share : IsShared k arrivals fs taken
+
+-- ---- where one ends and another begins
+
+-- These segments between its ends come after a connection that is over for this reason.
+abbrev pub IsParted : Cause → List Arrival → Type 0
+IsParted Final more = more ≡ []
+IsParted Ended more = Unit {0}
+IsParted Crowded more = Unit {0}
+IsParted Unknown more = Unit {0}
+IsParted (Before x) [] = ⊥
+IsParted (Before x) (y ∷ more) = y ≡ x
+
+-- After each of these connections, all between the same ends, come the segments that the later ones took, and then these.
+abbrev pub AreParted : List Finished → List Arrival → Type 0
+AreParted [] rest = Unit {0}
+AreParted (f ∷ fs) rest = IsParted f.cause (taken_by fs ++ rest) × AreParted fs rest
+
+-- The capture is read; or it is, and this segment between these ends comes next; or it is read to its end.
+pub data Phase : Type 0 where
+  During : Phase
+  Coming : Pair → Arrival → Phase
+  AtEnd : Phase
+
+-- the segment between two ends that comes next, if one is known
+abbrev pub coming : Phase → Pair → List Arrival
+coming During k = []
+coming (Coming p x) k = if same_pair k p then x ∷ [] else []
+coming AtEnd k = []
+
+abbrev pub is_final : Cause → Bool
+is_final Final = true
+is_final Ended = false
+is_final Crowded = false
+is_final Unknown = false
+is_final (Before x) = false
+
+-- As long as segments may come no connection is known to be the last one between its ends.
+abbrev pub MayBe : Phase → Cause → Type 0
+MayBe During cause = is_final cause ≡ false
+MayBe (Coming p x) cause = is_final cause ≡ false
+MayBe AtEnd cause = Unit {0}
+
+-- Connections between two ends are over, and the others took the rest of these segments.
+pub record IsPart (ph : Phase) (arrivals : List Arrival) (fs : List Finished) (k : Pair) : Type 0 where
+  pub rest : List Arrival
+  pub share : IsShared k arrivals fs rest
+  pub going : All (λ f. MayBe ph f.cause) (between k fs)
+  pub parted : AreParted (between k fs) (rest ++ coming ph k)
+
+abbrev pub AreParts : Phase → List Arrival → List Finished → Type 0
+AreParts ph arrivals fs = (k : Pair) → IsPart ph arrivals fs k
+
+-- The connection between the ends p may be over for this reason.
+pub record MayEnd (ph : Phase) (cause : Cause) (p : Pair) (c : Connection) : Type 0 where
+  pub may_be : MayBe ph cause
+  pub parted : IsParted cause (coming ph p)
+  pub why : (a b : Past) → IsTalk a b c.talk → IsWhy cause a b c.talk
 
 -- ---- the rows of items
 
@@ -197,7 +310,8 @@ pub record IsSentSoFar (terms : Terms) (arrivals : List Arrival) (fs : List Fini
   pub connection : Connection
   pub number : connection.number ≡ n
   pub opening : Bool
-  pub sent : is_lost connection.talk ≡ false → (m : IsMade terms taken more connection.talk) × IsSent opening (of_side side m.a m.b) bytes
+  pub sent : is_lost connection.talk ≡ false → (first : Segment) × IsFirst first (taken ++ more) × (a : Past) × (b : Past)
+      × IsMadeOf terms first taken a b connection.talk × IsSent opening (of_side side a b) bytes
 
 -- If a stream is told, this is that of a connection that is over, or what was handed out so far of one that isn't; or nothing.
 pub record IsStreamSoFar (form : Form) (told : List ℕ) (terms : Terms) (from : ℕ) (arrivals : List Arrival) (fs : List Finished) : Type 0 where
@@ -230,7 +344,7 @@ Rows parts written arrivals fs es run =
     IsRowing run.teller.form parts (told_by written run) run.terms (unwrap_or run.start 0) run.begun arrivals fs es
 
 -- These segments were taken. These connections, no two of the same ends, aren't over, and the others are told. All of them have begun.
-pub record Follows (start now : TargetSeen) (arrivals : List Arrival) (es : List (Pair × Held)) (run : Run) : Type 0 where
+pub record FollowsIn (ph : Phase) (start now : TargetSeen) (arrivals : List Arrival) (es : List (Pair × Held)) (run : Run) : Type 0 where
   pub fs : List Finished
   pub written : List ℕ
   pub known : IsKnown start now fs written run
@@ -240,6 +354,11 @@ pub record Follows (start now : TargetSeen) (arrivals : List Arrival) (es : List
   pub shared : (k : Pair) → Shares written arrivals fs run k (lookup (same_pair k) es)
   pub parts : List Part
   pub rows : Rows parts written arrivals fs es run
+  pub parting : AreParts ph arrivals fs
+
+-- As FollowsIn, and the capture is still read.
+abbrev pub Follows : TargetSeen → TargetSeen → List Arrival → List (Pair × Held) → Run → Type 0
+Follows start now arrivals es run = FollowsIn During start now arrivals es run
 
 -- These segments came. Connections are over and told, the others are given up.
 pub record Stops (start now : TargetSeen) (arrivals : List Arrival) (run : Run) : Type 0 where
@@ -250,9 +369,12 @@ pub record Stops (start now : TargetSeen) (arrivals : List Arrival) (run : Run) 
   pub shared : (k : Pair) → (rest : List Arrival) × IsShared k arrivals fs rest
 
 -- after a step
+abbrev pub GoesIn : {T E : Type 0} → Phase → TargetSeen → TargetSeen → List Arrival → List (Pair × Held) → Run → Result T E → Type 0
+GoesIn ph start now arrivals es run (Ok x) = FollowsIn ph start now arrivals es run
+GoesIn ph start now arrivals es run (Err e) = Stops start now arrivals run
+
 abbrev pub Goes : {T E : Type 0} → TargetSeen → TargetSeen → List Arrival → List (Pair × Held) → Run → Result T E → Type 0
-Goes start now arrivals es run (Ok x) = Follows start now arrivals es run
-Goes start now arrivals es run (Err e) = Stops start now arrivals run
+Goes start now arrivals es run r = GoesIn During start now arrivals es run r
 
 -- The next segment x is of this connection, which is not in the table.
 pub record Holds (start now : TargetSeen) (arrivals : List Arrival) (x : Arrival) (p : Pair) (c : Held) (es : List (Pair × Held)) (run : Run) : Type 0 where
@@ -270,6 +392,7 @@ pub record Holds (start now : TargetSeen) (arrivals : List Arrival) (x : Arrival
   pub others : (k : Pair) → same_pair k p ≡ false → Shares written arrivals fs run k (lookup (same_pair k) es)
   pub parts : List Part
   pub rows : IsRowingTo run.teller.form parts (told_by written run) run.terms (unwrap_or run.start 0) run.begun arrivals fs x p taken c.value es
+  pub parting : AreParts (Coming p x) arrivals fs
 
 -- The connection of the next segment x was found or begun; or memory ran out.
 abbrev pub Finds : {E : Type 0} → TargetSeen → TargetSeen → List Arrival → Arrival → Pair → List (Pair × Held) → Run → Result Held E → Type 0

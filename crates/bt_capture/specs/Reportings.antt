@@ -23,6 +23,8 @@ use Rattle.bt_talk.specs.declared.closing.Closed.{Closed as FirstClose}
 use Rattle.bt_told.specs.declared.report.Before.{Before}
 use Rattle.bt_told.specs.declared.report.Closed.{Closed}
 use Rattle.bt_told.specs.declared.report.Last.{Last}
+use Rattle.bt_told.specs.declared.report.Left.{Left}
+use Rattle.bt_told.specs.declared.report.Left.TheVariants.{Open}
 use Rattle.bt_told.specs.declared.report.Remarked.{Remarked}
 use Rattle.bt_told.specs.declared.report.Means.{Means}
 use Rattle.bt_told.specs.declared.report.Means.TheVariants.{Fin, Rst}
@@ -162,16 +164,21 @@ AreRemarksOf a b t x y =
     ((i : IsTalk a b t) × AreRemarksOn A a b t i x × AreRemarksOn B a b t i y)
     ⊎ ((x ≡ no_remarks) × (y ≡ no_remarks) × (IsReceiverOf A a b t None ⊎ IsReceiverOf B a b t None))
 
--- It is a BitTorrent connection if a side has begun a handshake.
-abbrev pub IsBodyOf : ℕ → Past → Past → Talk → Body → Type 0
-IsBodyOf from a b t body.NotBitTorrent = HasBegun a.front b.front false
-IsBodyOf from a b t (body.Told r) =
-    HasBegun a.front b.front true × IsDirectionOf A a b t r.a × IsDirectionOf B a b t r.b × IsClosedBy from a b t (closing_of t).closed r.closed
-    × AreRemarksOf a b t r.remarked_a r.remarked_b
+-- A connection that has ended is complete.
+abbrev pub left_after : Option ℕ → Left → Left
+left_after None left = left
+left_after (Some over) left = Open
 
--- The report says of the connection what was captured of both sides.
-pub record IsReportOf (n from : ℕ) (a b : Past) (t : Talk) (r : Report) : Type 0 where
+-- It is a BitTorrent connection if a side has begun a handshake.
+abbrev pub IsBodyOf : ℕ → Left → Past → Past → Talk → Body → Type 0
+IsBodyOf from left a b t body.NotBitTorrent = HasBegun a.front b.front false
+IsBodyOf from left a b t (body.Told r) =
+    HasBegun a.front b.front true × IsDirectionOf A a b t r.a × IsDirectionOf B a b t r.b × IsClosedBy from a b t (closing_of t).closed r.closed
+    × AreRemarksOf a b t r.remarked_a r.remarked_b × (r.left ≡ left_after (closing_of t).over left)
+
+-- The report says of the connection what was captured of both sides, and how it was left.
+pub record IsReportOf (n from : ℕ) (left : Left) (a b : Past) (t : Talk) (r : Report) : Type 0 where
   pub number : r.number ≡ n
   pub end_a : r.a ≡ (ends_of t).a
   pub end_b : r.b ≡ (ends_of t).b
-  pub body : IsBodyOf from a b t r.body
+  pub body : IsBodyOf from left a b t r.body

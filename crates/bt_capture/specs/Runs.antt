@@ -18,8 +18,8 @@ use Rattle.bt_capture.specs.declared.packets.FileEnd.TheVariants.{Whole, Cut}
 use Rattle.bt_capture.specs.declared.pair.Pair.{Pair}
 use Rattle.bt_capture.specs.Arrivals.{Arrival, arrivals, first_time}
 use Rattle.bt_capture.specs.Ends.{IsEnded}
-use Rattle.bt_capture.specs.Following.{AreRowsOf, Finished, IsFinished, IsSentBy, IsShared, IsStreamOf}
-use Rattle.bt_capture.specs.Following.{IsStreamSoFar, AreNumbered, Follows, reports_of, count_lost}
+use Rattle.bt_capture.specs.Following.{AreParted, AreRowsOf, Finished, IsFinished, IsSentBy, IsShared, IsStreamOf}
+use Rattle.bt_capture.specs.Following.{Phase, During, IsStreamSoFar, AreNumbered, FollowsIn, between, reports_of, count_lost}
 use Rattle.bt_capture.specs.Readings.{Reading, IsReading}
 use Rattle.bt_capture.specs.Tables.{Held}
 use Rattle.bt_utp.specs.Flows.{flows}
@@ -55,14 +55,18 @@ pub record HasRead (o : Origin) (left : Option (List ℕ)) (packets : List Captu
 -- ---- while it is read
 
 -- The packets' segments were taken. These connections aren't over, and the others are told.
-pub record IsTelling (o : Origin) (left : Option (List ℕ)) (now : TargetSeen) (es : List (Pair × Held)) (run : Run) (r : Reading) : Type 0 where
+pub record IsTellingIn (ph : Phase) (o : Origin) (left : Option (List ℕ)) (now : TargetSeen) (es : List (Pair × Held)) (run : Run) (r : Reading) : Type 0 where
   pub packets : List Captured
   pub read : HasRead o left packets r
   pub terms : run.terms ≡ o.terms
   pub form : run.teller.form ≡ o.form
   pub time : run.start ≡ first_time packets
-  pub follows : Follows o.target now (arrivals packets) es run
+  pub follows : FollowsIn ph o.target now (arrivals packets) es run
   pub utp : AreCounted (datagrams packets) run.utp
+
+-- As IsTellingIn, and the capture is still read.
+abbrev pub IsTelling : Origin → Option (List ℕ) → TargetSeen → List (Pair × Held) → Run → Reading → Type 0
+IsTelling o left now es run r = IsTellingIn During o left now es run r
 
 -- ---- at its end
 
@@ -71,11 +75,13 @@ pub record AreOver (o : Origin) (packets : List Captured) (fs : List Finished) :
   pub finished : All (IsFinished o.terms (unwrap_or (first_time packets) 0)) fs
   pub shared : (k : Pair) → (rest : List Arrival) × IsShared k (arrivals packets) fs rest
 
--- All connections are over: each segment of the packets was taken by one of them, and each has its number.
+-- All connections are over: each segment of the packets was taken by one of them, and each has its number. Of those between the same ends each
+-- is over for a reason, and those that come after it took the segments that follow.
 pub record AreAllOver (o : Origin) (packets : List Captured) (fs : List Finished) : Type 0 where
   pub finished : All (IsFinished o.terms (unwrap_or (first_time packets) 0)) fs
   pub numbered : AreNumbered (length fs) fs []
   pub shared : (k : Pair) → IsShared k (arrivals packets) fs []
+  pub parted : (k : Pair) → AreParted (between k fs) []
 
 -- If a stream is told, the text is that of the asked side of the connection with the asked number, if there is a report on that. It is empty
 -- if no connection has the number.
@@ -199,16 +205,19 @@ IsTold o left now (Err f) = IsToldTo f o left now
 -- ---- after a step
 
 -- After a failed write or without memory no more is told. What can't be read on leaves the connections as they are.
-abbrev pub AfterFault : CaptureFault → Origin → Option (List ℕ) → TargetSeen → List (Pair × Held) → Run → Reading → Type 0
-AfterFault Write o left now es run r = IsLeft o left now
-AfterFault (File f) o left now es run r = IsTelling o left now es run r
-AfterFault Read o left now es run r = IsTelling o left now es run r
-AfterFault Memory o left now es run r = ArePartlyWritten o left now
-AfterFault Turns o left now es run r = ArePartlyWritten o left now
+abbrev pub AfterFault : CaptureFault → Phase → Origin → Option (List ℕ) → TargetSeen → List (Pair × Held) → Run → Reading → Type 0
+AfterFault Write ph o left now es run r = IsLeft o left now
+AfterFault (File f) ph o left now es run r = IsTellingIn ph o left now es run r
+AfterFault Read ph o left now es run r = IsTellingIn ph o left now es run r
+AfterFault Memory ph o left now es run r = ArePartlyWritten o left now
+AfterFault Turns ph o left now es run r = ArePartlyWritten o left now
+
+abbrev pub IsAfterIn : {T : Type 0} → Phase → Origin → Option (List ℕ) → TargetSeen → List (Pair × Held) → Run → Reading → Result T CaptureFault → Type 0
+IsAfterIn ph o left now es run r (Ok x) = IsTellingIn ph o left now es run r
+IsAfterIn ph o left now es run r (Err f) = AfterFault f ph o left now es run r
 
 abbrev pub IsAfter : {T : Type 0} → Origin → Option (List ℕ) → TargetSeen → List (Pair × Held) → Run → Reading → Result T CaptureFault → Type 0
-IsAfter o left now es run r (Ok x) = IsTelling o left now es run r
-IsAfter o left now es run r (Err f) = AfterFault f o left now es run r
+IsAfter o left now es run r x = IsAfterIn During o left now es run r x
 
 abbrev pub IsOfTelling : CaptureFault → Type 0
 IsOfTelling Write = Unit {0}

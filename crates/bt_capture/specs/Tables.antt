@@ -1,8 +1,9 @@
 -- Connections by their ends.
-use Rattle.std.specs.Prelude.{Bool, List, Box}
+use Rattle.std.specs.Prelude.{◌≡◌, Bool, true, List, Some, is_some, Box}
 use Rattle.std.specs.declared.alloc.Global.{Global}
 use Rattle.std.specs.List.{IsDistinct}
-use Rattle.std.specs.Map.{keys_of}
+use Rattle.std.specs.Map.{keys_of, lookup}
+use Rattle.bt_talk.specs.Talks.{closing_of}
 use Rattle.bt_capture.specs.declared.pair.Pair.{Pair}
 use Rattle.bt_capture.specs.declared.connection.Connection.{Connection}
 use Rattle.bt_capture.specs.contracts.pair.PairPartialEq.TheImpl as pair_eq
@@ -18,3 +19,7 @@ IsApart es = IsDistinct same_pair (keys_of es)
 -- a connection, in memory of its own
 abbrev pub Held : Type 0
 Held = Box Connection Global
+
+-- The connection between these ends, if there is one, has ended.
+abbrev pub HasEnded : Pair → List (Pair × Held) → Type 0
+HasEnded p es = (c : Held) → lookup (same_pair p) es ≡ Some c → is_some (closing_of c.value.talk).over ≡ true

@@ -9,7 +9,7 @@ ghost use Rattle.bt_capture.specs.Arrivals.{Arrival, arrived, arrivals, arrivals
 ghost use Rattle.bt_utp.specs.States.{AreCounted};
 ghost use Rattle.bt_packet.specs.declared.utp.Utp.{Utp};
 ghost use Rattle.bt_capture.specs.FlowTexts.{datagrams, datagrams_in};
-ghost use Rattle.bt_capture.specs.Connections.{IsOpen};
+ghost use Rattle.bt_capture.specs.Connections.{Begins, IsOpen};
 ghost use Rattle.bt_remarks.specs.declared.events.Side.{Side};
 ghost use Rattle.bt_talk.specs.Pasts.{Past};
 ghost use Rattle.bt_talk.specs.Rooms.{heading_by, rows_in};
@@ -20,11 +20,11 @@ ghost use Rattle.bt_capture.specs.Sending.{HasSent, IsSentOff};
 ghost use Rattle.bt_capture.specs.Rowed.{HasShown, ShowsOn, heading_of};
 ghost use Rattle.bt_capture.specs.Forms.{absent_from, handed, is_stream, showing_by, wanted_by};
 ghost use Rattle.bt_capture.specs.Bounds.{IsBounded, IsCounted};
-ghost use Rattle.bt_capture.specs.Following.{Follows, Goes, Finds};
+ghost use Rattle.bt_capture.specs.Following.{Phase, Coming, Cause, FollowsIn, GoesIn, Follows, Goes, Finds, MayEnd, left_by};
 ghost use Rattle.bt_capture.specs.Tellings.{TellsOn};
 ghost use Rattle.bt_capture.specs.Runs.{utp_text};
 ghost use Rattle.bt_capture.specs.Sights.{seen};
-ghost use Rattle.bt_capture.specs.Tables.{Held, same_pair, IsApart};
+ghost use Rattle.bt_capture.specs.Tables.{Held, HasEnded, same_pair, IsApart};
 ghost use Rattle.bt_capture.specs.declared.pair.Pair.{Pair};
 
 use crate::connection::Connection;
@@ -37,7 +37,7 @@ use crate::telling::Teller;
 use crate::utp::flow_lines;
 use bt_packet::Segment;
 use bt_pcap::Packet;
-use bt_talk::{Room, Terms, When};
+use bt_talk::{Room, Talk, Terms, When};
 use bt_told::Left;
 use bt_utp::UtpFlows;
 use std::alloc::{AllocError, Global};
@@ -53,6 +53,18 @@ const MOST: usize = 16_384;
 
 /// How many of them may be silent: no byte of them came.
 const SILENT: usize = 8_192;
+
+/// Tells whether a segment between the same ends begins another connection.
+///
+/// It does if this one ended and four seconds without a segment have passed, or if it is another SYN.
+fn begins_another(talk: &Talk, segment: &Segment, when: When) -> bool
+    ensures { (a b : Past) → IsTalk a b talk.now → Begins result (arrived segment.now when) a b talk.now }
+{
+    if talk.is_over(when.nanos) {
+        return true;
+    }
+    talk.opens_again(segment)
+}
 
 /// The connections of a capture, and what is told of them.
 #[derive(Drop)]
@@ -112,13 +124,14 @@ impl Run {
 
     /// Tells of a connection that is over, if a byte of it was captured.
     ///
-    /// `left` says how the connection was left, if no side closed it.
+    /// `left` says how the connection was left, if it hasn't ended.
     ///
     /// # Errors
     /// `AllocError` when out of memory. The connection isn't told then.
     pub fn report(&mut self, mut connection: Box<Connection>, left: Left) -> Result<(), AllocError>
-        ensures goes { (start now : TargetSeen) (came : List Arrival) (p : Pair) (es : List (Pair × Held)) → lookup (same_pair p) es ≡ None
-            → Follows start now came ((p, connection) ∷ es) self.old → Goes start now came es self.new result }
+        ensures goes { (ph : Phase) (start now : TargetSeen) (came : List Arrival) (p : Pair) (es : List (Pair × Held)) (cause : Cause)
+            → lookup (same_pair p) es ≡ None → MayEnd ph cause p connection.value → left ≡ left_by cause
+            → FollowsIn ph start now came ((p, connection) ∷ es) self.old → GoesIn ph start now came es self.new result }
         ensures sent { OnOk result ((terms : Terms) (taken : List Arrival) (side : Side) (sent : List ℕ) → connection.value.has_payload ≡ true
             → wanted_by self.old.teller.form connection.value.number ≡ Some side → is_lost connection.value.talk ≡ false
             → HasSent side sent terms taken [] connection.value → IsSentOff side sent terms taken connection.value self.old self.new) }
@@ -226,7 +239,7 @@ impl Run {
     /// Begins the connection of a segment.
     fn begin(&mut self, segment: &Segment) -> Result<Box<Connection>, AllocError>
         ensures finds { (start now : TargetSeen) (came : List Arrival) (when : When) (p : Pair) (es : List (Pair × Held)) → lookup (same_pair p) es ≡ None
-            → Follows start now came es self.old → Finds start now came (arrived segment.now when) p es self.new result }
+            → let x = arrived segment.now when in FollowsIn (Coming p x) start now came es self.old → Finds start now came x p es self.new result }
         ensures number { IfOk result (λ c. c.value.number ≡ self.old.begun) }
         ensures sent { IfOk result (λ c. (when : When) (side : Side) → HasSent side [] self.old.terms [] (arrived segment.now when ∷ []) c.value) }
         ensures table { self.new.table ≡ self.old.table }
@@ -262,7 +275,7 @@ impl Run {
         ensures start { self.new.start ≡ self.old.start }
         ensures utp { self.new.utp ≡ self.old.utp }
     {
-        if !connection.talk.is_over(when.nanos) && !connection.talk.opens_again(segment) {
+        if !begins_another(&connection.talk, segment, when) {
             return Ok(connection);
         }
         match self.report(connection, Left::Replaced) {
@@ -344,9 +357,9 @@ impl Run {
         self.teller.show(connection.number, &self.room)
     }
 
-    /// Ends the connection of these ends, which was closed, if there is one.
+    /// Ends the connection of these ends, which has ended, if there is one.
     fn end(&mut self, pair: Pair) -> Result<(), AllocError>
-        ensures goes { (start now : TargetSeen) (came : List Arrival) → Follows start now came self.old.table self.old
+        ensures goes { (start now : TargetSeen) (came : List Arrival) → HasEnded pair self.old.table → Follows start now came self.old.table self.old
             → Goes start now came self.new.table self.new result }
         ensures bounded { IsBounded self.old → IsBounded self.new }
         ensures terms { self.new.terms ≡ self.old.terms }

@@ -22,6 +22,5 @@ pub use ending::{CaptureEnd, CaptureFault, CaptureJob, Form};
 pub use fault::ReadFault;
 pub use packets::{FileEnd, Packets};
 pub use pair::Pair;
-pub use reporting::report_of;
 pub use run::run_capture;
 pub use sight::{Sight, sight_of};

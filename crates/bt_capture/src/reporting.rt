@@ -4,15 +4,15 @@ ghost use Rattle.bt_intro.specs.Hellos.{IsStartOf};
 ghost use Rattle.bt_talk.specs.Pasts.{Past};
 ghost use Rattle.bt_talk.specs.Talks.{IsTalk, closing_of};
 ghost use Rattle.bt_told.specs.Names.{title_text};
-ghost use Rattle.bt_capture.specs.Reportings.{IsReportOf, IsSenderOf, IsDirectionOf, IsBodyOf, HasBegun, IsBeforeOf, IsClosedBy, AreRemarksOf};
-ghost use Rattle.bt_capture.specs.Reportings.{offset_gap, shifted as shifted_by, title_by, means_by};
+ghost use Rattle.bt_capture.specs.Reportings.{IsSenderOf, IsDirectionOf, IsBodyOf, HasBegun, IsBeforeOf, IsClosedBy, AreRemarksOf};
+ghost use Rattle.bt_capture.specs.Reportings.{left_after, offset_gap, shifted as shifted_by, title_by, means_by};
 
 use bt_intro::Receiver;
 use bt_remarks::Side;
 use bt_talk::Talk;
 use bt_tcp::{Gap, Gaps};
 use bt_told::{
-    Before, Body, Closed, Direction, Judged, Left, Means, Remarked, Report, Sender, Title, Told,
+    Before, Body, Closed, Direction, Judged, Left, Means, Remarked, Sender, Title, Told,
 };
 use bt_wire::Handshake;
 
@@ -167,11 +167,18 @@ fn remarks_of(talk: &Talk) -> (Remarked, Remarked)
     (talk.remarked(Side::A), talk.remarked(Side::B))
 }
 
+/// Returns how a connection was left.
+fn left_of(talk: &Talk, left: Left) -> Left
+    ensures { result ≡ left_after (closing_of talk.now).over left }
+{
+    if talk.has_ended() { Left::Open } else { left }
+}
+
 /// Returns what is known of a connection, in a capture that starts at this time.
 ///
-/// `left` says how the connection was left, if no side closed it.
+/// `left` says how the connection was left, if it hasn't ended.
 pub fn body_of(talk: &Talk, from: u64, left: Left) -> Body
-    ensures { (a b : Past) → IsTalk a b talk.now → IsBodyOf from a b talk.now result }
+    ensures { (a b : Past) → IsTalk a b talk.now → IsBodyOf from left a b talk.now result }
 {
     match has_begun(talk.start(Side::A), talk.start(Side::B)) {
         false => Body::NotBitTorrent,
@@ -181,26 +188,10 @@ pub fn body_of(talk: &Talk, from: u64, left: Left) -> Body
                 a: direction_of(talk, Side::A),
                 b: direction_of(talk, Side::B),
                 closed: closed_of(talk, from),
-                left,
+                left: left_of(talk, left),
                 remarked_a,
                 remarked_b,
             })
         }
-    }
-}
-
-/// Returns the report on a connection.
-///
-/// Its verdicts are those of both streams, as far as they were captured.
-/// `from` is the time of the capture's first packet. `left` says how the connection was left, if no side closed it.
-pub fn report_of(talk: &Talk, number: u64, from: u64, left: Left) -> Report
-    ensures { (a b : Past) → IsTalk a b talk.now → IsReportOf number from a b talk.now result }
-{
-    let ends = talk.ends();
-    Report {
-        number,
-        a: ends.a,
-        b: ends.b,
-        body: body_of(talk, from, left),
     }
 }

@@ -9,7 +9,8 @@ ghost use Rattle.bt_capture.specs.Readings.{Reading};
 ghost use Rattle.bt_capture.specs.Tables.{Held, same_pair};
 ghost use Rattle.bt_capture.specs.Sees.{HasSeenAll, HasSeenMore, HasSeenTurn, IsNoRead};
 ghost use Rattle.bt_capture.specs.Tellings.{IsEmpty};
-ghost use Rattle.bt_capture.specs.Runs.{Adds, Origin, done, origin, IsTelling, IsOfTelling, IsOfReading, IsAfter, IsTold, IsEndOf};
+ghost use Rattle.bt_capture.specs.Following.{Phase, AtEnd};
+ghost use Rattle.bt_capture.specs.Runs.{Adds, Origin, done, origin, IsTelling, IsTellingIn, IsOfTelling, IsOfReading, IsAfter, IsAfterIn, IsTold, IsEndOf};
 ghost use Rattle.bt_capture.specs.Runs.{is_cut_by, utp_lines, utp_text};
 ghost use Rattle.bt_capture.specs.declared.connections.Run.{Run};
 ghost use Rattle.bt_capture.specs.declared.pair.Pair.{Pair};
@@ -27,8 +28,8 @@ use std::hash::RandomState;
 
 /// Writes the text that is kept.
 fn write<W: Target>(run: &mut Run, writer: &mut W) -> Result<(), CaptureFault>
-    ensures after { (o : Origin) (left : Option (List ℕ)) (es : List (Pair × Held)) (r : Reading) → IsTelling o left (W.seen writer.old) es run.old r
-        → IsAfter o left (W.seen writer.new) es run.new r result }
+    ensures after { (ph : Phase) (o : Origin) (left : Option (List ℕ)) (es : List (Pair × Held)) (r : Reading)
+        → IsTellingIn ph o left (W.seen writer.old) es run.old r → IsAfterIn ph o left (W.seen writer.new) es run.new r result }
     ensures table { run.new.table ≡ run.old.table }
     ensures fault { IfErr result IsOfTelling }
     ensures empty { OnOk result (IsEmpty run.new.teller) }
@@ -41,8 +42,8 @@ fn write<W: Target>(run: &mut Run, writer: &mut W) -> Result<(), CaptureFault>
 
 /// Writes the text that is kept if it is long.
 fn write_if_full<W: Target>(run: &mut Run, writer: &mut W) -> Result<(), CaptureFault>
-    ensures after { (o : Origin) (left : Option (List ℕ)) (es : List (Pair × Held)) (r : Reading) → IsTelling o left (W.seen writer.old) es run.old r
-        → IsAfter o left (W.seen writer.new) es run.new r result }
+    ensures after { (ph : Phase) (o : Origin) (left : Option (List ℕ)) (es : List (Pair × Held)) (r : Reading)
+        → IsTellingIn ph o left (W.seen writer.old) es run.old r → IsAfterIn ph o left (W.seen writer.new) es run.new r result }
     ensures table { run.new.table ≡ run.old.table }
     ensures fault { IfErr result IsOfTelling }
 {
@@ -166,7 +167,7 @@ fn tell_last<W: Target>(
     writer: &mut W,
 ) -> Result<(), CaptureFault>
     ensures after { (o : Origin) (left : Option (List ℕ)) (p : Pair) (es : List (Pair × Held)) (r : Reading) → lookup (same_pair p) es ≡ None
-        → IsTelling o left (W.seen writer.old) ((p, connection) ∷ es) run.old r → IsAfter o left (W.seen writer.new) es run.new r result }
+        → IsTellingIn AtEnd o left (W.seen writer.old) ((p, connection) ∷ es) run.old r → IsAfterIn AtEnd o left (W.seen writer.new) es run.new r result }
     ensures fault { IfErr result IsOfTelling }
 {
     match run.report(connection, Left::Open) {
@@ -178,7 +179,7 @@ fn tell_last<W: Target>(
 /// Tells of the connections that are left, and writes all text.
 fn finish<W: Target>(run: &mut Run, writer: &mut W) -> Result<(), CaptureFault>
     ensures after { (o : Origin) (left : Option (List ℕ)) (r : Reading) → IsTelling o left (W.seen writer.old) run.old.table run.old r
-        → IsAfter o left (W.seen writer.new) [] run.new r result }
+        → IsAfterIn AtEnd o left (W.seen writer.new) [] run.new r result }
     ensures fault { IfErr result IsOfTelling }
     ensures empty { OnOk result (IsEmpty run.new.teller) }
 {
@@ -221,8 +222,8 @@ fn is_cut(end: FileEnd) -> bool
 
 /// Returns what the capture had, once all is told.
 fn end_of(run: &Run, packets: &Packets, end: FileEnd) -> CaptureEnd
-    ensures { (o : Origin) (left : Option (List ℕ)) (before now : TargetSeen) (i : IsTelling o left before [] run.now packets.now) → IsEmpty run.now.teller
-        → IsEnded packets.now (Ok end) → Adds (utp_lines run.now.teller.form i.packets) before now done → IsEndOf o left now result }
+    ensures { (o : Origin) (left : Option (List ℕ)) (before now : TargetSeen) (i : IsTellingIn AtEnd o left before [] run.now packets.now)
+        → IsEmpty run.now.teller → IsEnded packets.now (Ok end) → Adds (utp_lines run.now.teller.form i.packets) before now done → IsEndOf o left now result }
 {
     CaptureEnd {
         packets: packets.packets(),

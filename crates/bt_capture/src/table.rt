@@ -1,11 +1,11 @@
 //! The connections that aren't over, by their ends.
-ghost use Rattle.std.specs.Prelude.{◌≡◌, ◌≤◌, ◌-◌, ◌^◌, [], ◌∷◌, ◌++◌, length, None, IfOk, OnOk, OnErr};
+ghost use Rattle.std.specs.Prelude.{◌≡◌, ◌≤◌, ◌-◌, ◌^◌, [], ◌∷◌, ◌++◌, length, None, Some, true, option_copied, IfOk, OnOk, OnErr};
 ghost use Rattle.std.specs.List.Sorted.{IsPermutation};
 ghost use Rattle.std.specs.Option.{option_to_list};
 ghost use Rattle.lru.specs.LruCache.{lru_cache};
 ghost use Rattle.std.specs.Map.{lookup, remove_entry};
 ghost use Rattle.std.specs.List.{cons_option};
-ghost use Rattle.bt_capture.specs.Tables.{same_pair, IsApart};
+ghost use Rattle.bt_capture.specs.Tables.{same_pair, HasEnded, IsApart};
 
 use crate::connection::Connection;
 use crate::pair::Pair;
@@ -83,6 +83,20 @@ fn keep_either(
     }
 }
 
+/// Returns the connection of these ends in one of both, if there is one.
+fn find_either<'a>(
+    others: &'a LruCache<Pair, Box<Connection>, RandomState>,
+    silent: &'a LruCache<Pair, Box<Connection>, RandomState>,
+    pair: Pair,
+) -> Option<&'a Box<Connection>>
+    ensures { option_copied result ≡ lookup (same_pair pair) (others.now.entries ++ silent.now.entries) }
+{
+    match others.peek(&pair) {
+        Some(connection) => Some(connection),
+        None => silent.peek(&pair),
+    }
+}
+
 /// Takes the connection of these ends out of both, if there is one.
 fn take_either(
     others: &mut LruCache<Pair, Box<Connection>, RandomState>,
@@ -151,16 +165,21 @@ impl Table {
         }
     }
 
-    /// Tells whether the connection of these ends, if it has ended, is over at this time.
-    pub fn is_over(&self, pair: Pair, nanos: u64) -> Option<bool> {
-        let found = match &self.last {
+    /// Returns the connection of these ends, if there is one.
+    fn find(&self, pair: Pair) -> Option<&Box<Connection>>
+        ensures { option_copied result ≡ lookup (same_pair pair) self.now }
+    {
+        match &self.last {
             Some((last, connection)) if *last == pair => Some(connection),
-            _ => match self.others.peek(&pair) {
-                Some(connection) => Some(connection),
-                None => self.silent.peek(&pair),
-            },
-        };
-        match found {
+            _ => find_either(&self.others, &self.silent, pair),
+        }
+    }
+
+    /// Tells whether the connection of these ends, if it has ended, is over at this time.
+    pub fn is_over(&self, pair: Pair, nanos: u64) -> Option<bool>
+        ensures { result ≡ Some true → HasEnded pair self.now }
+    {
+        match self.find(pair) {
             Some(connection) if connection.talk.has_ended() => Some(connection.talk.is_over(nanos)),
             _ => None,
         }

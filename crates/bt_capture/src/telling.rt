@@ -186,7 +186,7 @@ impl Teller {
         from: u64,
         left: Left,
     ) -> Result<(), AllocError>
-        ensures told { OnOk result (Says self.old self.new number from talk.now) }
+        ensures told { OnOk result (Says self.old self.new number from left talk.now) }
         ensures same { OnErr result (TellsOn self.old self.new) }
         ensures text { OnOk result (is_stream self.old.form ≡ true → self.new.text.items ≡ self.old.text.items) }
         ensures kept { OnErr result (self.new.text.items ≡ self.old.text.items) }
@@ -207,7 +207,7 @@ impl Teller {
 
     /// Tells the last rows of a connection, those of its gaps, and the report on it, in a capture that starts at this time.
     ///
-    /// `left` says how the connection was left, if no side closed it.
+    /// `left` says how the connection was left, if it hasn't ended.
     ///
     /// If only a stream is told, these are the bytes that the room has, if they are of it.
     ///
@@ -222,7 +222,7 @@ impl Teller {
         room: &mut Room,
     ) -> Result<(), AllocError>
         ensures told { OnOk result ((h : HasRows (showing_by self.old.form) room.old)
-            → SaysAfter self.old self.new number from talk.now (handed self.old.form number room.old) h.rows) }
+            → SaysAfter self.old self.new number from left talk.now (handed self.old.form number room.old) h.rows) }
         ensures same { OnErr result (HasRows (showing_by self.old.form) room.old → TellsOn self.old self.new) }
         ensures text { OnOk result (is_stream self.old.form ≡ true → HasRows (showing_by self.old.form) room.old
             → self.new.text.items ≡ self.old.text.items ++ handed self.old.form number room.old) }

@@ -110,12 +110,15 @@ takes_alike s when a b t t' u u' i k x =
       a' = x.a';
       b' = x.b';
       is = talk_alike x.a' x.b' t' u' k x.is;
+      ends = k.ends ∙ x.ends ∙ sym i.ends;
+      terms = k.terms ∙ x.terms ∙ sym i.terms;
       sent = subst (λ (o : Bool). HasSent s o (of_side x.side a b) (flow_of x.side u) (of_side x.side x.a' x.b') (flow_of x.side u'))
           (sym (opening_alike t u i))
           (sent_same s (is_in_opening t) (of_side x.side a b) _ _ (of_side x.side x.a' x.b') _ _ (sym (flow x.side)) (sym (flow' x.side)) x.sent);
       acked = x.acked;
       opening = λ o. end_same x.a' x.b' _ _ _ _ (ap (λ (n : ℕ). min (n + 1) (2 ^ 32 - 1)) (sym i.segments)) (ap not (sym (opening_alike t' u' k)))
           (x.opening (sym (opening_alike t u i) ∙ o));
+      counted = λ o. k.segments ∙ x.counted (sym (opening_alike t u i) ∙ o) ∙ ap (λ (n : ℕ). min (n + 1) (2 ^ 32 - 1)) (sym i.segments);
       after = λ o. opening_alike t' u' k ∙ x.after (sym (opening_alike t u i) ∙ o);
       closes = closes_same s when x.side x.a' x.b' _ _ _ _ _ _ _ _ (sym (flow' A)) (sym (flow' B)) (sym i.closing) (sym k.closing) x.closes;
       cut = λ side.

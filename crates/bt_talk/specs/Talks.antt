@@ -63,6 +63,10 @@ began_with t = t.courses.first
 abbrev pub closing_of : Talk → Closing
 closing_of t = t.closing
 
+-- how many segments came in the opening, up to 2 ^ 32 - 1
+abbrev pub segments_of : Talk → ℕ
+segments_of t = t.segments
+
 -- Memory ran out.
 abbrev pub is_lost : Talk → Bool
 is_lost t = t.is_lost
@@ -136,7 +140,8 @@ pub record Exchanges (s : Segment) (a b : Past) (t t' : Talk) : Type 0 where
 -- The opening is over, or it isn't.
 pub record Settles (a b : Past) (t t' : Talk) : Type 0 where
   pub is : IsTalk a b t'
-  pub opening : is_in_opening t ≡ true → IsEnd a b (min (t.segments + 1) (2 ^ 32 - 1)) (not (is_in_opening t'))
+  pub opening : is_in_opening t ≡ true → IsEnd a b (min (segments_of t + 1) (2 ^ 32 - 1)) (not (is_in_opening t'))
+  pub counted : is_in_opening t ≡ true → segments_of t' ≡ min (segments_of t + 1) (2 ^ 32 - 1)
 
 -- The connection took a segment. In the opening that may end it.
 pub record Takes (s : Segment) (when : When) (a b : Past) (t t' : Talk) : Type 0 where
@@ -145,9 +150,12 @@ pub record Takes (s : Segment) (when : When) (a b : Past) (t t' : Talk) : Type 0
   pub a' : Past
   pub b' : Past
   pub is : IsTalk a' b' t'
+  pub ends : ends_of t' ≡ ends_of t
+  pub terms : terms_of t' ≡ terms_of t
   pub sent : HasSent s (is_in_opening t) (of_side side a b) (flow_of side t) (of_side side a' b') (flow_of side t')
   pub acked : IsAcked s (of_side (other side) a b) (of_side (other side) a' b')
-  pub opening : is_in_opening t ≡ true → IsEnd a' b' (min (t.segments + 1) (2 ^ 32 - 1)) (not (is_in_opening t'))
+  pub opening : is_in_opening t ≡ true → IsEnd a' b' (min (segments_of t + 1) (2 ^ 32 - 1)) (not (is_in_opening t'))
+  pub counted : is_in_opening t ≡ true → segments_of t' ≡ min (segments_of t + 1) (2 ^ 32 - 1)
   pub after : is_in_opening t ≡ false → is_in_opening t' ≡ false
   pub closes : Closes s when side a' b' (flow_of A t') (flow_of B t') (closing_of t) (closing_of t')
   pub cut : (k : Side) → cut_of k t' ≡ cut_after s.flags (closing_of t).closed (length (of_side k a' b').out) (cut_of k t)

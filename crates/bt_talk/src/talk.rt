@@ -132,7 +132,7 @@ impl Talk {
     ghost use Rattle.bt_talk.specs.Ends.{ends_by};
     ghost use Rattle.bt_talk.specs.Talks.{IsTalk, HasSaid, Shows, Opens, HasSettled, Exchanges, Takes, Settles, ends_of};
     ghost use Rattle.bt_talk.specs.Talks.{terms_of, closing_of, IsSender, is_in_opening, is_lost, flow_of, cut_of, direction_of, of_side};
-    ghost use Rattle.bt_talk.specs.Talks.{began_with, AreShown, AreShownIn, ShowsMore};
+    ghost use Rattle.bt_talk.specs.Talks.{began_with, segments_of, AreShown, AreShownIn, ShowsMore};
     ghost use Rattle.bt_talk.specs.Cuts.{cut_after};
     ghost use Rattle.bt_talk.specs.Courses.{closes_by, course_of};
     ghost use Rattle.bt_talk.specs.Replays.{IsOpened, HasOpened};
@@ -152,6 +152,7 @@ impl Talk {
         ensures opening { is_in_opening result ≡ true }
         ensures closing { closing_of result ≡ still_open }
         ensures began { began_with result ≡ None }
+        ensures segments { segments_of result ≡ 0 }
         ensures there { is_lost result ≡ false }
     {
         Talk {
@@ -340,6 +341,7 @@ impl Talk {
         ensures terms { self.new.terms ≡ self.old.terms }
         ensures closing { self.new.closing ≡ self.old.closing }
         ensures courses { self.new.courses ≡ self.old.courses }
+        ensures segments { self.new.segments ≡ self.old.segments }
         ensures is_lost { self.new.is_lost ≡ self.old.is_lost }
         ensures sent { OnOk result ((a b : Past) (side : Side) → IsTalk a b self.old → is_in_opening self.old ≡ true → room.old.wanted ≡ Some side
             → room.old.out.items ≡ [] → IsSent (is_in_opening self.new) (of_side side a b) room.new.out.items) }

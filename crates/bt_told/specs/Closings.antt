@@ -45,6 +45,12 @@ left_text Open = codes "  still open at the capture's end\n"
 left_text Unread = codes "  not read further: too many connections at once\n"
 left_text Replaced = codes "  not closed; a later connection has the same ports\n"
 
+-- A connection that a side closed wasn't read further.
+abbrev pub unread_text : Left → List ℕ
+unread_text Open = []
+unread_text Unread = left_text Unread
+unread_text Replaced = []
+
 abbrev pub closing_text : Option Closed → Left → List ℕ
 closing_text None left = left_text left
-closing_text (Some c) left = closed_text c
+closing_text (Some c) left = closed_text c ++ unread_text left

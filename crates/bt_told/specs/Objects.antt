@@ -117,11 +117,16 @@ left_member Open = []
 left_member Unread = codes ",\"not_read_further\":true"
 left_member Replaced = codes ",\"replaced\":true"
 
+abbrev pub unread_member : Left → List ℕ
+unread_member Open = []
+unread_member Unread = left_member Unread
+unread_member Replaced = []
+
 abbrev pub closed_member : Option Closed → Left → List ℕ
 closed_member None left = left_member left
 closed_member (Some c) left =
     codes ",\"closed\":{\"side\":\"" ++ (side_text c.first ++ (codes "\",\"by\":\"" ++ (means_text c.by ++ (codes "\",\"time\":" ++ (time_text c.at
-    ++ (before_member (codes ",\"a\":{\"sent\":") c.a ++ (before_member (codes ",\"b\":{\"sent\":") c.b ++ codes "}")))))))
+    ++ (before_member (codes ",\"a\":{\"sent\":") c.a ++ (before_member (codes ",\"b\":{\"sent\":") c.b ++ (codes "}" ++ unread_member left))))))))
 
 -- ---- a report
 

@@ -8,8 +8,9 @@ use Rattle.bt_told.specs.declared.report.Body.TheVariants as body
 use Rattle.bt_told.specs.declared.report.Closed.{Closed}
 use Rattle.bt_told.specs.declared.report.Report.{Report}
 use Rattle.bt_told.specs.declared.report.End.{End}
-use Rattle.bt_told.specs.declared.report.End.TheVariants.{By, Not}
+use Rattle.bt_told.specs.declared.report.End.TheVariants.{By, Half, Not}
 use Rattle.bt_told.specs.declared.report.Left.{Left}
+use Rattle.bt_told.specs.declared.report.Left.TheVariants.{Open, Unread, Replaced}
 use Rattle.bt_told.specs.declared.report.Told.{Told}
 use Rattle.bt_told.specs.Closings.{closing_text}
 use Rattle.bt_told.specs.Remarked.{remarked_text}
@@ -21,9 +22,14 @@ closer None = None
 closer (Some c) = Some c.first
 
 -- how the connection ended
+abbrev pub closed_end : Left → Side → End
+closed_end Open side = By side
+closed_end Unread side = Half side
+closed_end Replaced side = By side
+
 abbrev pub end_by : Option Closed → Left → End
 end_by None left = Not left
-end_by (Some c) left = By c.first
+end_by (Some c) left = closed_end left c.first
 
 abbrev pub told_text : Told → List ℕ
 told_text t =

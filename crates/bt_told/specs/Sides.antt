@@ -17,7 +17,7 @@ use Rattle.bt_wire.specs.Numbers.{be64}
 use Rattle.bt_wire.specs.Reasons.{reason_name}
 use Rattle.bt_told.specs.declared.report.Direction.{Direction}
 use Rattle.bt_told.specs.declared.report.End.{End}
-use Rattle.bt_told.specs.declared.report.End.TheVariants.{By, Not}
+use Rattle.bt_told.specs.declared.report.End.TheVariants.{By, Half, Not}
 use Rattle.bt_told.specs.declared.report.Judged.{Judged}
 use Rattle.bt_told.specs.declared.report.Left.{Left}
 use Rattle.bt_told.specs.declared.report.Left.TheVariants.{Open, Unread, Replaced}
@@ -81,9 +81,15 @@ left_note Open = codes "cut by the capture's end"
 left_note Unread = codes "cut: not read further"
 left_note Replaced = codes "cut by a later connection"
 
+abbrev pub half_closed_by : Side → Side → List ℕ
+half_closed_by A A = []
+half_closed_by B B = []
+half_closed_by closer side = left_note Unread
+
 abbrev pub open_or_closed : End → Side → List ℕ
 open_or_closed (Not left) side = left_note left
 open_or_closed (By closer) side = closed_by closer side
+open_or_closed (Half closer) side = half_closed_by closer side
 
 -- Why a side's stream may end inside a message for a reason that isn't its sender's: it has a gap, or the other side closed first,
 -- or nobody closed.

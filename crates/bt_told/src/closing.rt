@@ -1,7 +1,7 @@
 //! How a connection was closed, and what each side had sent then.
 ghost use Rattle.std.specs.Prelude.{◌≡◌, ◌+◌, ◌≤◌, ◌++◌, codes, decimal, length, take};
 ghost use Rattle.bt_remarks.specs.Said.{other as other_side};
-ghost use Rattle.bt_told.specs.Closings.{before_of, before_text, closed_text, closing_text, last_text, left_text, means_text};
+ghost use Rattle.bt_told.specs.Closings.{before_of, before_text, closed_text, closing_text, last_text, left_text, means_text, unread_text};
 
 use crate::numbers::put_time;
 use crate::report::{Before, Closed, Last, Left, Means};
@@ -95,8 +95,8 @@ fn put_closed(closed: &Closed, text: &mut [u8], at: usize) -> usize
 
 /// Puts how a connection that no side closed was left.
 fn put_left(left: Left, text: &mut [u8], at: usize) -> usize
-    requires { at + 70 ≤ length text.old }
-    ensures room { (at ≤ result) × (result ≤ at + 70) }
+    requires { at + 60 ≤ length text.old }
+    ensures room { (at ≤ result) × (result ≤ at + 60) }
     ensures size { length text.new ≡ length text.old }
     ensures text { take result text.new ≡ take at text.old ++ left_text left }
 {
@@ -115,15 +115,32 @@ fn put_left(left: Left, text: &mut [u8], at: usize) -> usize
     }
 }
 
+/// Puts that a connection that a side closed wasn't read further, if it wasn't.
+fn put_unread(left: Left, text: &mut [u8], at: usize) -> usize
+    requires { at + 60 ≤ length text.old }
+    ensures room { (at ≤ result) × (result ≤ at + 60) }
+    ensures size { length text.new ≡ length text.old }
+    ensures text { take result text.new ≡ take at text.old ++ unread_text left }
+{
+    match left {
+        Left::Open => at,
+        Left::Unread => put_left(left, text, at),
+        Left::Replaced => at,
+    }
+}
+
 /// Puts how a connection ended.
 pub(crate) fn put_closing(closed: &Option<Closed>, left: Left, text: &mut [u8], at: usize) -> usize
-    requires { at + 470 ≤ length text.old }
-    ensures room { (at ≤ result) × (result ≤ at + 470) }
+    requires { at + 530 ≤ length text.old }
+    ensures room { (at ≤ result) × (result ≤ at + 530) }
     ensures size { length text.new ≡ length text.old }
     ensures text { take result text.new ≡ take at text.old ++ closing_text closed.now left }
 {
     match closed {
         None => put_left(left, text, at),
-        Some(closed) => put_closed(closed, text, at),
+        Some(closed) => {
+            let at = put_closed(closed, text, at);
+            put_unread(left, text, at)
+        }
     }
 }

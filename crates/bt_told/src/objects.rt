@@ -2,7 +2,7 @@
 ghost use Rattle.std.specs.Prelude.{◌≡◌, ◌+◌, ◌≤◌, ◌++◌, OnErr, OnOk, codes, decimal, length, take, vec_len};
 ghost use Rattle.bt_told.specs.Objects.{before_member, body_members, closed_member, count_member, direction_object, gap_members, guess_member};
 ghost use Rattle.bt_told.specs.Objects.{judged_members, last_member, left_member, note_member, noted_member, receiver_object, remarked_members};
-ghost use Rattle.bt_told.specs.Objects.{report_object, sender_member, told_members, verdict_object, why_member};
+ghost use Rattle.bt_told.specs.Objects.{report_object, sender_member, told_members, unread_member, verdict_object, why_member};
 
 use crate::closing::means;
 use crate::ends::{cut_after_error, push_between, push_ends};
@@ -335,7 +335,21 @@ fn put_left(left: Left, text: &mut [u8], at: usize) -> usize
     }
 }
 
-/// Puts how a connection was closed, or how it was left.
+/// Puts that a connection that a side closed wasn't read further, if it wasn't.
+fn put_unread(left: Left, text: &mut [u8], at: usize) -> usize
+    requires { at + 30 ≤ length text.old }
+    ensures room { (at ≤ result) × (result ≤ at + 30) }
+    ensures size { length text.new ≡ length text.old }
+    ensures text { take result text.new ≡ take at text.old ++ unread_member left }
+{
+    match left {
+        Left::Open => at,
+        Left::Unread => put_left(left, text, at),
+        Left::Replaced => at,
+    }
+}
+
+/// Puts how a connection was closed, and how it was left.
 fn put_closed(closed: &Option<Closed>, left: Left, text: &mut [u8], at: usize) -> usize
     requires { at + 900 ≤ length text.old }
     ensures room { (at ≤ result) × (result ≤ at + 900) }
@@ -353,7 +367,8 @@ fn put_closed(closed: &Option<Closed>, left: Left, text: &mut [u8], at: usize) -
     let at = put_time(closed.at, text, at);
     let at = put_before(b",\"a\":{\"sent\":", &closed.a, text, at);
     let at = put_before(b",\"b\":{\"sent\":", &closed.b, text, at);
-    put_word(b"}", text, at)
+    let at = put_word(b"}", text, at);
+    put_unread(left, text, at)
 }
 
 /// Puts what is told of a BitTorrent connection.

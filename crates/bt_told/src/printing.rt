@@ -5,7 +5,7 @@ ghost use Rattle.bt_told.specs.Reports.{body_text, closer, end_by, report_text, 
 use crate::closing::put_closing;
 use crate::ends::{cut_after_error, push_between, push_ends};
 use crate::remarked::put_remarked;
-use crate::report::{Body, Closed, End, Report, Told};
+use crate::report::{Body, Closed, End, Left, Report, Told};
 use crate::sides::put_direction;
 use bt_remarks::Side;
 use bt_text::putting::{grow, put_word};
@@ -29,7 +29,10 @@ pub(crate) fn end_of(told: &Told) -> End
     ensures { result ≡ end_by told.now.closed told.now.left }
 {
     match &told.closed {
-        Some(closed) => End::By(closed.first),
+        Some(closed) => match told.left {
+            Left::Unread => End::Half(closed.first),
+            _ => End::By(closed.first),
+        },
         None => End::Not(told.left),
     }
 }

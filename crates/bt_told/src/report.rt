@@ -107,10 +107,10 @@ pub struct Remarked {
     pub elsewhere: Option<Noted>,
 }
 
-/// Why nothing more is told of a connection that no side has closed.
+/// Why nothing more is told of a connection that hasn't ended.
 #[derive(Clone, Copy)]
 pub enum Left {
-    /// The capture ended.
+    /// The capture ended, or the connection did.
     Open,
     /// It wasn't read further, since there were too many connections at once.
     Unread,
@@ -123,6 +123,8 @@ pub enum Left {
 pub enum End {
     /// This side closed first.
     By(Side),
+    /// This side closed first, and what came then wasn't read to its end.
+    Half(Side),
     /// No side closed.
     Not(Left),
 }
@@ -134,7 +136,7 @@ pub struct Told {
     pub b: Direction,
     /// How it was closed, if it was.
     pub closed: Option<Closed>,
-    /// How it was left, if it wasn't closed.
+    /// How it was left.
     pub left: Left,
     pub remarked_a: Remarked,
     pub remarked_b: Remarked,

@@ -177,6 +177,9 @@ fn cut_note_of(has_gap: bool, close: End, side: Side) -> &'static [u8]
         (End::By(Side::A), Side::A) => b"",
         (End::By(Side::B), Side::B) => b"",
         (End::By(_), _) => b"cut by the close of the other end",
+        (End::Half(Side::A), Side::A) => b"",
+        (End::Half(Side::B), Side::B) => b"",
+        (End::Half(_), _) => b"cut: not read further",
     }
 }
 

@@ -10,4 +10,5 @@ returns-in-true c a b i = (
   c.direction_of-in-true.ensures a b i,
   c.closed_of.ensures a b i,
   c.remarks_of.ensures a b i,
+  c.left_of.ensures,
 )

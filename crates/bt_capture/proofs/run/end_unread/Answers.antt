@@ -1,5 +1,6 @@
 use Rattle.std.proofs.Common.{[]}
 use Rattle.bt_capture.specs.FlowTexts.{datagrams}
+use Rattle.bt_capture.specs.Following.{AtEnd}
 use Rattle.bt_capture.proofs.Outcomes.{told_fault, told_unread, not_added}
 use Rattle.bt_capture.proofs.run.end_unread.Goals as goal
 
@@ -21,4 +22,5 @@ returns-in-Err-write_utp-clause-told g c o left r i =
 
 pub returns-in-Err-clause-told : goal.returns-in-Err-clause-told
 returns-in-Err-clause-told g c o left r i =
-    told_fault c.in-Err.other o left (g.W.Target.seen c.finish.new.writer) [] c.finish.new.run r c.in-Err.ensures.fault (c.in-Err.ensures.after o left r i)
+    told_fault AtEnd c.in-Err.other o left (g.W.Target.seen c.finish.new.writer) [] c.finish.new.run r c.in-Err.ensures.fault
+    (c.in-Err.ensures.after o left r i)

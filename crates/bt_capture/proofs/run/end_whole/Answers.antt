@@ -1,5 +1,6 @@
 use Rattle.std.proofs.Common.{[]}
 use Rattle.bt_capture.specs.FlowTexts.{datagrams}
+use Rattle.bt_capture.specs.Following.{AtEnd}
 use Rattle.bt_capture.proofs.Outcomes.{told_fault, not_added}
 use Rattle.bt_capture.proofs.run.end_whole.Goals as goal
 
@@ -19,5 +20,5 @@ returns-in-Err-write_utp-clause-told g c o left i ended =
 
 pub returns-in-Err-clause-told : goal.returns-in-Err-clause-told
 returns-in-Err-clause-told g c o left i ended =
-    told_fault c.in-Err.fault o left (g.W.Target.seen c.finish.new.writer) [] c.finish.new.run c.args.packets.now c.in-Err.ensures.fault
+    told_fault AtEnd c.in-Err.fault o left (g.W.Target.seen c.finish.new.writer) [] c.finish.new.run c.args.packets.now c.in-Err.ensures.fault
     (c.in-Err.ensures.after o left c.args.packets.now i)

@@ -1,7 +1,8 @@
 use Rattle.std.proofs.Common.{◌≡◌, ◌∙◌, List, [], ◌∷◌, length, sym, subst}
 use Rattle.std.proofs.lemmas.List.{nil_from_length}
 use Rattle.std.specs.Vec.Iter.{into_iter_items}
-use Rattle.bt_capture.specs.Runs.{IsTelling}
+use Rattle.bt_capture.specs.Following.{AtEnd}
+use Rattle.bt_capture.specs.Runs.{IsTellingIn}
 use Rattle.bt_capture.specs.Tables.{Held, IsApart}
 use Rattle.bt_capture.specs.declared.pair.Pair.{Pair}
 use Rattle.bt_capture.proofs.Entries.{apart_first, apart_rest}
@@ -23,7 +24,7 @@ loop-connection-preserved g c =
     record {
       apart = apart_rest e rest apart;
       told = λ o left r i.
-          let P : List (Pair × Held) → Type 0 = λ l. IsTelling o left now l c.loop-connection.run r in
+          let P : List (Pair × Held) → Type 0 = λ l. IsTellingIn AtEnd o left now l c.loop-connection.run r in
           c.in-Ok-tell_last.ensures.after o left e.0 rest r (apart_first e rest apart)
           (subst P c.in-Some.ensures.steps.0 (c.loop-connection.invariant.told o left r i));
     }
@@ -38,21 +39,21 @@ returns-in-Err-clause-after g c o left r i =
     let all : List (Pair × Held) = into_iter_items c.into_iter-connection-iterator.result in
     let now = g.W.Target.seen c.loop-connection.writer in
     let apart : IsApart (e ∷ rest) = subst (λ (l : List (Pair × Held)). IsApart l) c.in-Some.ensures.steps.0 c.loop-connection.invariant.apart in
-    let P : List (Pair × Held) → Type 0 = λ l. IsTelling o left now l c.loop-connection.run r in
-    let Q : List (Pair × Held) → Type 0 = λ l. IsTelling o left (g.W.Target.seen c.args.writer.now) l c.rest.new.self r in
+    let P : List (Pair × Held) → Type 0 = λ l. IsTellingIn AtEnd o left now l c.loop-connection.run r in
+    let Q : List (Pair × Held) → Type 0 = λ l. IsTellingIn AtEnd o left (g.W.Target.seen c.args.writer.now) l c.rest.new.self r in
     let told = told_rest o left (g.W.Target.seen c.args.writer.now) c.args.run.now c.rest.new.self c.in-Ok.rest.items r
     c.in-Ok.ensures.all c.in-Ok.ensures.same i in
     let given = subst Q (sym c.into_iter-connection-iterator.ensures.into_iter_gives.0) told in
-    fault_any _ o left (g.W.Target.seen c.tell_last.new.writer) rest [] c.tell_last.new.run r c.in-Err.ensures.fault
+    fault_any AtEnd _ o left (g.W.Target.seen c.tell_last.new.writer) rest [] c.tell_last.new.run r c.in-Err.ensures.fault
     (c.in-Err.ensures.after o left e.0 rest r (apart_first e rest apart) (subst P c.in-Some.ensures.steps.0 (c.loop-connection.invariant.told o left r given)))
 
 pub returns-clause-after : goal.returns-clause-after
 returns-clause-after g c o left r i =
-    let Q : List (Pair × Held) → Type 0 = λ l. IsTelling o left (g.W.Target.seen c.args.writer.now) l c.rest.new.self r in
+    let Q : List (Pair × Held) → Type 0 = λ l. IsTellingIn AtEnd o left (g.W.Target.seen c.args.writer.now) l c.rest.new.self r in
     let told = told_rest o left (g.W.Target.seen c.args.writer.now) c.args.run.now c.rest.new.self c.in-Ok.rest.items r
     c.in-Ok.ensures.all c.in-Ok.ensures.same i in
     let given = subst Q (sym c.into_iter-connection-iterator.ensures.into_iter_gives.0) told in
-    let P : List (Pair × Held) → Type 0 = λ l. IsTelling o left (g.W.Target.seen c.loop-connection.writer) l c.loop-connection.run r in
+    let P : List (Pair × Held) → Type 0 = λ l. IsTellingIn AtEnd o left (g.W.Target.seen c.loop-connection.writer) l c.loop-connection.run r in
     let rest = c.loop-connection.connection-iterator in
     let none : length (into_iter_items rest) ≡ 0 = sym rest.rest.ok.0 ∙ c.in-None.ensures.steps.0 in
-    c.write.ensures.after o left [] r (subst P (nil_from_length (into_iter_items rest) none) (c.loop-connection.invariant.told o left r given))
+    c.write.ensures.after AtEnd o left [] r (subst P (nil_from_length (into_iter_items rest) none) (c.loop-connection.invariant.told o left r given))

@@ -1,4 +1,5 @@
 use Rattle.std.proofs.Common.{List, sym, subst}
+use Rattle.bt_capture.specs.Following.{During}
 use Rattle.bt_capture.specs.Runs.{IsTelling}
 use Rattle.bt_capture.specs.Tables.{Held}
 use Rattle.bt_capture.specs.declared.pair.Pair.{Pair}
@@ -15,7 +16,7 @@ returns-in-Ok-read-clause-after g c o i =
     let P : List (Pair × Held) → Type 0 = λ l. IsTelling o before now l run r in
     let e = c.in-Ok-read.ensures.read in
     told_read o before left now run.table run r c.read.new.self (λ packets h. read_bytes o before left packets r c.read.new.self e.0 e.3 e.4 h)
-    (subst P (sym c.write.ensures.table) (c.in-Ok.ensures.after o before c.args.run.now.table r i))
+    (subst P (sym c.write.ensures.table) (c.in-Ok.ensures.after During o before c.args.run.now.table r i))
 
 pub returns-in-Ok-eq0-clause-after : goal.returns-in-Ok-eq0-clause-after
 returns-in-Ok-eq0-clause-after g c o i =
@@ -27,7 +28,7 @@ returns-in-Ok-eq0-clause-after g c o i =
     let P : List (Pair × Held) → Type 0 = λ l. IsTelling o before now l run r in
     let e = c.in-Ok-eq0.ensures.read in
     told_read o before left now run.table run r c.read.new.self (λ packets h. read_bytes o before left packets r c.read.new.self e.0 e.3 e.4 h)
-    (subst P (sym c.write.ensures.table) (c.in-Ok.ensures.after o before c.args.run.now.table r i))
+    (subst P (sym c.write.ensures.table) (c.in-Ok.ensures.after During o before c.args.run.now.table r i))
 
 pub returns-in-Err-Memory-clause-after : goal.returns-in-Err-Memory-clause-after
 returns-in-Err-Memory-clause-after g c o i =
@@ -38,4 +39,4 @@ returns-in-Err-Memory-clause-after g c o i =
     let r = c.args.packets.now in
     let e = c.in-Err-Memory.ensures.err in
     partly o left now c.args.run.now.table run c.read.new.self (told_read o before left now c.args.run.now.table run r c.read.new.self
-    (λ packets h. read_kept o before left packets r c.read.new.self e.0 e.1 h) (c.in-Ok.ensures.after o before c.args.run.now.table r i))
+    (λ packets h. read_kept o before left packets r c.read.new.self e.0 e.1 h) (c.in-Ok.ensures.after During o before c.args.run.now.table r i))

@@ -4,7 +4,8 @@ use Rattle.bt_told.proofs.objects.put_closed.Goals as goal
 pub returns-clause-text : goal.returns-clause-text
 returns-clause-text c =
     rw (
-      c.put_word.ensures.text,
+      c.put_unread.ensures.text,
+      c.put_word-at-6.ensures.text,
       c.put_before-at-2.ensures.text,
       c.put_before-at.ensures.text,
       c.put_time-at.ensures.text,

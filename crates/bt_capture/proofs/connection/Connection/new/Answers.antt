@@ -17,11 +17,13 @@ returns-clause-open c when = record {
       nothing = c.new.ensures.is;
       opening = c.new.ensures.opening;
       not_closed = c.new.ensures.closing;
+      no_segment = c.new.ensures.segments;
       has_taken = (refl, refl, refl);
       is = c.new.ensures.is;
       ends = c.new.ensures.ends;
       terms_are = c.new.ensures.terms;
     };
+    next = tt;
   };
 }
 

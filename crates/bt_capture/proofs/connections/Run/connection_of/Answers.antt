@@ -7,7 +7,7 @@ use Rattle.bt_capture.specs.declared.connection.Connection.{Connection}
 use Rattle.bt_capture.specs.declared.pair.Pair.{Pair}
 use Rattle.bt_capture.proofs.Bounds.{bounded_same, taken_out}
 use Rattle.bt_capture.proofs.Entries.{lookup_gone, lookup_kept}
-use Rattle.bt_capture.proofs.Reported.{follows_same, follows_out}
+use Rattle.bt_capture.proofs.Reported.{follows_coming, follows_same, follows_out}
 use Rattle.bt_capture.proofs.connections.Run.connection_of.Goals as goal
 
 pub returns-in-Some-clause-finds : goal.returns-in-Some-clause-finds
@@ -38,7 +38,8 @@ returns-in-None-clause-finds c start now came i =
     let same : left ≡ es = c.in-None.ensures.rest ∙ lookup_kept p es (sym c.in-None.ensures.found) in
     subst (λ l. Finds start now came (arrived c.args.segment.now c.args.when) p l c.begin.new.self c.begin.result) (sym c.begin.ensures.table)
     (c.begin.ensures.finds start now came c.args.when p left absent
-    (follows_same start now came left c.args.self.now _ refl refl refl refl refl (subst (λ l. Follows start now came l c.args.self.now) (sym same) i)))
+    (follows_coming start now came left _ p (arrived c.args.segment.now c.args.when)
+    (follows_same start now came left c.args.self.now _ refl refl refl refl refl (subst (λ l. Follows start now came l c.args.self.now) (sym same) i))))
 
 pub returns-in-None-clause-absent : goal.returns-in-None-clause-absent
 returns-in-None-clause-absent c =

@@ -1,6 +1,6 @@
 use Rattle.std.proofs.Common.{◌≡◌, ◌∙◌, ◌-◌, None, refl, sym, ap, subst, List, ◌∷◌}
 use Rattle.std.specs.Map.{lookup}
-use Rattle.bt_capture.specs.Following.{Follows, Goes}
+use Rattle.bt_capture.specs.Following.{During, Ended, Follows, Goes}
 use Rattle.bt_capture.specs.Tables.{Held, same_pair}
 use Rattle.bt_capture.specs.declared.connection.Connection.{Connection}
 use Rattle.bt_capture.specs.declared.connections.Run.{Run}
@@ -11,7 +11,7 @@ use Rattle.bt_capture.proofs.Reported.{follows_same, follows_out}
 use Rattle.bt_capture.proofs.connections.Run.end.Goals as goal
 
 pub returns-in-Some-clause-goes : goal.returns-in-Some-clause-goes
-returns-in-Some-clause-goes c start now came i =
+returns-in-Some-clause-goes c start now came ended i =
     let p = c.args.pair in
     let es : List (Pair × Held) = c.args.self.now.table in
     let left : List (Pair × Held) = c.take_out.new.self in
@@ -19,11 +19,12 @@ returns-in-Some-clause-goes c start now came i =
     subst (λ l. lookup (same_pair p) l ≡ None) (sym c.in-Some.ensures.rest) (lookup_gone p es c.in-Some.ensures.apart) in
     let out = follows_out start now came p c.in-Some.connection es left c.args.self.now (sym c.in-Some.ensures.found) c.in-Some.ensures.rest i in
     subst (λ l. Goes start now came l c.report.new.self c.report.result) (sym c.report.ensures.table)
-    (c.report.ensures.goes start now came p left absent
+    (c.report.ensures.goes During start now came p left Ended absent
+    (record { may_be = refl; parted = tt; why = λ a b t. ended c.in-Some.connection (sym c.in-Some.ensures.found) }) refl
     (follows_same start now came ((p, c.in-Some.connection) ∷ left) c.args.self.now _ refl refl refl refl refl out))
 
 pub returns-in-None-clause-goes : goal.returns-in-None-clause-goes
-returns-in-None-clause-goes c start now came i =
+returns-in-None-clause-goes c start now came ended i =
     let p = c.args.pair in
     let es : List (Pair × Held) = c.args.self.now.table in
     let left : List (Pair × Held) = c.take_out.new.self in

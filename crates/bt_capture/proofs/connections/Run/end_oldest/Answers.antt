@@ -2,7 +2,7 @@ use Rattle.std.proofs.Common.{rules, ◌≡◌, refl, sym, subst, List, [], ◌�
 use Rattle.std.proofs.lemmas.List.{length-append}
 use Rattle.std.specs.List.Sorted.{IsPermutation}
 use Rattle.std.proofs.lemmas.List.Sorted.{IsPermutation-append_comm}
-use Rattle.bt_capture.specs.Following.{Follows, Goes}
+use Rattle.bt_capture.specs.Following.{Crowded, During, Follows, Goes}
 use Rattle.bt_capture.specs.Tables.{Held, IsApart}
 use Rattle.bt_capture.specs.declared.pair.Pair.{Pair}
 use Rattle.bt_capture.proofs.Entries.{apart_moved, apart_first}
@@ -20,7 +20,8 @@ returns-in-Some-clause-goes c start now came i =
     let absent = apart_first e left (apart_moved (left ++ e ∷ []) (e ∷ left) move apart) in
     let same = follows_moved start now came (left ++ e ∷ []) (e ∷ left) c.args.self.now move (subst (λ l. Follows start now came l c.args.self.now) is i) in
     subst (λ l. Goes start now came l c.report.new.self c.report.result) (sym c.report.ensures.table)
-    (c.report.ensures.goes start now came e.0 left absent (follows_same start now came (e ∷ left) c.args.self.now _ refl refl refl refl refl same))
+    (c.report.ensures.goes During start now came e.0 left Crowded absent (record { may_be = refl; parted = tt; why = λ a b t. tt }) refl
+    (follows_same start now came (e ∷ left) c.args.self.now _ refl refl refl refl refl same))
 
 pub returns-in-Some-clause-shorter : goal.returns-in-Some-clause-shorter
 returns-in-Some-clause-shorter c some =

@@ -1,11 +1,41 @@
-use Rattle.bt_capture.specs.Arrivals.{arrived}
-use Rattle.bt_capture.proofs.Reported.{held}
+use Rattle.std.proofs.Common.{rules, ◌≡◌, Bool, false, true, refl, subst}
+use Rattle.bt_talk.specs.Pasts.{Past}
+use Rattle.bt_talk.specs.Talks.{IsTalk}
+use Rattle.bt_capture.specs.Arrivals.{Arrival, arrived}
+use Rattle.bt_capture.specs.Connections.{Begins}
+use Rattle.bt_capture.specs.Following.{Before, Coming}
+use Rattle.bt_capture.specs.declared.connection.Connection.{Connection}
+use Rattle.bt_capture.proofs.Parting.{may_before}
+use Rattle.bt_capture.proofs.Reported.{follows_coming, held}
 use Rattle.bt_capture.proofs.connections.Run.goes_on.Goals as goal
+
+-- What is known of a connection and the next segment.
+abbrev Is : Bool → Arrival → Connection → Type 0
+Is opens x c = (a b : Past) → IsTalk a b c.talk → Begins opens x a b c.talk
 
 pub returns-in-Ok-clause-finds : goal.returns-in-Ok-clause-finds
 returns-in-Ok-clause-finds c start now came p es absent i =
-    c.begin.ensures.finds start now came c.args.when p es absent (c.in-Ok.ensures.goes start now came p es absent i)
+    let x = arrived c.args.segment.now c.args.when in
+    let begins : c.begins_another.result ≡ true = search rules in
+    let same : c.deref.result.now ≡ c.args.connection.value = search rules in
+    let is = subst (λ k. Is true x k) same (subst (λ b. Is b x c.deref.result.now) begins c.begins_another.ensures) in
+    c.begin.ensures.finds start now came c.args.when p es absent
+    (c.in-Ok.ensures.goes (Coming p x) start now came p es (Before x) absent (may_before p x c.args.connection.value is) refl
+    (follows_coming start now came _ _ p x i))
 
-pub returns-then-not-opens_again-clause-finds : goal.returns-then-not-opens_again-clause-finds
-returns-then-not-opens_again-clause-finds c start now came p es absent i =
-    held start now came (arrived c.args.segment.now c.args.when) p c.args.connection es c.args.self.now absent i
+pub returns-in-Err-clause-finds : goal.returns-in-Err-clause-finds
+returns-in-Err-clause-finds c start now came p es absent i =
+    let x = arrived c.args.segment.now c.args.when in
+    let begins : c.begins_another.result ≡ true = search rules in
+    let same : c.deref.result.now ≡ c.args.connection.value = search rules in
+    let is = subst (λ k. Is true x k) same (subst (λ b. Is b x c.deref.result.now) begins c.begins_another.ensures) in
+    c.in-Err.ensures.goes (Coming p x) start now came p es (Before x) absent (may_before p x c.args.connection.value is) refl
+    (follows_coming start now came _ _ p x i)
+
+pub returns-then-not-begins_another-clause-finds : goal.returns-then-not-begins_another-clause-finds
+returns-then-not-begins_another-clause-finds c start now came p es absent i =
+    let x = arrived c.args.segment.now c.args.when in
+    let belongs : c.begins_another.result ≡ false = search rules in
+    let same : c.deref.result.now ≡ c.args.connection.value = search rules in
+    let is = subst (λ k. Is false x k) same (subst (λ b. Is b x c.deref.result.now) belongs c.begins_another.ensures) in
+    held start now came x p c.args.connection es c.args.self.now is absent (follows_coming start now came _ _ p x i)

@@ -24,12 +24,12 @@ use Rattle.bt_capture.proofs.Reported.{silent, lost_one, not_lost, reported}
 use Rattle.bt_capture.proofs.connections.Run.report.Goals as goal
 
 pub returns-then-not-deref-clause-goes : goal.returns-then-not-deref-clause-goes
-returns-then-not-deref-clause-goes c start now came p es absent i =
+returns-then-not-deref-clause-goes c ph start now came p es cause absent may left i =
     let none : c.args.connection.value.has_payload ≡ false = search rules in
-    silent start now came p c.args.connection es c.args.self.now absent none i
+    silent start now came p c.args.connection es c.args.self.now cause may absent none i
 
 pub returns-in-Ok-clause-goes : goal.returns-in-Ok-clause-goes
-returns-in-Ok-clause-goes c start now came p es absent i =
+returns-in-Ok-clause-goes c ph start now came p es cause absent may left i =
     let some : c.args.connection.value.has_payload ≡ true = search rules in
     let old : c.deref_mut.result.now ≡ c.args.connection.value = search rules in
     let new : c.deref-in-Ok.result.now.talk ≡ c.end_opening.new.self = search rules in
@@ -40,6 +40,8 @@ returns-in-Ok-clause-goes c start now came p es absent i =
       flows = c.in-Ok.ensures.flows;
       ends = c.in-Ok.ensures.ends;
       terms = c.in-Ok.ensures.terms;
+      closing = c.in-Ok.ensures.closing;
+      cuts = λ side. c.in-Ok.ensures.cuts a b side t;
       over = c.in-Ok.ensures.over;
     } in
     let there : is_lost c.deref_mut.result.now.talk ≡ false = not_lost _ _ _ c.in-Ok.ensures.stays in
@@ -58,9 +60,9 @@ returns-in-Ok-clause-goes c start now came p es absent i =
     let start_is : ℕ = unwrap_or c.args.self.now.start 0 in
     let more : List ℕ = handed form number room in
     let R : Talk → Type 0 = λ t.
-    OnOk c.report.result ((h : P) → SaysAfter c.args.self.now.teller c.report.new.self number c.unwrap_or-from.result t more h.rows) in
-    let S : ℕ → Type 0 = λ n. OnOk c.report.result ((h : P) → SaysAfter c.args.self.now.teller c.report.new.self number n talk more h.rows) in
-    let T : ℕ → Type 0 = λ n. OnOk c.report.result ((h : P) → SaysAfter c.args.self.now.teller c.report.new.self n start_is talk more h.rows) in
+    OnOk c.report.result ((h : P) → SaysAfter c.args.self.now.teller c.report.new.self number c.unwrap_or-from.result c.args.left t more h.rows) in
+    let S : ℕ → Type 0 = λ n. OnOk c.report.result ((h : P) → SaysAfter c.args.self.now.teller c.report.new.self number n c.args.left talk more h.rows) in
+    let T : ℕ → Type 0 = λ n. OnOk c.report.result ((h : P) → SaysAfter c.args.self.now.teller c.report.new.self n start_is c.args.left talk more h.rows) in
     let says = subst T same (subst S c.unwrap_or-from.ensures (subst R new c.report.ensures.told)) in
     let heading : (rows_in c.turn_to.new.self).heading ≡ heading_of form connection.number start_is = search rules in
     let V : Connection → Type 0 = λ x. (a b : Past) (before : List Shown) → IsTalk a b x.talk
@@ -79,7 +81,8 @@ returns-in-Ok-clause-goes c start now came p es absent i =
     → SendsOn (is_in_opening x.talk) (of_side side a b) (is_in_opening talk) (of_side side a b) (sent_in room) in
     let sends = subst U old c.in-Ok.ensures.sent in
     let wanted : wanted_in c.turn_to.new.self ≡ wanted_by form connection.number = search rules in
-    reported c.report.result start now came p c.args.connection es c.args.self.now _ absent some refl refl refl c.report.ensures.form refl
+    reported c.report.result start now came p c.args.connection es c.args.self.now _ cause c.args.left may left absent some refl refl refl
+    c.report.ensures.form refl
     (subst (λ (x : Connection). is_lost x.talk ≡ false) old there) talk (subst Q old ends) P (subst Z old shown)
     c.report.ensures.same more
     c.report.ensures.text c.report.ensures.part (λ w. handed_none form number room (ap (λ n. wanted_by form n) same ∙ w))
@@ -91,7 +94,7 @@ returns-in-Ok-clause-goes c start now came p es absent i =
     reports i
 
 pub returns-clause-goes : goal.returns-clause-goes
-returns-clause-goes c start now came p es absent i =
+returns-clause-goes c ph start now came p es cause absent may left i =
     let some : c.args.connection.value.has_payload ≡ true = search rules in
     lost_one start now came p c.args.connection es c.args.self.now _ absent some refl refl refl c.saturating_add-self.ensures refl i
 

@@ -5,7 +5,7 @@ use Rattle.bt_capture.specs.FlowTexts.{datagrams_in}
 use Rattle.bt_capture.proofs.FlowLines.{ok_any}
 use Rattle.bt_capture.specs.Arrivals.{Arrival, arrivals_in}
 use Rattle.bt_capture.specs.declared.connections.Run.{Run}
-use Rattle.bt_capture.specs.Following.{Goes, Stops}
+use Rattle.bt_capture.specs.Following.{Follows, Goes, Stops}
 use Rattle.bt_capture.proofs.Reported.{follows_same, stops_of}
 use Rattle.bt_capture.specs.Sights.{seen}
 use Rattle.bt_capture.specs.declared.sight.Sight.{Sight}
@@ -34,3 +34,15 @@ returns-in-Err-clause-goes c start now came i =
     let follows = follows_same start now came old.table old new (ap (λ r. r.terms) c.skip.ensures) (ap (λ r. r.start) c.skip.ensures)
     (ap (λ r. r.lost) c.skip.ensures) (ap (λ r. r.teller) c.skip.ensures) (ap (λ r. r.begun) c.skip.ensures) i in
     subst P (sym c.in-Utp.is) (subst Q (sym (append-nil came)) (stops_of start now came old.table new follows))
+
+pub returns-in-Other-clause-goes : goal.returns-in-Other-clause-goes
+returns-in-Other-clause-goes c start now came i =
+    let old = c.args.self.now in
+    let new : Run = c.skip-in-Other.new.self in
+    let P : Sight → Type 0 = λ s. Follows start now (came ++ arrivals_in c.args.when.packet c.args.when.nanos (seen s)) new.table new in
+    let Q : List Arrival → Type 0 = λ l. Follows start now l new.table new in
+    let same = c.skip-in-Other.ensures in
+    let follows = follows_same start now came old.table old new (ap (λ r. r.terms) same) (ap (λ r. r.start) same) (ap (λ r. r.lost) same)
+    (ap (λ r. r.teller) same) (ap (λ r. r.begun) same) i in
+    subst P (sym c.in-Other.is)
+    (subst Q (sym (append-nil came)) (subst (λ t. Follows start now came t new) (sym (ap (λ (r : Run). r.table) same)) follows))

@@ -10,6 +10,7 @@ pub returns-then-not-is_opening-clause-settles : goal.returns-then-not-is_openin
 returns-then-not-is_opening-clause-settles c = λ a b t. record {
   is = t;
   opening = λ o. absurd (let e : true ≡ false = sym o ∙ sym c.is_opening.ensures ∙ c.if-not-is_opening.true in cc);
+  counted = λ o. absurd (let e : true ≡ false = sym o ∙ sym c.is_opening.ensures ∙ c.if-not-is_opening.true in cc);
 }
 
 pub returns-then-not-is_over-clause-settles : goal.returns-then-not-is_over-clause-settles
@@ -19,6 +20,7 @@ returns-then-not-is_over-clause-settles c = λ a b t. record {
       let i = c.is_over.ensures c.args.self.now.terms a b t.a_is t.b_is o (sym t.stages ∙ o) in
       let n : c.saturating_add-self.result ≡ min (c.args.self.now.segments + 1) (2 ^ 32 - 1) = omega (arith, c.saturating_add-self.ensures) in
       end_same a b c.saturating_add-self.result _ c.is_over.result _ n (c.if-not-is_over.true ∙ sym (ap not o)) i;
+  counted = λ o. omega (arith, c.saturating_add-self.ensures);
 }
 
 pub returns-clause-settles : goal.returns-clause-settles
@@ -28,6 +30,9 @@ returns-clause-settles c = λ a b t. record {
       let i = c.is_over.ensures c.args.self.now.terms a b t.a_is t.b_is o (sym t.stages ∙ o) in
       let n : c.saturating_add-self.result ≡ min (c.args.self.now.segments + 1) (2 ^ 32 - 1) = omega (arith, c.saturating_add-self.ensures) in
       end_same a b c.saturating_add-self.result _ c.is_over.result _ n (c.if-not-is_over.false ∙ sym (ap not c.in_ok-open.ensures.open)) i;
+  counted = λ o.
+      let n : c.saturating_add-self.result ≡ min (c.args.self.now.segments + 1) (2 ^ 32 - 1) = omega (arith, c.saturating_add-self.ensures) in
+      c.in_ok-open.ensures.segments ∙ n;
 }
 
 pub returns-clause-cuts : goal.returns-clause-cuts

@@ -57,10 +57,15 @@ returns-clause-taken c = λ a b t.
         a' = x.a';
         b' = x.b';
         is = s.is;
+        ends = c.in_ok-settle.ensures.ends ∙ ap (λ (k : Talk). k.ends) c.note.ensures.rest ∙ c.cut.ensures.ends ∙ al.ends
+            ∙ c.in_ok-exchange.ensures.ends;
+        terms = c.in_ok-settle.ensures.terms ∙ ap (λ (k : Talk). k.terms) c.note.ensures.rest ∙ c.cut.ensures.terms ∙ al.terms
+            ∙ c.in_ok-exchange.ensures.terms;
         sent = sent_same c.args.segment.now (is_in_opening self) (of_side x.side a b) _ _ (of_side x.side x.a' x.b') _ _ refl
             (kept x.side ∙ flows x.side) x.sent;
         acked = x.acked;
         opening = λ o. end_same x.a' x.b' _ _ _ _ (ap (λ (n : ℕ). min (n + 1) (2 ^ 32 - 1)) segments) refl (s.opening (was ∙ o));
+        counted = λ o. s.counted (was ∙ o) ∙ ap (λ (n : ℕ). min (n + 1) (2 ^ 32 - 1)) segments;
         after = λ o. c.in_ok-settle.ensures.after (was ∙ o);
         closes = closes_same c.args.segment.now c.args.when x.side x.a' x.b' _ _ _ _ _ _ _ _ (flows A) (flows B) (c.cut.ensures.closing ∙ closing)
             (sym c.in_ok-settle.ensures.closing) n;

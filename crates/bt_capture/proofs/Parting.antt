@@ -1,0 +1,153 @@
+-- Where one connection ends and another between the same ends begins.
+use Rattle.std.proofs.Common.{◌≡◌, ◌∙◌, Bool, true, false, if◌then◌else◌, List, [], ◌∷◌, ◌++◌, append-nil, append_assoc, refl, sym, ap, subst, inl, inr}
+use Rattle.std.specs.List.{All}
+use Rattle.std.proofs.lemmas.Bool.{cases_Bool}
+use Rattle.std.proofs.lemmas.Grind.{flat_map-append}
+use Rattle.std.proofs.lemmas.List.{append_cancel_left}
+use Rattle.std.proofs.lemmas.List.Elements.{All-cons, All-head, All-nil, All-push, All-tail}
+use Rattle.bt_talk.specs.Pasts.{Past}
+use Rattle.bt_talk.specs.Talks.{IsTalk}
+use Rattle.bt_capture.specs.Arrivals.{Arrival, is_between, pair_of}
+use Rattle.bt_capture.specs.Connections.{Begins}
+use Rattle.bt_capture.specs.Following.{AreParted, AreParts, AtEnd, Before, Cause, Coming, Crowded, During, Ended, Final, Finished, IsParted, IsShared}
+use Rattle.bt_capture.specs.Following.{MayBe, MayEnd, Phase, Unknown, between, coming, is_final, taken_between, taken_by}
+use Rattle.bt_capture.specs.Tables.{same_pair}
+use Rattle.bt_capture.specs.declared.connection.Connection.{Connection}
+use Rattle.bt_capture.specs.declared.pair.Pair.{Pair}
+use Rattle.bt_capture.proofs.Entries.{same_is, same_self}
+use Rattle.bt_capture.proofs.Shares.{filter_and, filter_less, taken_and, taken_less}
+
+-- ---- connections between the same ends
+
+taken_last : (gs : List Finished) (f : Finished) (rest : List Arrival) → taken_by gs ++ (f.taken ++ rest) ≡ taken_by (gs ++ f ∷ []) ++ rest
+taken_last gs f rest =
+    let taken : Finished → List Arrival = λ g. g.taken in
+    sym (ap (λ l. l ++ rest) (flat_map-append taken gs (f ∷ []) ∙ ap (λ l. taken_by gs ++ l) (append-nil f.taken)) ∙ append_assoc (taken_by gs) f.taken rest)
+
+-- One more is over.
+parted_over : (gs : List Finished) (f : Finished) (rest : List Arrival) → IsParted f.cause rest → AreParted gs (f.taken ++ rest)
+    → AreParted (gs ++ f ∷ []) rest
+parted_over [] f rest p i = (p, tt)
+parted_over (g ∷ gs) f rest p i = (subst (IsParted g.cause) (taken_last gs f rest) i.0, parted_over gs f rest p i.1)
+
+one_more : (c : Cause) (l more : List Arrival) → is_final c ≡ false → IsParted c l → IsParted c (l ++ more)
+one_more Final l more e i = cc
+one_more Ended l more e i = tt
+one_more Crowded l more e i = tt
+one_more Unknown l more e i = tt
+one_more (Before x) [] more e i = absurd i
+one_more (Before x) (y ∷ ys) more e i = i
+
+-- More segments come.
+parted_more : (gs : List Finished) (rest more : List Arrival) → All (λ f. is_final f.cause ≡ false) gs → AreParted gs rest → AreParted gs (rest ++ more)
+parted_more [] rest more none i = tt
+parted_more (g ∷ gs) rest more none i =
+    let P : Finished → Type 0 = λ f. is_final f.cause ≡ false in (
+      subst (IsParted g.cause) (append_assoc (taken_by gs) rest more) (one_more g.cause (taken_by gs ++ rest) more (All-head P g gs none) i.0),
+      parted_more gs rest more (All-tail P g gs none) i.1,
+    )
+
+-- This segment begins another connection.
+pub may_before : (p : Pair) (x : Arrival) (c : Connection) → ((a b : Past) → IsTalk a b c.talk → Begins true x a b c.talk)
+    → MayEnd (Coming p x) (Before x) p c
+may_before p x c why = record {
+  may_be = refl;
+  parted = subst (λ (b : Bool). IsParted (Before x) (if b then x ∷ [] else [])) (sym (same_self p)) refl;
+  why = why;
+}
+
+-- ---- all of them
+
+-- One more between the ends p is over.
+pub parts_over : (ph : Phase) (came : List Arrival) (fs : List Finished) (p : Pair) (f : Finished) → f.pair ≡ p → IsShared p came fs f.taken
+    → IsParted f.cause (coming ph p) → MayBe ph f.cause → AreParts ph came fs → AreParts ph came (fs ++ f ∷ [])
+parts_over ph came fs p f ends share parted may i k =
+    let test : Finished → Bool = λ g. same_pair k g.pair in
+    let P : List Finished → Type 0 = λ l. All (λ g. MayBe ph g.cause) l in
+    let s = i k in
+    elim (cases_Bool (same_pair k p)) [
+      | inl t ↦
+          let is : k ≡ p = same_is k p t in
+          let own : same_pair k f.pair ≡ true = subst (λ q. same_pair k q ≡ true) (sym ends) t in
+          let mine : IsShared k came fs f.taken = subst (λ q. IsShared q came fs f.taken) (sym is) share in
+          let all : s.rest ≡ f.taken = append_cancel_left (taken_between k fs) s.rest f.taken (sym s.share ∙ mine) in
+          let same : between k (fs ++ f ∷ []) ≡ between k fs ++ f ∷ [] = filter_and test fs f own in
+          let last : IsParted f.cause (coming ph k) = subst (λ q. IsParted f.cause (coming ph q)) (sym is) parted in
+          record {
+            rest = [];
+            share = mine ∙ sym (taken_and k fs f own) ∙ sym (append-nil (taken_between k (fs ++ f ∷ [])));
+            going = subst P (sym same) (All-push (λ (g : Finished). MayBe ph g.cause) (between k fs) f s.going may);
+            parted = subst (λ l. AreParted l (coming ph k)) (sym same)
+                (parted_over (between k fs) f (coming ph k) last (subst (λ l. AreParted (between k fs) (l ++ coming ph k)) all s.parted));
+          }
+      | inr e ↦
+          let apart : same_pair k f.pair ≡ false = subst (λ q. same_pair k q ≡ false) (sym ends) e in
+          let same : between k (fs ++ f ∷ []) ≡ between k fs = filter_less test fs f apart in
+          record {
+            rest = s.rest;
+            share = s.share ∙ ap (λ l. l ++ s.rest) (sym (taken_less k fs f apart));
+            going = subst P (sym same) s.going;
+            parted = subst (λ l. AreParted l (s.rest ++ coming ph k)) (sym same) s.parted;
+          }
+    ]
+
+-- The next segment is known.
+pub parts_coming : (came : List Arrival) (fs : List Finished) (p : Pair) (x : Arrival) → AreParts During came fs → AreParts (Coming p x) came fs
+parts_coming came fs p x i k =
+    let s = i k in
+    record {
+      rest = s.rest;
+      share = s.share;
+      going = s.going;
+      parted = parted_more (between k fs) s.rest (coming (Coming p x) k) s.going (subst (AreParted (between k fs)) (append-nil s.rest) s.parted);
+    }
+
+-- It is taken.
+pub parts_took : (came : List Arrival) (fs : List Finished) (p : Pair) (x : Arrival) → pair_of x ≡ p → AreParts (Coming p x) came fs
+    → AreParts During (came ++ x ∷ []) fs
+parts_took came fs p x ends i k =
+    let s = i k in
+    let gs = between k fs in
+    let next : List Arrival → Type 0 = λ l. AreParted gs (s.rest ++ l) in
+    elim (cases_Bool (same_pair k p)) [
+      | inl t ↦
+          let now : AreParted gs (s.rest ++ x ∷ []) = subst next (ap (λ (b : Bool). if b then x ∷ [] else []) t) s.parted in
+          record {
+            rest = s.rest ++ x ∷ [];
+            share = filter_and (is_between k) came x (subst (λ q. same_pair k q ≡ true) (sym ends) t) ∙ ap (λ l. l ++ x ∷ []) s.share
+                ∙ append_assoc (taken_between k fs) s.rest (x ∷ []);
+            going = s.going;
+            parted = subst (AreParted gs) (sym (append-nil (s.rest ++ x ∷ []))) now;
+          }
+      | inr e ↦ record {
+        rest = s.rest;
+        share = filter_less (is_between k) came x (subst (λ q. same_pair k q ≡ false) (sym ends) e) ∙ s.share;
+        going = s.going;
+        parted = subst next (ap (λ (b : Bool). if b then x ∷ [] else []) e) s.parted;
+      }
+    ]
+
+all_may : (fs : List Finished) → All (λ f. MayBe AtEnd f.cause) fs
+all_may [] = All-nil (λ (f : Finished). MayBe AtEnd f.cause)
+all_may (f ∷ fs) = All-cons (λ (g : Finished). MayBe AtEnd g.cause) f fs tt (all_may fs)
+
+-- The capture is read to its end.
+pub parts_end : (came : List Arrival) (fs : List Finished) → AreParts During came fs → AreParts AtEnd came fs
+parts_end came fs i k =
+    let s = i k in
+    record {
+      rest = s.rest;
+      share = s.share;
+      going = all_may (between k fs);
+      parted = s.parted;
+    }
+
+-- All connections are over.
+pub parted_all : (came : List Arrival) (fs : List Finished) (k : Pair) → IsShared k came fs [] → AreParts AtEnd came fs → AreParted (between k fs) []
+parted_all came fs k share i =
+    let s = i k in
+    let none : s.rest ≡ [] = append_cancel_left (taken_between k fs) s.rest [] (sym s.share ∙ share) in
+    subst (λ l. AreParted (between k fs) (l ++ [])) none s.parted
+
+pub parts_nothing : AreParts During [] []
+parts_nothing k = record { rest = []; share = refl; going = All-nil (λ (f : Finished). MayBe During f.cause); parted = tt }
