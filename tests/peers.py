@@ -83,7 +83,7 @@ class Peer:
             try:
                 link, _ = self.socket.accept()
             except OSError:
-                return
+                return self.socket.close()
             self.count += 1
             try:
                 self.talk(Link(link), self.count)
@@ -92,7 +92,8 @@ class Peer:
             link.close()
 
     def close(self):
-        self.socket.close()
+        # (the thread closes it: a number that it is about to use mustn't become that of another peer's socket)
+        self.socket.shutdown(socket.SHUT_RDWR)
 
 
 class Link:
