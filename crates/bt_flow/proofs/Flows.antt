@@ -1,11 +1,13 @@
 -- What a direction has taken after a call.
-use Rattle.std.proofs.Common.{◌≡◌, ℕ, ◌+◌, ◌-◌, min, ◌≤◌, ◌%◌, ◌^◌, true, false, List, [], ◌∷◌, ◌++◌, length, length-append, append_assoc, append-nil}
+use Rattle.std.proofs.Common.{◌≡◌, ℕ, ◌+◌, ◌-◌, min, ◌<◌, ◌≤◌, ◌%◌, ◌^◌, Bool, true, false, List, [], ◌∷◌, ◌++◌, length, length-append, append_assoc, append-nil}
 use Rattle.std.proofs.Common.{refl, sym, ap, subst, ◌∙◌, arith, inl, inr}
 use Rattle.std.specs.Prelude.{Option, Some, None, unwrap_or, ◌⊎◌, if◌then◌else◌}
+use Rattle.bt_tcp.specs.declared.covered.Span.{Span}
+use Rattle.bt_tcp.specs.Covered.{is_covered}
 use Rattle.bt_tcp.specs.declared.halves.Half.{Half}
 use Rattle.bt_tcp.specs.Segments.{Segment}
 use Rattle.bt_tcp.specs.Heard.{Heard, Sent, Took, opening_of, IsBase, IsAfterSyn}
-use Rattle.bt_tcp.specs.History.{conflicts, first_known}
+use Rattle.bt_tcp.specs.History.{conflicts, first_known, held, kept}
 use Rattle.bt_tcp.proofs.HistoryProofs.{conflicts_add_up}
 use Rattle.bt_tcp.specs.Halves.{IsHalf, HearsMore, IsOutOfRange}
 use Rattle.bt_flow.specs.declared.stream.Stream.{Stream}
@@ -13,12 +15,14 @@ use Rattle.bt_flow.specs.declared.flow.Flow.{Flow}
 use Rattle.bt_flow.specs.declared.flow.Given.{Given}
 use Rattle.bt_flow.specs.declared.noted.Noted.{Noted}
 use Rattle.bt_flow.specs.Memory.{next_of, seen}
-use Rattle.bt_flow.specs.Notes.{AreNoted}
-use Rattle.bt_flow.proofs.Notes.{notes_none, noted_more}
+use Rattle.bt_flow.specs.Notes.{AreNoted, NotesBoth, NotesOne, FillsOne, HasNoRoomFor, is_full, spans_in, spans_noted}
+use Rattle.bt_flow.proofs.Filled.{apart_noted, no_room}
+use Rattle.bt_flow.proofs.Notes.{fills_first, notes_more, notes_none, noted_more}
+use Rattle.bt_flow.proofs.Streams.{conflicts_none}
 use Rattle.bt_flow.specs.Counts.{counts}
 use Rattle.bt_flow.specs.Streams.{IsStreamOf, conflicts_with}
 use Rattle.bt_flow.specs.Flows.{has_bytes, AreQuiet, IsBaseOf, IsStreamFor, is_lost_stream, with_segment, sent_at, FlowTakes, BeginsAt, StreamsOnly}
-use Rattle.bt_flow.specs.Flows.{AreNotedFor, NotesIn, IsCounted, GivesUpLate}
+use Rattle.bt_flow.specs.Flows.{AreNotedFor, NotesIn, FillsIn, first_held, CountsMore, IsCounted, GivesUpLate, AreTaken, FillsLate}
 
 quiet_more : (heard : List Heard) (e : Heard) → AreQuiet heard → has_bytes e ≡ false → AreQuiet (heard ++ e ∷ [])
 quiet_more [] e q h = (h, tt)
@@ -64,15 +68,47 @@ counted_one segs out s s' at bytes i l b e =
     ∙ ap (λ n. conflicts (first_known segs s.base n) at bytes) i.next_is
     ∙ ap (λ k. conflicts (first_known segs k (k + length out)) at bytes) (sym b))
 
+-- A gap is final, and nothing is ahead.
+counted_lost : (segs : List Segment) (out : List ℕ) (s s' : Stream) (at : ℕ) (bytes : List ℕ) → IsStreamOf segs out s → s.is_lost ≡ true → s'.base ≡ s.base
+    → s'.conflicts ≡ min (2 ^ 64 - 1) (s.conflicts + conflicts_with out s at bytes)
+    → s'.conflicts ≡ min (2 ^ 64 - 1) (s.conflicts + conflicts (kept s'.base out) at bytes)
+counted_lost segs out s s' at bytes i l b e =
+    let z : conflicts (held (next_of s.window) (seen s.window)) at bytes ≡ 0 = conflicts_none (next_of s.window) (seen s.window) at bytes (i.none l) in
+    let f : conflicts (kept s.base out) at bytes ≡ conflicts (kept s'.base out) at bytes = ap (λ k. conflicts (kept k out) at bytes) (sym b) in
+    let w : conflicts_with out s at bytes ≡ conflicts (kept s'.base out) at bytes = omega (arith, z, f) in
+    e ∙ ap (λ x. min (2 ^ 64 - 1) (s.conflicts + x)) w
+
+counted_more : (lost : Bool) (segs : List Segment) (out : List ℕ) (s s' : Stream) (at : ℕ) (bytes : List ℕ) → IsStreamOf segs out s → s.is_lost ≡ lost
+    → s'.base ≡ s.base → s'.conflicts ≡ min (2 ^ 64 - 1) (s.conflicts + conflicts_with out s at bytes)
+    → s'.conflicts ≡ min (2 ^ 64 - 1) (s.conflicts + conflicts (first_held lost segs s'.base out) at bytes)
+counted_more false segs out s s' at bytes i l b e = counted_one segs out s s' at bytes i l b e
+counted_more true segs out s s' at bytes i l b e = counted_lost segs out s s' at bytes i l b e
+
 same_noted : (segs : List Segment) (o o' : Option Stream) (n n' : Option Noted) → o' ≡ o → n' ≡ n → AreNotedFor segs o n → AreNotedFor segs o' n'
 same_noted segs o o' n n' s m a = subst (λ x. AreNotedFor segs o' x) (sym m) (subst (λ x. AreNotedFor segs x n) (sym s) a)
 
 -- ---- a segment
 
 uncounted : (segs : List Segment) (out : List ℕ) (o : Option Stream) (at : ℕ) (bytes : List ℕ) (o' : Option Stream)
-    → counts at (length bytes) ≡ false → IsCounted segs out o at bytes o'
-uncounted segs out o at bytes None n = tt
-uncounted segs out o at bytes (Some s) n = λ y _. absurd (let e : true ≡ false = sym y ∙ n in cc)
+    → counts at (length bytes) ≡ false → o' ≡ o → IsCounted segs out o at bytes o'
+uncounted segs out o at bytes o' n e = (λ _. e, λ y. absurd (let z : true ≡ false = sym y ∙ n in cc))
+
+counted : (segs : List Segment) (out : List ℕ) (o : Option Stream) (at : ℕ) (bytes : List ℕ) (o' : Option Stream)
+    → counts at (length bytes) ≡ true → CountsMore segs out o at bytes o' → IsCounted segs out o at bytes o'
+counted segs out o at bytes o' y m = (λ n. absurd (let z : true ≡ false = sym y ∙ n in cc), λ _. m)
+
+fills_same : (segs : List Segment) (out : List ℕ) (o : Option Stream) (n n' : Option Noted) → n' ≡ n → FillsLate segs out o n n'
+fills_same segs out None n n' e = tt
+fills_same segs out (Some s) n n' e = λ l x. absurd (let z : true ≡ false = sym x ∙ ap is_full e ∙ l in cc)
+
+fills_late : (segs : List Segment) (out : List ℕ) (s : Stream) (next at «end» : ℕ) (n n' : Option Noted) → next_of s.window ≡ s.base + length out
+    → next ≤ next_of s.window → AreNoted segs s.base next n → FillsOne s.base (next_of s.window) (record { from = at; to = «end» }) n n'
+    → FillsLate segs out (Some s) n n'
+fills_late segs out s next at «end» n n' e l a f o full =
+    let old = a o in
+    subst (λ k. (spans : List Span) × AreTaken segs s.base k spans × (1024 ≤ length spans)) e
+    (no_room segs s.base (next_of s.window) (record { from = at; to = «end» }) (spans_noted n) (apart_noted n) old.1
+    (λ i h. old.0 i (omega (arith, l, h))) (omega (arith, e)) (f o full))
 
 late_same : (out : List ℕ) (o : Option Stream) (at : ℕ) (bytes : List ℕ) (o' : Option Stream) → o' ≡ o → GivesUpLate out o at bytes o'
 late_same out o at bytes None e = tt
@@ -98,10 +134,16 @@ takes_quiet g flow given flow' at s m h n = record {
           stream = subst (λ x. IsStreamFor (heard ++ Took (sent_at g at) ∷ []) x (out ++ []) flow'.stream) e more;
           noted = subst (λ x. AreNotedFor x flow'.stream flow'.noted) e (same_noted segs flow.stream flow'.stream flow.noted flow'.noted s m f.noted);
         },
-        uncounted segs out flow.stream at g.payload.now flow'.stream n,
+        uncounted segs out flow.stream at g.payload.now flow'.stream n s,
         late_same out flow.stream at g.payload.now flow'.stream s,
+        fills_same segs (out ++ []) flow'.stream flow.noted flow'.noted m,
       ));
 }
+
+noted_none : (segs : List Segment) (base next : ℕ) (n : Option Noted) → segs ≡ [] → n ≡ None → AreNoted segs base next n
+noted_none segs base next n s e =
+    let z : AreNoted [] base next None = λ full. (λ k h. refl, λ i h x. absurd (let y : true ≡ false = sym x in cc)) in
+    subst (λ x. AreNoted x base next n) (sym s) (subst (λ x. AreNoted [] base next x) (sym e) z)
 
 record TakesBytes (at : ℕ) (bytes : List ℕ) (sent : Sent) (half : Half) (o : Option Stream) (more : List ℕ) (o' : Option Stream)
     (n n' : Option Noted) : Type 0 where
@@ -110,18 +152,19 @@ record TakesBytes (at : ℕ) (bytes : List ℕ) (sent : Sent) (half : Half) (o :
       → IsStreamFor (heard ++ Took sent ∷ []) (segs ++ record { place = at; bytes = bytes } ∷ []) (out ++ more) o'
   noted : (heard : List Heard) (segs : List Segment) (out : List ℕ) → IsStreamFor heard segs out o → AreNotedFor segs o n
       → AreNotedFor (segs ++ record { place = at; bytes = bytes } ∷ []) o' n'
-  counted : (heard : List Heard) (segs : List Segment) (out : List ℕ) → IsStreamFor heard segs out o → IsCounted segs out o at bytes o'
+  counted : (heard : List Heard) (segs : List Segment) (out : List ℕ) → IsStreamFor heard segs out o → CountsMore segs out o at bytes o'
   late : (heard : List Heard) (segs : List Segment) (out : List ℕ) → IsStreamFor heard segs out o → GivesUpLate out o at bytes o'
+  fills : (heard : List Heard) (segs : List Segment) (out : List ℕ) → IsStreamFor heard segs out o → AreNotedFor segs o n → FillsLate segs (out ++ more) o' n n'
 
 takes_bytes : (at : ℕ) (bytes : List ℕ) (sent : Sent) (flow : Flow) (o o1 : Option Stream) (more : List ℕ) (o2 : Option Stream)
     (n n' : Option Noted)
     → has_bytes (Took sent) ≡ true → sent.place ≡ at → BeginsAt at flow o o1 → StreamsOnly at bytes o1 more o2
-    → NotesIn at (at + length bytes) o2 n n' → TakesBytes at bytes sent flow.half o more o2 n n'
-takes_bytes at bytes sent flow None None more o2 n n' y p b t w = absurd b
-takes_bytes at bytes sent flow (Some s) None more o2 n n' y p b t w = absurd b
-takes_bytes at bytes sent flow None (Some s1) more None n n' y p b t w = absurd t
-takes_bytes at bytes sent flow (Some s) (Some s1) more None n n' y p b t w = absurd t
-takes_bytes at bytes sent flow (Some s) (Some s1) more (Some s2) n n' y p b t w = record {
+    → NotesIn at (at + length bytes) o2 n n' → FillsIn at (at + length bytes) o2 n n' → TakesBytes at bytes sent flow.half o more o2 n n'
+takes_bytes at bytes sent flow None None more o2 n n' y p b t w q = absurd b
+takes_bytes at bytes sent flow (Some s) None more o2 n n' y p b t w q = absurd b
+takes_bytes at bytes sent flow None (Some s1) more None n n' y p b t w q = absurd t
+takes_bytes at bytes sent flow (Some s) (Some s1) more None n n' y p b t w q = absurd t
+takes_bytes at bytes sent flow (Some s) (Some s1) more (Some s2) n n' y p b t w q = record {
   none = λ l. (let l1 : s1.is_lost ≡ true = ap (λ x. x.is_lost) b ∙ l in (t.none l1, t.final l1));
   taken = λ heard segs out i h. (
       let e : s2.base ≡ s.base = t.base ∙ ap (λ x. x.base) b in (
@@ -133,16 +176,23 @@ takes_bytes at bytes sent flow (Some s) (Some s1) more (Some s2) n n' y p b t w 
       let e : s2.base ≡ s.base = t.base ∙ ap (λ x. x.base) b in
       let j = t.taken segs out (subst (λ x. IsStreamOf segs out x) (sym b) i.1) in
       let l : next_of s.window ≤ next_of s2.window = omega (arith, e, i.1.next_is, j.next_is, length-append out more) in
-      noted_more segs at bytes (next_of s.window) (next_of s2.window) n n' l a w);
-  counted = λ heard segs out i _ l. (
+      let a2 : AreNoted segs s2.base (next_of s.window) n = subst (λ x. AreNoted segs x (next_of s.window) n) (sym e) a in
+      noted_more segs at bytes s2.base (next_of s.window) (next_of s2.window) n n' l (omega (arith, j.next_is)) a2 w);
+  counted = λ heard segs out i. (
       let i1 : IsStreamOf segs out s1 = subst (λ x. IsStreamOf segs out x) (sym b) i.1 in
-      counted_one segs out s1 s2 at bytes i1 (ap (λ x. x.is_lost) b ∙ l) t.base (t.counted segs out i1)
-      ∙ ap (λ x. min (2 ^ 64 - 1) (x.conflicts + conflicts (first_known segs s2.base (s2.base + length out)) at bytes)) b);
+      counted_more s1.is_lost segs out s1 s2 at bytes i1 refl t.base (t.counted segs out i1)
+      ∙ ap (λ x. min (2 ^ 64 - 1) (x.conflicts + conflicts (first_held x.is_lost segs s2.base out) at bytes)) b);
+  fills = λ heard segs out i a. (
+      let e : s2.base ≡ s.base = t.base ∙ ap (λ x. x.base) b in
+      let j = t.taken segs out (subst (λ x. IsStreamOf segs out x) (sym b) i.1) in
+      let l : next_of s.window ≤ next_of s2.window = omega (arith, e, i.1.next_is, j.next_is, length-append out more) in
+      let a2 : AreNoted segs s2.base (next_of s.window) n = subst (λ x. AreNoted segs x (next_of s.window) n) (sym e) a in
+      fills_late segs (out ++ more) s2 (next_of s.window) at (at + length bytes) n n' j.next_is l a2 q);
   late = λ heard segs out i l x. (
       let i1 : IsStreamOf segs out s1 = subst (λ x. IsStreamOf segs out x) (sym b) i.1 in
       omega (arith, t.lost (ap (λ x. x.is_lost) b ∙ l) x, i1.next_is, t.base));
 }
-takes_bytes at bytes sent flow None (Some s1) more (Some s2) n n' y p b t w = record {
+takes_bytes at bytes sent flow None (Some s1) more (Some s2) n n' y p b t w q = record {
   none = λ l. absurd (let e : false ≡ true = l in cc);
   taken = λ heard segs out i h. (
       let u = b.3 (heard ++ Took sent ∷ []) h in
@@ -166,14 +216,18 @@ takes_bytes at bytes sent flow None (Some s1) more (Some s2) n n' y p b t w = re
   noted = λ heard segs out i a. (
       let j = t.taken [] [] b.0 in
       let l : next_of s1.window ≤ next_of s2.window = omega (arith, t.base, b.0.next_is, j.next_is, length-append [] more) in
-      let z : AreNoted [] (next_of s1.window) None = λ full k h. refl in
-      let y : AreNoted segs (next_of s1.window) n = subst (λ x. AreNoted x (next_of s1.window) n) (sym i.1) (subst (λ x. AreNoted []
-      (next_of s1.window) x) (sym a) z) in
-      noted_more segs at bytes (next_of s1.window) (next_of s2.window) n n' l y w);
-  counted = λ heard segs out i _ l. (
+      noted_more segs at bytes s2.base (next_of s1.window) (next_of s2.window) n n' l (omega (arith, j.next_is))
+      (noted_none segs s2.base (next_of s1.window) n i.1 a) w);
+  counted = λ heard segs out i. (
       let i1 : IsStreamOf segs out s1 = subst (λ x. IsStreamOf segs x s1) (sym i.2) (subst (λ x. IsStreamOf x [] s1) (sym i.1) b.0) in
-      counted_one segs out s1 s2 at bytes i1 b.1 t.base (t.counted segs out i1)
-      ∙ ap (λ x. min (2 ^ 64 - 1) (x + conflicts (first_known segs s2.base (s2.base + length out)) at bytes)) b.2);
+      counted_more false segs out s1 s2 at bytes i1 b.1 t.base (t.counted segs out i1)
+      ∙ ap (λ x. min (2 ^ 64 - 1) (x + conflicts (first_held false segs s2.base out) at bytes)) b.2);
+  fills = λ heard segs out i a. (
+      let i1 : IsStreamOf segs out s1 = subst (λ x. IsStreamOf segs x s1) (sym i.2) (subst (λ x. IsStreamOf x [] s1) (sym i.1) b.0) in
+      let j = t.taken segs out i1 in
+      let l : next_of s1.window ≤ next_of s2.window = omega (arith, t.base, i1.next_is, j.next_is, length-append out more) in
+      fills_late segs (out ++ more) s2 (next_of s1.window) at (at + length bytes) n n' j.next_is l
+      (noted_none segs s2.base (next_of s1.window) n i.1 a) q);
   late = λ heard segs out i l x. (
       let i1 : IsStreamOf segs out s1 = subst (λ x. IsStreamOf segs x s1) (sym i.2) (subst (λ x. IsStreamOf x [] s1) (sym i.1) b.0) in
       omega (arith, t.lost b.1 x, i1.next_is, t.base));
@@ -181,12 +235,13 @@ takes_bytes at bytes sent flow None (Some s1) more (Some s2) n n' y p b t w = re
 
 pub takes_counted : (g : Given) (flow : Flow) (given more : List ℕ) (flow0 flow1 flow2 flow3 : Flow) (at : ℕ)
     → flow3.half ≡ flow2.half → flow3.stream ≡ flow2.stream → NotesIn at (at + length g.payload.now) flow2.stream flow2.noted flow3.noted
+    → FillsIn at (at + length g.payload.now) flow2.stream flow2.noted flow3.noted
     → flow2.noted ≡ flow1.noted → flow1.noted ≡ flow.noted → flow0.stream ≡ flow.stream → HearsMore flow.half (Took (sent_at g at)) flow0.half
     → counts at (length g.payload.now) ≡ true → BeginsAt at flow0 flow0.stream flow1.stream → flow1.half ≡ flow0.half → flow2.half ≡ flow1.half
     → StreamsOnly at g.payload.now flow1.stream more flow2.stream → FlowTakes g flow given flow3 (given ++ more)
-takes_counted g flow given more flow0 flow1 flow2 flow3 at u v w m1 m0 s h y b e f t =
+takes_counted g flow given more flow0 flow1 flow2 flow3 at u v w q m1 m0 s h y b e f t =
     let r : TakesBytes at g.payload.now (sent_at g at) flow0.half flow0.stream more flow2.stream flow2.noted flow3.noted
-    = takes_bytes at g.payload.now (sent_at g at) flow0 flow0.stream flow1.stream more flow2.stream flow2.noted flow3.noted y refl b t w in
+    = takes_bytes at g.payload.now (sent_at g at) flow0 flow0.stream flow1.stream more flow2.stream flow2.noted flow3.noted y refl b t w q in
     record {
       more = more;
       is = refl;
@@ -211,10 +266,15 @@ takes_counted g flow given more flow0 flow1 flow2 flow3 at u v w m1 m0 s h y b e
                   (r.noted heard segs out (subst (λ o. IsStreamFor heard segs out o) (sym s) i.stream)
                   (same_noted segs flow.stream flow0.stream flow.noted flow2.noted s (m1 ∙ m0) i.noted)));
             },
-            subst (λ o. IsCounted segs out flow.stream at g.payload.now o) (sym v) (subst (λ o. IsCounted segs out o at g.payload.now flow2.stream) s
-                (r.counted heard segs out (subst (λ o. IsStreamFor heard segs out o) (sym s) i.stream))),
+            counted segs out flow.stream at g.payload.now flow3.stream y
+                (subst (λ o. CountsMore segs out flow.stream at g.payload.now o) (sym v) (subst (λ o. CountsMore segs out o at g.payload.now flow2.stream) s
+                (r.counted heard segs out (subst (λ o. IsStreamFor heard segs out o) (sym s) i.stream)))),
             subst (λ o. GivesUpLate out flow.stream at g.payload.now o) (sym v) (subst (λ o. GivesUpLate out o at g.payload.now flow2.stream) s
                 (r.late heard segs out (subst (λ o. IsStreamFor heard segs out o) (sym s) i.stream))),
+            subst (λ o. FillsLate segs (out ++ more) o flow.noted flow3.noted) (sym v)
+                (subst (λ n. FillsLate segs (out ++ more) flow2.stream n flow3.noted) (m1 ∙ m0)
+                (r.fills heard segs out (subst (λ o. IsStreamFor heard segs out o) (sym s) i.stream)
+                (same_noted segs flow.stream flow0.stream flow.noted flow2.noted s (m1 ∙ m0) i.noted))),
           ));
     }
 
@@ -233,8 +293,29 @@ takes_refused g flow given flow' s m h r = record {
       stream = subst (λ o. IsStreamFor heard segs out o) (sym s) f.stream;
       noted = same_noted segs flow.stream flow'.stream flow.noted flow'.noted s m f.noted;
     },
+    s,
+    m,
   );
 }
 
 pub notes_at_end : (at «end» : ℕ) (s : Stream) (o : Option Stream) (n : Option Noted) → o ≡ Some s → «end» ≤ next_of s.window → NotesIn at «end» o n n
-notes_at_end at «end» s o n e h = subst (λ x. NotesIn at «end» x n n) (sym e) (notes_none (next_of s.window) at «end» n h)
+notes_at_end at «end» s o n e h = subst (λ x. NotesIn at «end» x n n) (sym e) (notes_none s.base (next_of s.window) at «end» n h)
+
+-- what is noted now, at the places of the stream
+placed : (P : ℕ → ℕ → Type 0) (base next : ℕ) (s : Stream) → base ≡ s.base → next ≡ next_of s.window → P base next → P s.base (next_of s.window)
+placed P base next s b n p = subst (λ k. P k (next_of s.window)) b (subst (λ k. P base k) n p)
+
+pub notes_there : (at «end» base next : ℕ) (o : Option Stream) (s : Stream) (m : Option Noted) (n n1 : Noted) → o ≡ Some s → base ≡ s.base
+    → next ≡ next_of s.window → m ≡ Some n → next < «end»
+    → NotesBoth (record { from = base; to = next }) (record { from = at; to = «end» }) n n1 → NotesIn at «end» o m (Some n1)
+notes_there at «end» base next o s m n n1 e b k f l both =
+    subst (λ x. NotesIn at «end» x m (Some n1)) (sym e) (subst (λ x. NotesIn at «end» (Some s) x (Some n1)) (sym f)
+    (placed (λ x y. NotesOne x y (record { from = at; to = «end» }) (Some n) (Some n1)) base next s b k (notes_more base next at «end» n n1 l both)))
+
+pub fills_at_first : (at «end» base next : ℕ) (o : Option Stream) (s : Stream) (m : Option Noted) (n n1 : Noted) → o ≡ Some s → base ≡ s.base
+    → next ≡ next_of s.window → m ≡ None → n.is_full ≡ false → ((i : ℕ) → is_covered (spans_in n) i ≡ false)
+    → (n.is_full ≡ false → n1.is_full ≡ true → HasNoRoomFor (record { from = base; to = next }) (record { from = at; to = «end» }) (spans_in n))
+    → FillsIn at «end» o m (Some n1)
+fills_at_first at «end» base next o s m n n1 e b k f u z h =
+    subst (λ x. FillsIn at «end» x m (Some n1)) (sym e) (subst (λ x. FillsIn at «end» (Some s) x (Some n1)) (sym f)
+    (placed (λ x y. FillsOne x y (record { from = at; to = «end» }) None (Some n1)) base next s b k (fills_first base next at «end» n n1 u z h)))

@@ -1,17 +1,21 @@
 -- What a stream has handed out after a segment.
-use Rattle.std.proofs.Common.{◌≡◌, ℕ, ◌+◌, ◌-◌, ◌<◌, ◌≤◌, ◌^◌, min, true, false, List, [], ◌∷◌, ◌++◌, length, length-append, append-nil, zero-add, refl}
+use Rattle.std.proofs.Common.{◌≡◌, ℕ, ◌+◌, ◌-◌, ◌<◌, ◌≤◌, ◌^◌, min, Bool, true, false, List, [], ◌∷◌, ◌++◌, length, length-append, append-nil, zero-add, refl}
 use Rattle.std.proofs.Common.{sym, ap, subst, ◌∙◌, arith}
-use Rattle.std.specs.Prelude.{None, slice_get, if◌then◌else◌}
+use Rattle.std.specs.Prelude.{Option, None, slice_get, if◌then◌else◌, nat_lt}
 use Rattle.std.proofs.lemmas.Grind.{common_steps}
 use Rattle.std.proofs.lemmas.Option.{slice_get_past}
 use Rattle.bt_tcp.specs.Segments.{Segment, IsFront, IsStream}
 use Rattle.bt_tcp.specs.Windows.{IsTaken}
-use Rattle.bt_tcp.specs.History.{IsHistory, differs, conflicts, kept}
+use Rattle.bt_tcp.specs.History.{IsHistory, differs, conflicts, kept, held}
 use Rattle.bt_tcp.proofs.Taken.{front_push}
 use Rattle.bt_flow.specs.declared.stream.Stream.{Stream}
 use Rattle.bt_flow.specs.Memory.{next_of, seen}
 use Rattle.bt_flow.specs.Views.{TakesIn, AppendsAfter}
 use Rattle.bt_flow.specs.Streams.{IsStreamOf, Advances, StreamTakes, conflicts_with}
+
+same : (b : Bool) (o : Option ℕ) → o ≡ None → (if b then None else o) ≡ None
+same true o e = refl
+same false o e = e
 
 kept_past : (base : ℕ) (out : List ℕ) (i : ℕ) → base + length out ≤ i → kept base out i ≡ None
 kept_past base out i h =
@@ -27,6 +31,15 @@ conflicts_past base out at (b ∷ bytes) h =
     ap (λ o. (if differs o b then 1 else 0) + conflicts (kept base out) (at + 1) bytes) (kept_past base out at h)
     ∙ zero-add (conflicts (kept base out) (at + 1) bytes)
     ∙ conflicts_past base out (at + 1) bytes h'
+
+-- Nothing is ahead.
+pub conflicts_none : (next : ℕ) (ahead : ℕ → Option ℕ) (at : ℕ) (bytes : List ℕ) → ((k : ℕ) → ahead k ≡ None) → conflicts (held next ahead) at bytes ≡ 0
+conflicts_none next ahead at [] z = refl
+conflicts_none next ahead at (b ∷ bytes) z =
+    let n : held next ahead at ≡ None = same (nat_lt at next) (ahead (at - next)) (z (at - next)) in
+    ap (λ o. (if differs o b then 1 else 0) + conflicts (held next ahead) (at + 1) bytes) n
+    ∙ zero-add (conflicts (held next ahead) (at + 1) bytes)
+    ∙ conflicts_none next ahead (at + 1) bytes z
 
 -- A segment was taken.
 pub advance : (at : ℕ) (bytes : List ℕ) (s : Stream) (more : List ℕ) (s' : Stream) → s'.base ≡ s.base
@@ -47,14 +60,15 @@ advance at bytes s more s' b c l l' t h = record {
         history = h out i.next_is i.history;
         taken = λ _. subst (λ x. IsTaken (segs ++ one ∷ []) x (out ++ more) (next_of s'.window) (seen s'.window)) (sym b) both.0;
         stream = λ _. subst (λ x. IsStream (segs ++ one ∷ []) x (out ++ more)) (sym b) both.1;
+        none = λ x. absurd (let e : true ≡ false = sym x ∙ l' in cc);
       });
 }
 
 -- A gap became final, or was final before.
 pub lost_one : (at : ℕ) (bytes : List ℕ) (s s' : Stream) → s'.base ≡ s.base → s'.is_lost ≡ true → next_of s'.window ≡ next_of s.window
-    → s'.history.items ≡ s.history.items → (segs : List Segment) (out : List ℕ) → IsStreamOf segs out s
+    → s'.history.items ≡ s.history.items → (segs : List Segment) (out : List ℕ) → IsStreamOf segs out s → ((k : ℕ) → seen s'.window k ≡ None)
     → IsStreamOf (segs ++ record { place = at; bytes = bytes } ∷ []) (out ++ []) s'
-lost_one at bytes s s' b l n h segs out i =
+lost_one at bytes s s' b l n h segs out i z =
     let one : Segment = record { place = at; bytes = bytes } in
     let e : out ≡ out ++ [] = sym (append-nil out) in
     let f : IsFront (segs ++ one ∷ []) s'.base out = subst (λ x. IsFront (segs ++ one ∷ []) x out) (sym b) (front_push segs one s.base out i.front) in
@@ -65,6 +79,7 @@ lost_one at bytes s s' b l n h segs out i =
       history = subst (λ x. IsHistory s'.history.items x) e m;
       taken = λ x. absurd (let t : true ≡ false = sym l ∙ x in cc);
       stream = λ x. absurd (let t : true ≡ false = sym l ∙ x in cc);
+      none = λ _. z;
     }
 
 -- Nothing more is ready.
@@ -72,26 +87,26 @@ pub nothing_after : (later : List ℕ) (IsMore : List ℕ → Type 0) → IsMore
 nothing_after later IsMore m = record { rest = []; is = sym (append-nil later); more = m }
 
 pub advance_lost : (at : ℕ) (bytes : List ℕ) (s s' : Stream) → s'.base ≡ s.base → s'.conflicts ≡ s.conflicts → s'.is_lost ≡ true
-    → next_of s'.window ≡ next_of s.window → s'.history.items ≡ s.history.items → next_of s.window + 15728640 < at + length bytes
-    → Advances at bytes s [] s'
-advance_lost at bytes s s' b c l n h p = record {
+    → next_of s'.window ≡ next_of s.window → s'.history.items ≡ s.history.items → ((k : ℕ) → seen s'.window k ≡ None)
+    → next_of s.window + 15728640 < at + length bytes → Advances at bytes s [] s'
+advance_lost at bytes s s' b c l n h z p = record {
   base = b;
   conflicts = c;
   lost = λ _. p;
-  taken = lost_one at bytes s s' b l n h;
+  taken = λ segs out i. lost_one at bytes s s' b l n h segs out i z;
 }
 
 pub takes_lost : (at : ℕ) (bytes : List ℕ) (s s' : Stream) → s'.base ≡ s.base → s.is_lost ≡ true → s'.is_lost ≡ true
-    → next_of s'.window ≡ next_of s.window → s'.history.items ≡ s.history.items
+    → next_of s'.window ≡ next_of s.window → s'.history.items ≡ s.history.items → ((k : ℕ) → seen s'.window k ≡ seen s.window k)
     → ((segs : List Segment) (out : List ℕ) → IsStreamOf segs out s → s'.conflicts ≡ min (2 ^ 64 - 1) (s.conflicts + conflicts_with out s at bytes))
     → StreamTakes at bytes s [] s'
-takes_lost at bytes s s' b l l' n h counted = record {
+takes_lost at bytes s s' b l l' n h w counted = record {
   base = b;
   none = λ _. refl;
   final = λ _. l';
   lost = λ x _. absurd (let t : true ≡ false = sym l ∙ x in cc);
   counted = counted;
-  taken = lost_one at bytes s s' b l' n h;
+  taken = λ segs out i. lost_one at bytes s s' b l' n h segs out i (λ k. w k ∙ i.none l k);
 }
 
 -- The conflicts were counted, and then the segment was taken.

@@ -24,4 +24,4 @@ noted_from heard segs out None n next p f a full i h = ap (λ m. is_covered (spa
 noted_from heard segs out (Some s) n next p f a full i h =
     let e : next ≡ s.base + length out = ap (λ o. unwrap_or o 0) p in
     let g : next_of s.window ≤ i = omega (arith, e, f.1.next_is, h) in
-    a full i g
+    (a full).0 i g

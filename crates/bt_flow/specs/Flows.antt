@@ -1,14 +1,15 @@
 -- A direction: what was heard of it, the segments with data that it has taken, and the bytes that it has handed out.
-use Rattle.std.specs.Prelude.{◌≡◌, ℕ, ◌+◌, ◌<◌, ◌-◌, ◌^◌, ◌%◌, Bool, true, false, List, [], ◌∷◌, ◌++◌, length, Option, Some, None, ◌⊎◌, is_some, min, max, if◌then◌else◌, nat_lt}
+use Rattle.std.specs.Prelude.{◌≡◌, ℕ, ◌+◌, ◌<◌, ◌≤◌, ◌-◌, ◌^◌, ◌%◌, Bool, true, false, List, [], ◌∷◌, ◌++◌, length, Option, Some, None, ◌⊎◌, is_some, min, max, if◌then◌else◌, nat_lt}
 use Rattle.bt_tcp.specs.Segments.{Segment, byte_at}
-use Rattle.bt_tcp.specs.History.{conflicts, first_known}
-use Rattle.bt_tcp.specs.Covered.{AreGaps, sent_end, no_gaps}
+use Rattle.bt_tcp.specs.History.{conflicts, first_known, kept}
+use Rattle.bt_tcp.specs.declared.covered.Span.{Span}
+use Rattle.bt_tcp.specs.Covered.{AreApart, AreGaps, is_covered, sent_end, no_gaps}
 use Rattle.bt_tcp.specs.declared.covered.Gaps.{Gaps}
 use Rattle.bt_tcp.specs.Heard.{Heard, Sent, Took, Acked, opening_of, high_of, fin_of, acked_of, sent_of, IsStart, IsAfterSyn}
 use Rattle.bt_tcp.specs.Halves.{IsHalf, IsOutOfRange}
 use Rattle.bt_flow.specs.declared.stream.Stream.{Stream}
 use Rattle.bt_flow.specs.declared.noted.Noted.{Noted}
-use Rattle.bt_flow.specs.Notes.{AreNoted, NotesOne, spans_noted, is_full}
+use Rattle.bt_flow.specs.Notes.{AreNoted, NotesOne, FillsOne, spans_noted, is_full}
 use Rattle.bt_flow.specs.Memory.{next_of, capacity_of}
 use Rattle.bt_flow.specs.declared.flow.Flow.{Flow}
 use Rattle.bt_flow.specs.declared.flow.Given.{Given}
@@ -42,7 +43,7 @@ IsStreamFor heard segs out (Some s) = IsBaseOf heard s.base × IsStreamOf segs o
 -- Before the first captured byte nothing is noted.
 abbrev pub AreNotedFor : List Segment → Option Stream → Option Noted → Type 0
 AreNotedFor segs None o = o ≡ None
-AreNotedFor segs (Some s) o = AreNoted segs (next_of s.window) o
+AreNotedFor segs (Some s) o = AreNoted segs s.base (next_of s.window) o
 
 -- This was heard, these segments were taken, and these bytes were handed out.
 pub record IsFlow (heard : List Heard) (segs : List Segment) (out : List ℕ) (flow : Flow) : Type 0 where
@@ -75,24 +76,52 @@ with_segment segs at bytes = if counts at (length bytes) then segs ++ record { p
 abbrev pub sent_at : Given → ℕ → Sent
 sent_at g at = record { sequence = g.sequence; syn = g.syn; fin = g.fin; captured = length g.payload.now; size = g.length; place = at }
 
--- Until a gap is final, those of its bytes are counted that differ from the first captured ones, except from those that are no longer in the memory.
+-- the first captured bytes, except those that are no longer in the memory; once a gap is final only those that were handed out
+abbrev pub first_held : Bool → List Segment → ℕ → List ℕ → ℕ → Option ℕ
+first_held false segs base out = first_known segs base (base + length out)
+first_held true segs base out = kept base out
+
+-- Those of its bytes are counted that differ from the first captured ones.
+abbrev pub CountsMore : List Segment → List ℕ → Option Stream → ℕ → List ℕ → Option Stream → Type 0
+CountsMore segs out o at bytes None = ⊥
+CountsMore segs out o at bytes (Some s') =
+    s'.conflicts ≡ min (2 ^ 64 - 1) (conflicts_in o + conflicts (first_held (is_lost_stream o) segs s'.base out) at bytes)
+
+-- Only bytes that count change the stream, and their conflicts are counted.
 abbrev pub IsCounted : List Segment → List ℕ → Option Stream → ℕ → List ℕ → Option Stream → Type 0
-IsCounted segs out o at bytes None = Unit {0}
-IsCounted segs out o at bytes (Some s') =
-    counts at (length bytes) ≡ true → is_lost_stream o ≡ false
-    → s'.conflicts ≡ min (2 ^ 64 - 1) (conflicts_in o + conflicts (first_known segs s'.base (s'.base + length out)) at bytes)
+IsCounted segs out o at bytes o' =
+    (counts at (length bytes) ≡ false → o' ≡ o) × (counts at (length bytes) ≡ true → CountsMore segs out o at bytes o')
 
 -- A gap becomes final only if a segment ends more than 15 MiB past the next place.
 abbrev pub GivesUpLate : List ℕ → Option Stream → ℕ → List ℕ → Option Stream → Type 0
 GivesUpLate out o at bytes None = Unit {0}
 GivesUpLate out o at bytes (Some s') = is_lost_stream o ≡ false → s'.is_lost ≡ true → s'.base + length out + 15728640 < at + length bytes
 
+abbrev pub is_captured : List Segment → ℕ → Bool
+is_captured segs i = is_some (byte_at segs i)
+
+-- handed out, since it is before the next place, or captured
+abbrev pub is_taken : List Segment → ℕ → ℕ → Bool
+is_taken segs next i = if nat_lt i next then true else is_captured segs i
+
+-- The taken places from the base on are these spans, which don't touch.
+pub record AreTaken (segs : List Segment) (base next : ℕ) (spans : List Span) : Type 0 where
+  pub apart : AreApart base spans
+  pub covered : (i : ℕ) → base ≤ i → is_covered spans i ≡ is_taken segs next i
+
+-- A captured place isn't noted only if there were 1,024 spans of taken places before. Those handed out are one of them.
+abbrev pub FillsLate : List Segment → List ℕ → Option Stream → Option Noted → Option Noted → Type 0
+FillsLate segs out None n n' = Unit {0}
+FillsLate segs out (Some s) n n' =
+    is_full n ≡ false → is_full n' ≡ true → (spans : List Span) × AreTaken segs s.base (s.base + length out) spans × (1024 ≤ length spans)
+
 -- The segment was taken at its place, or its place is out of range and nothing has changed.
 abbrev pub HasTaken : Given → List Heard → List Segment → List ℕ → Flow → List ℕ → Flow → Type 0
 HasTaken g heard segs out flow more flow' =
     ((at : ℕ) × IsFlow (heard ++ Took (sent_at g at) ∷ []) (with_segment segs at g.payload.now) (out ++ more) flow' × IsCounted segs out flow.stream at g.payload.now flow'.stream
-    × GivesUpLate out flow.stream at g.payload.now flow'.stream)
-    ⊎ (IsOutOfRange flow.half ((g.sequence + (if g.syn then 1 else 0)) % 2 ^ 32) (length g.payload.now) g.length × (more ≡ []) × IsFlow heard segs out flow')
+    × GivesUpLate out flow.stream at g.payload.now flow'.stream × FillsLate segs (out ++ more) flow'.stream flow.noted flow'.noted)
+    ⊎ (IsOutOfRange flow.half ((g.sequence + (if g.syn then 1 else 0)) % 2 ^ 32) (length g.payload.now) g.length × (more ≡ []) × IsFlow heard segs out flow'
+    × (flow'.stream ≡ flow.stream) × (flow'.noted ≡ flow.noted))
 
 -- The bytes that a segment makes ready were appended. Nothing is after a final gap.
 pub record FlowTakes (g : Given) (flow : Flow) (given : List ℕ) (flow' : Flow) (given' : List ℕ) : Type 0 where
@@ -132,9 +161,6 @@ IsClosed heard out stream closed = (place : Option ℕ) × IsPlaceNow heard out 
 abbrev pub gaps_end : List Heard → Option Noted → ℕ → ℕ
 gaps_end heard o next = sent_end (spans_noted o) (sent_of heard (max next (high_of heard)))
 
-abbrev pub is_captured : List Segment → ℕ → Bool
-is_captured segs i = is_some (byte_at segs i)
-
 -- the runs of places from the next one on that no segment covers
 abbrev pub AreGapsAt : List Heard → List Segment → Flow → Option ℕ → Gaps → Type 0
 AreGapsAt heard segs flow None gaps = gaps ≡ no_gaps
@@ -169,4 +195,8 @@ StreamOnly at bytes flow more flow' = StreamsOnly at bytes flow.stream more flow
 
 abbrev pub NotesIn : ℕ → ℕ → Option Stream → Option Noted → Option Noted → Type 0
 NotesIn at «end» None o o' = o' ≡ o
-NotesIn at «end» (Some s) o o' = NotesOne (next_of s.window) (record { from = at; to = «end» }) o o'
+NotesIn at «end» (Some s) o o' = NotesOne s.base (next_of s.window) (record { from = at; to = «end» }) o o'
+
+abbrev pub FillsIn : ℕ → ℕ → Option Stream → Option Noted → Option Noted → Type 0
+FillsIn at «end» None o o' = o' ≡ o
+FillsIn at «end» (Some s) o o' = FillsOne s.base (next_of s.window) (record { from = at; to = «end» }) o o'

@@ -1,7 +1,7 @@
 -- The captured places that are noted.
-use Rattle.std.specs.Prelude.{◌≡◌, ℕ, ◌≤◌, Bool, true, false, List, [], Option, Some, None, is_some, if◌then◌else◌}
+use Rattle.std.specs.Prelude.{◌≡◌, ℕ, ◌+◌, ◌<◌, ◌≤◌, Bool, true, false, List, [], length, Option, Some, None, ◌⊎◌, is_some, if◌then◌else◌}
 use Rattle.bt_tcp.specs.declared.covered.Span.{Span}
-use Rattle.bt_tcp.specs.Covered.{is_covered, in_span, spans_of, Adds}
+use Rattle.bt_tcp.specs.Covered.{is_covered, in_span, spans_of, AreApart, Adds, IsAlone}
 use Rattle.bt_tcp.specs.Segments.{Segment, byte_at}
 use Rattle.bt_flow.specs.declared.noted.Noted.{Noted}
 
@@ -12,9 +12,26 @@ spans_in n = spans_of n.spans n.table.items
 abbrev pub NotesMore : Span → Noted → Noted → Type 0
 NotesMore s n n' = n'.is_full ≡ false → (n.is_full ≡ false) × Adds s (spans_in n) (spans_in n')
 
--- Only places from the next one on matter.
-abbrev pub NotesPast : ℕ → Span → Noted → Noted → Type 0
-NotesPast next s n n' = n'.is_full ≡ false → (n.is_full ≡ false) × ((i : ℕ) → next ≤ i → is_covered (spans_in n') i ≡ (if in_span s i then true else is_covered (spans_in n) i))
+-- A place is covered now if it was before, or is in one of two spans.
+abbrev pub AddsBoth : Span → Span → List Span → List Span → Type 0
+AddsBoth first second spans spans' =
+    (i : ℕ) → is_covered spans' i ≡ (if in_span second i then true else if in_span first i then true else is_covered spans i)
+
+-- Unless the table is full, both spans are noted.
+abbrev pub NotesBoth : Span → Span → Noted → Noted → Type 0
+NotesBoth first second n n' = n'.is_full ≡ false → (n.is_full ≡ false) × AddsBoth first second (spans_in n) (spans_in n')
+
+-- There are 1,024 spans, and another one touches none of them.
+abbrev pub HasNoRoom : Span → List Span → Type 0
+HasNoRoom s spans = (length spans ≡ 1024) × IsAlone s spans
+
+-- There is no room for the first span, or none for the second beside it.
+abbrev pub HasNoRoomFor : Span → Span → List Span → Type 0
+HasNoRoomFor first second spans = HasNoRoom first spans ⊎ ((spans' : List Span) × AreApart 0 spans' × Adds first spans spans' × HasNoRoom second spans')
+
+-- A span that begins before the base goes on to it.
+abbrev pub ReachBase : ℕ → List Span → Type 0
+ReachBase base spans = (i : ℕ) → i < base → is_covered spans i ≡ true → is_covered spans (i + 1) ≡ true
 
 -- ---- with no memory before the first gap
 
@@ -26,9 +43,17 @@ abbrev pub is_full : Option Noted → Bool
 is_full None = false
 is_full (Some n) = n.is_full
 
-abbrev pub NotesOne : ℕ → Span → Option Noted → Option Noted → Type 0
-NotesOne next s o o' = is_full o' ≡ false → (is_full o ≡ false) × ((i : ℕ) → next ≤ i → is_covered (spans_noted o') i ≡ (if in_span s i then true else is_covered (spans_noted o) i))
+-- Only places from the next one on matter.
+abbrev pub NotesOne : ℕ → ℕ → Span → Option Noted → Option Noted → Type 0
+NotesOne base next s o o' =
+    is_full o' ≡ false → (is_full o ≡ false) × ((i : ℕ) → next ≤ i → is_covered (spans_noted o') i ≡ (if in_span s i then true else is_covered (spans_noted o) i))
+    × (base ≤ next → ReachBase base (spans_noted o) → ReachBase base (spans_noted o'))
+
+-- The table becomes full only if there is no room for what was handed out, as a span, or for the new one beside it.
+abbrev pub FillsOne : ℕ → ℕ → Span → Option Noted → Option Noted → Type 0
+FillsOne base next s o o' = is_full o ≡ false → is_full o' ≡ true → HasNoRoomFor (record { from = base; to = next }) s (spans_noted o)
 
 -- From the next place on the captured places are noted, and no others, unless the table is full.
-abbrev pub AreNoted : List Segment → ℕ → Option Noted → Type 0
-AreNoted segs next o = is_full o ≡ false → (i : ℕ) → next ≤ i → is_covered (spans_noted o) i ≡ is_some (byte_at segs i)
+abbrev pub AreNoted : List Segment → ℕ → ℕ → Option Noted → Type 0
+AreNoted segs base next o =
+    is_full o ≡ false → ((i : ℕ) → next ≤ i → is_covered (spans_noted o) i ≡ is_some (byte_at segs i)) × ReachBase base (spans_noted o)

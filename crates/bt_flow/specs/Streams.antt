@@ -1,18 +1,19 @@
 -- A stream from its base on: what it has handed out of the segments that it has taken.
-use Rattle.std.specs.Prelude.{◌≡◌, ℕ, ◌+◌, ◌-◌, ◌<◌, ◌^◌, min, true, false, List, [], ◌∷◌, ◌++◌, length}
+use Rattle.std.specs.Prelude.{◌≡◌, ℕ, ◌+◌, ◌-◌, ◌<◌, ◌^◌, min, true, false, List, [], ◌∷◌, ◌++◌, length, None}
 use Rattle.bt_tcp.specs.Segments.{Segment, IsFront, IsStream}
 use Rattle.bt_tcp.specs.Windows.{IsTaken}
 use Rattle.bt_tcp.specs.History.{IsHistory, conflicts, kept, held}
 use Rattle.bt_flow.specs.declared.stream.Stream.{Stream}
 use Rattle.bt_flow.specs.Memory.{next_of, seen}
 
--- Of these segments the bytes `out` were handed out. Until a gap is final they are the whole stream, and after that a prefix of it.
+-- Of these segments the bytes `out` were handed out. Until a gap is final they are the whole stream, and after that a prefix of it, and no bytes are ahead.
 pub record IsStreamOf (segs : List Segment) (out : List ℕ) (s : Stream) : Type 0 where
   pub next_is : next_of s.window ≡ s.base + length out
   pub front : IsFront segs s.base out
   pub history : IsHistory s.history.items out
   pub taken : s.is_lost ≡ false → IsTaken segs s.base out (next_of s.window) (seen s.window)
   pub stream : s.is_lost ≡ false → IsStream segs s.base out
+  pub none : s.is_lost ≡ true → (k : ℕ) → seen s.window k ≡ None
 
 -- how many bytes of a segment differ from those that were handed out, as far as these are kept, and from those ahead
 abbrev pub conflicts_with : List ℕ → Stream → ℕ → List ℕ → ℕ

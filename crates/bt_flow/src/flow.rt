@@ -79,7 +79,7 @@ fn offsets(gaps: Gaps, base: u64) -> Gaps
 impl Flow {
     ghost use Rattle.bt_tcp.specs.Heard.{Heard, Acked, opening_of};
     ghost use Rattle.bt_tcp.specs.Segments.{Segment};
-    ghost use Rattle.bt_flow.specs.Flows.{IsFlow, FlowTakes, FlowTakesNext, IsLost, Begins, StreamOnly, IsBaseNow, IsPlaceNow, HasHole, IsClosed, conflicts_in, held_in, high_in, NotesIn, AreGapsOf, gaps_end};
+    ghost use Rattle.bt_flow.specs.Flows.{IsFlow, FlowTakes, FlowTakesNext, IsLost, Begins, StreamOnly, IsBaseNow, IsPlaceNow, HasHole, IsClosed, conflicts_in, held_in, high_in, NotesIn, FillsIn, AreGapsOf, gaps_end};
     ghost use Rattle.bt_flow.specs.Views.{AppendsAfter};
     ghost use Rattle.bt_flow.specs.Notes.{spans_noted};
     ghost use Rattle.bt_tcp.specs.Covered.{is_covered, AreGaps};
@@ -140,6 +140,7 @@ impl Flow {
         ensures half { self.new.half ≡ self.old.half }
         ensures stream { self.new.stream ≡ self.old.stream }
         ensures noted { OnOk result (NotesIn at end self.old.stream self.old.noted self.new.noted) }
+        ensures full { OnOk result (FillsIn at end self.old.stream self.old.noted self.new.noted) }
     {
         let Some(stream) = &self.stream else {
             return Ok(());
@@ -214,6 +215,7 @@ impl Flow {
     /// Takes an acknowledgement by the other side. `opens` says whether it came with that side's SYN.
     pub fn hear(&mut self, acked: u32, opens: bool)
         ensures stream { self.new.stream ≡ self.old.stream }
+        ensures noted { self.new.noted ≡ self.old.noted }
         ensures heard { (heard : List Heard) → (segs : List Segment) → (out : List ℕ) → IsFlow heard segs out self.old
             → (at : ℕ) × IsFlow (heard ++ Acked (record { number = acked; opens = opens; place = at }) ∷ []) segs out self.new }
     {

@@ -1,5 +1,5 @@
 //! The captured places past a gap, as spans.
-ghost use Rattle.std.specs.Prelude.{◌≡◌, ℕ, ◌≤◌, length, take, false, IfOk};
+ghost use Rattle.std.specs.Prelude.{◌≡◌, ℕ, ◌≤◌, length, take, true, false, IfOk};
 ghost use Rattle.bt_tcp.specs.Covered.{AreApart};
 ghost use Rattle.bt_flow.specs.Apart.{AreApart-prop};
 
@@ -18,19 +18,21 @@ pub struct Noted {
     /// A span wasn't noted.
     is_full: bool,
     ghost fits: { spans.count ≤ length table.items },
+    ghost room: { length table.items ≡ 1024 },
     ghost apart: { AreApart 0 (take spans.count table.items) } by { AreApart-prop 0 (take spans.count table.items) },
 }
 
 impl Noted {
     ghost use Rattle.bt_tcp.specs.Covered.{is_covered, AreGaps, sent_end};
-    ghost use Rattle.bt_flow.specs.Notes.{spans_in, NotesMore, NotesPast};
+    ghost use Rattle.bt_flow.specs.Notes.{spans_in, NotesMore, NotesBoth, HasNoRoom, HasNoRoomFor};
 
     /// Returns no spans.
     ///
     /// # Errors
     /// `AllocError` when out of memory.
     pub fn new(alloc: Global) -> Result<Noted, AllocError>
-        ensures { IfOk result (λ n. (i : ℕ) → is_covered (spans_in n) i ≡ false) }
+        ensures none { IfOk result (λ n. (i : ℕ) → is_covered (spans_in n) i ≡ false) }
+        ensures open { IfOk result (λ n. n.is_full ≡ false) }
     {
         let mut table = Vec::new(alloc);
         table.resize(SPANS, Span { from: 0, to: 0 })?;
@@ -44,7 +46,8 @@ impl Noted {
 
     /// Notes the places from `from` on and before `to`.
     fn add(&mut self, from: u64, to: u64)
-        ensures { NotesMore (record { from = from; to = to }) self.old self.new }
+        ensures noted { NotesMore (record { from = from; to = to }) self.old self.new }
+        ensures full { self.old.is_full ≡ false → self.new.is_full ≡ true → HasNoRoom (record { from = from; to = to }) (spans_in self.old) }
     {
         if self.spans.add(&mut self.table, from, to).is_err() {
             self.is_full = true;
@@ -53,7 +56,8 @@ impl Noted {
 
     /// Notes the places from `from` on and before `to`, and joins those before `next`, which no longer matter.
     pub fn note(&mut self, base: u64, next: u64, from: u64, to: u64)
-        ensures { NotesPast next (record { from = from; to = to }) self.old self.new }
+        ensures noted { NotesBoth (record { from = base; to = next }) (record { from = from; to = to }) self.old self.new }
+        ensures full { self.old.is_full ≡ false → self.new.is_full ≡ true → HasNoRoomFor (record { from = base; to = next }) (record { from = from; to = to }) (spans_in self.old) }
     {
         self.add(base, next);
         self.add(from, to);

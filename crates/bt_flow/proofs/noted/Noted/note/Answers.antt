@@ -1,5 +1,12 @@
-use Rattle.bt_flow.proofs.Notes.{notes_past}
+use Rattle.std.proofs.Common.{refl}
+use Rattle.bt_flow.proofs.Filled.{fills_both}
+use Rattle.bt_flow.proofs.Notes.{notes_both}
 use Rattle.bt_flow.proofs.noted.Noted.note.Goals as goal
 
-pub returns : goal.returns
-returns c = notes_past c.args.base c.args.next c.args.from c.args.to c.args.self.now c.add.new.self c.add-2.new.self c.add.ensures c.add-2.ensures
+pub returns-clause-noted : goal.returns-clause-noted
+returns-clause-noted c = notes_both (record { from = c.args.base; to = c.args.next }) (record { from = c.args.from; to = c.args.to }) c.args.self.now
+    c.add.new.self c.add-2.new.self c.add.ensures.noted c.add-2.ensures.noted
+
+pub returns-clause-full : goal.returns-clause-full
+returns-clause-full c = fills_both c.add.new.self.is_full (record { from = c.args.base; to = c.args.next }) (record { from = c.args.from; to = c.args.to })
+    c.args.self.now c.add.new.self c.add-2.new.self refl c.add.ensures.noted c.add.ensures.full c.add-2.ensures.full

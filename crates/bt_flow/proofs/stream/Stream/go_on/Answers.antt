@@ -44,5 +44,5 @@ returns-in-None c =
     record {
       rest = [];
       is = t.2 ∙ sym (append-nil c.args.later.now.items);
-      more = advance_lost c.args.at c.args.part.now c.args.self.now _ refl refl refl (c.close.ensures.next ∙ t.1) refl t.0;
+      more = advance_lost c.args.at c.args.part.now c.args.self.now _ refl refl refl (c.close.ensures.next ∙ t.1) refl c.close.ensures.none t.0;
     }

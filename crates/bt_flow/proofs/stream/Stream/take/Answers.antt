@@ -6,7 +6,7 @@ pub returns-then-self-clause-taken : goal.returns-then-self-clause-taken
 returns-then-self-clause-taken c = record {
   rest = [];
   is = sym (append-nil c.args.later.now.items);
-  more = takes_lost c.args.at c.args.part.now c.args.self.now _ refl c.if-self.true c.if-self.true refl refl
+  more = takes_lost c.args.at c.args.part.now c.args.self.now _ refl c.if-self.true c.if-self.true refl refl (λ k. refl)
       (λ segs out i. omega (arith, c.count_conflicts-count.ensures out i.next_is i.history));
 }
 
@@ -17,6 +17,6 @@ returns-in-Ok-clause-taken c =
       rest = t.rest;
       is = t.is;
       more = takes_on c.args.at c.args.part.now c.args.self.now _ _ _ refl c.if-self.false refl t.more
-          (λ segs out i. record { next_is = i.next_is; front = i.front; history = i.history; taken = i.taken; stream = i.stream })
+          (λ segs out i. record { next_is = i.next_is; front = i.front; history = i.history; taken = i.taken; stream = i.stream; none = i.none })
           (λ segs out i. omega (arith, c.count_conflicts-count.ensures out i.next_is i.history));
     }

@@ -1,0 +1,179 @@
+-- When the table of noted places has no room.
+use Rattle.std.proofs.Common.{◌≡◌, ℕ, ◌+◌, ◌-◌, ◌<◌, ◌≤◌, max, Bool, true, false, List, [], ◌∷◌, length, refl, sym, ap, ◌∙◌, subst, arith, inl, inr}
+use Rattle.std.specs.Prelude.{Option, Some, None, if◌then◌else◌, nat_lt}
+use Rattle.std.proofs.lemmas.Bool.{cases_lt, lt-ltb, le-ltb, ltb-false}
+use Rattle.bt_tcp.specs.declared.covered.Span.{Span}
+use Rattle.bt_tcp.specs.Covered.{in_span, is_covered, AreApart, Adds, IsAlone}
+use Rattle.bt_tcp.specs.Segments.{Segment}
+use Rattle.bt_tcp.proofs.CoveredProofs.{apart-before}
+use Rattle.bt_flow.specs.declared.noted.Noted.{Noted}
+use Rattle.bt_flow.specs.Notes.{spans_in, spans_noted, AddsBoth, NotesMore, HasNoRoom, HasNoRoomFor, ReachBase}
+use Rattle.bt_flow.specs.Flows.{is_captured, AreTaken}
+
+-- ---- a place and a span
+
+pub in_it : (s : Span) (i : ℕ) → s.from ≤ i → i < s.to → in_span s i ≡ true
+in_it s i a b = ap (λ c. if c then false else nat_lt i s.to) (le-ltb i s.from a) ∙ lt-ltb i s.to b
+
+from_it : (s : Span) (i : ℕ) → s.from ≤ i → in_span s i ≡ nat_lt i s.to
+from_it s i a = ap (λ c. if c then false else nat_lt i s.to) (le-ltb i s.from a)
+
+before_it : (s : Span) (i : ℕ) → i < s.from → in_span s i ≡ false
+before_it s i a = ap (λ c. if c then false else nat_lt i s.to) (lt-ltb i s.from a)
+
+neither : (b c : Bool) → c ≡ false → (if b then false else c) ≡ false
+neither true c e = refl
+neither false c e = e
+
+past_it : (s : Span) (i : ℕ) → s.to ≤ i → in_span s i ≡ false
+past_it s i a = neither (nat_lt i s.from) (nat_lt i s.to) (le-ltb i s.to a)
+
+goes_on : (s : Span) (i : ℕ) → i + 1 < s.to → in_span s i ≡ true → in_span s (i + 1) ≡ true
+goes_on s i a e = elim (cases_lt i s.from) [
+  | inl l ↦ absurd (let z : true ≡ false = sym e ∙ before_it s i l in cc)
+  | inr l ↦ in_it s (i + 1) (omega (arith, l)) a
+]
+
+covered_in : (s : Span) (spans : List Span) (i : ℕ) → s.from ≤ i → i < s.to → is_covered (s ∷ spans) i ≡ true
+covered_in s spans i a b = ap (λ c. if c then true else is_covered spans i) (in_it s i a b)
+
+-- ---- spans that begin before the base
+
+both_reach : (p c q f d : Bool) → (if p then true else c) ≡ true → (p ≡ true → q ≡ true) → (c ≡ true → d ≡ true)
+    → (if q then true else if f then true else d) ≡ true
+both_reach true c q f d e h k = ap (λ b. if b then true else if f then true else d) (h refl)
+both_reach false c true f d e h k = refl
+both_reach false c false true d e h k = refl
+both_reach false c false false d e h k = k e
+
+pub reach_both : (base next from to : ℕ) (spans spans' : List Span) → base ≤ next → next < to
+    → AddsBoth (record { from = base; to = next }) (record { from = from; to = to }) spans spans' → ReachBase base spans → ReachBase base spans'
+reach_both base next from to spans spans' h l a r i g e =
+    let s : Span = record { from = from; to = to } in
+    let f : Span = record { from = base; to = next } in
+    let old : (if in_span s i then true else is_covered spans i) ≡ true
+    = sym (ap (λ b. if in_span s i then true else if b then true else is_covered spans i) (before_it f i g)) ∙ sym (a i) ∙ e in
+    a (i + 1) ∙ both_reach (in_span s i) (is_covered spans i) (in_span s (i + 1)) (in_span f (i + 1)) (is_covered spans (i + 1)) old
+    (goes_on s i (omega (arith, g, h, l))) (r i g)
+
+one_reaches : (b c : Bool) → c ≡ true → (if b then true else c) ≡ true
+one_reaches true c e = refl
+one_reaches false c e = e
+
+reach_one : (base next : ℕ) (spans spans' : List Span) → Adds (record { from = base; to = next }) spans spans' → ReachBase base spans → ReachBase base spans'
+reach_one base next spans spans' a r i g e =
+    let f : Span = record { from = base; to = next } in
+    let old : is_covered spans i ≡ true = sym (ap (λ b. if b then true else is_covered spans i) (before_it f i g)) ∙ sym (a i) ∙ e in
+    a (i + 1) ∙ one_reaches (in_span f (i + 1)) (is_covered spans (i + 1)) (r i g old)
+
+ends_past : (base : ℕ) (s : Span) (spans : List Span) → AreApart 0 (s ∷ spans) → ReachBase base (s ∷ spans) → base < s.to
+ends_past base s spans a r = elim (cases_lt base s.to) [
+  | inl l ↦ l
+  | inr l ↦ absurd (
+      let last : is_covered (s ∷ spans) (s.to - 1) ≡ true = covered_in s spans (s.to - 1) (omega (arith, a.1)) (omega (arith, a.1)) in
+      let before : s.to - 1 < base = omega (arith, a.1, l) in
+      let e : s.to - 1 + 1 ≡ s.to = omega (arith, a.1) in
+      let there : is_covered (s ∷ spans) s.to ≡ true = subst (λ k. is_covered (s ∷ spans) k ≡ true) e (r (s.to - 1) before last) in
+      let none : is_covered (s ∷ spans) s.to ≡ false = ap (λ c. if c then true else is_covered spans s.to) (past_it s s.to (omega arith))
+      ∙ apart-before (s.to + 1) spans s.to a.2 (omega arith) in
+      let z : true ≡ false = sym there ∙ none in
+      cc)
+]
+
+-- ---- the spans from the base on
+
+record IsCut (base : ℕ) (spans cut : List Span) : Type 0 where
+  apart : AreApart base cut
+  same : (i : ℕ) → base ≤ i → is_covered cut i ≡ is_covered spans i
+  long : length cut ≡ length spans
+
+lt_max : (base from i : ℕ) → base ≤ i → nat_lt i (max base from) ≡ nat_lt i from
+lt_max base from i h = elim (cases_lt i from) [
+  | inl l ↦ lt-ltb i (max base from) (omega (arith, l)) ∙ sym (lt-ltb i from l)
+  | inr l ↦ le-ltb i (max base from) (omega (arith, l, h)) ∙ sym (le-ltb i from l)
+]
+
+cut_at : (base : ℕ) (spans : List Span) → AreApart 0 spans → ReachBase base spans → (cut : List Span) × IsCut base spans cut
+cut_at base [] a r = ([], record { apart = tt; same = λ i h. refl; long = refl })
+cut_at base (s ∷ spans) a r =
+    let m : base < s.to = ends_past base s spans a r in (
+      record { from = max base s.from; to = s.to } ∷ spans,
+      record {
+        apart = (omega arith, omega (arith, m, a.1), a.2);
+        same = λ i h. ap (λ c. if (if c then false else nat_lt i s.to) then true else is_covered spans i) (lt_max base s.from i h);
+        long = refl;
+      },
+    )
+
+-- If they don't touch what is before the next place, they are past it.
+all_past : (base next : ℕ) (spans : List Span) → AreApart 0 spans → ReachBase base spans → base ≤ next → IsAlone (record { from = base; to = next }) spans
+    → AreApart (next + 1) spans
+all_past base next [] a r h alone = tt
+all_past base next (s ∷ spans) a r h alone =
+    let m : base < s.to = ends_past base s spans a r in
+    let past : next + 1 ≤ s.from = elim (cases_lt next s.from) [
+      | inl l ↦ omega (arith, l)
+      | inr l ↦ absurd (
+          let k : ℕ = max s.from (base - 1) in
+          let here : is_covered (s ∷ spans) (max s.from (base - 1)) ≡ true = covered_in s spans (max s.from (base - 1)) (omega arith) (omega (arith, m, a.1)) in
+          let none : is_covered (s ∷ spans) (max s.from (base - 1)) ≡ false = alone (max s.from (base - 1)) (omega arith) (omega (arith, l, h)) in
+          let z : true ≡ false = sym here ∙ none in
+          cc)
+    ] in
+    (past, a.1, a.2)
+
+same_if : (b x y : Bool) → (b ≡ false → x ≡ y) → (if b then true else x) ≡ (if b then true else y)
+same_if true x y e = refl
+same_if false x y e = e refl
+
+-- ---- the table is full
+
+pub fills_both : (b : Bool) (s t : Span) (n n1 n2 : Noted) → n1.is_full ≡ b → NotesMore s n n1
+    → (n.is_full ≡ false → n1.is_full ≡ true → HasNoRoom s (spans_in n))
+    → (n1.is_full ≡ false → n2.is_full ≡ true → HasNoRoom t (spans_in n1)) → n.is_full ≡ false → n2.is_full ≡ true → HasNoRoomFor s t (spans_in n)
+fills_both true s t n n1 n2 e m f g o full = inl (f o e)
+fills_both false s t n n1 n2 e m f g o full = inr (spans_in n1, n1.apart, (m e).1, g e full)
+
+pub apart_noted : (o : Option Noted) → AreApart 0 (spans_noted o)
+apart_noted None = tt
+apart_noted (Some n) = n.apart
+
+pub none_covered : (spans : List Span) → AreApart 0 spans → ((i : ℕ) → is_covered spans i ≡ false) → spans ≡ []
+none_covered [] a z = refl
+none_covered (s ∷ spans) a z = absurd (let e : true ≡ false = sym (covered_in s spans s.from (omega arith) a.1) ∙ z s.from in cc)
+
+pub no_room : (segs : List Segment) (base next : ℕ) (s : Span) (spans : List Span) → AreApart 0 spans → ReachBase base spans
+    → ((i : ℕ) → next ≤ i → is_covered spans i ≡ is_captured segs i) → base ≤ next → HasNoRoomFor (record { from = base; to = next }) s spans
+    → (all : List Span) × AreTaken segs base next all × (1024 ≤ length all)
+no_room segs base next s spans a r c h (inl w) = elim (cases_lt base next) [
+  | inl l ↦ (
+    record { from = base; to = next } ∷ spans,
+    record {
+      apart = (omega arith, l, all_past base next spans a r h w.1);
+      covered = λ i b. ap (λ x. if x then true else is_covered spans i) (from_it (record { from = base; to = next }) i b)
+          ∙ same_if (nat_lt i next) (is_covered spans i) (is_captured segs i) (λ e. c i (ltb-false i next e));
+    },
+    omega (arith, w.0),
+  )
+  | inr l ↦ (
+      let cut = cut_at base spans a r in (
+        cut.0,
+        record {
+          apart = cut.1.apart;
+          covered = λ i b. (
+              let p : next ≤ i = omega (arith, l, b) in
+              cut.1.same i b ∙ c i p ∙ sym (ap (λ x. if x then true else is_captured segs i) (le-ltb i next p)));
+        },
+        omega (arith, w.0, cut.1.long),
+      ))
+]
+no_room segs base next s spans a r c h (inr w) =
+    let cut = cut_at base w.0 w.1 (reach_one base next spans w.0 w.2 r) in (
+      cut.0,
+      record {
+        apart = cut.1.apart;
+        covered = λ i b. cut.1.same i b ∙ w.2 i ∙ ap (λ x. if x then true else is_covered spans i) (from_it (record { from = base; to = next }) i b)
+            ∙ same_if (nat_lt i next) (is_covered spans i) (is_captured segs i) (λ e. c i (ltb-false i next e));
+      },
+      omega (arith, w.3, cut.1.long),
+    )
