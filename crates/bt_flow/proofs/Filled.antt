@@ -5,10 +5,10 @@ use Rattle.std.proofs.lemmas.Bool.{cases_lt, lt-ltb, le-ltb, ltb-false}
 use Rattle.bt_tcp.specs.declared.covered.Span.{Span}
 use Rattle.bt_tcp.specs.Covered.{in_span, is_covered, AreApart, Adds, IsAlone}
 use Rattle.bt_tcp.specs.Segments.{Segment}
-use Rattle.bt_tcp.proofs.CoveredProofs.{apart-before}
+use Rattle.bt_tcp.proofs.CoveredProofs.{apart-before, apart-less}
 use Rattle.bt_flow.specs.declared.noted.Noted.{Noted}
 use Rattle.bt_flow.specs.Notes.{spans_in, spans_noted, AddsBoth, NotesMore, HasNoRoom, HasNoRoomFor, ReachBase}
-use Rattle.bt_flow.specs.Flows.{is_captured, AreTaken}
+use Rattle.bt_flow.specs.Flows.{is_captured, LacksRoom}
 
 -- ---- a place and a span
 
@@ -142,38 +142,34 @@ pub none_covered : (spans : List Span) → AreApart 0 spans → ((i : ℕ) → i
 none_covered [] a z = refl
 none_covered (s ∷ spans) a z = absurd (let e : true ≡ false = sym (covered_in s spans s.from (omega arith) a.1) ∙ z s.from in cc)
 
+-- The segment touches no span from the base on.
+alone_from : (base : ℕ) (s : Span) (spans cut : List Span) → IsCut base spans cut → IsAlone s spans → IsAlone s cut
+alone_from base s spans cut c a i g h = elim (cases_lt i base) [
+  | inl l ↦ apart-before base cut i c.apart l
+  | inr l ↦ c.same i l ∙ a i g h
+]
+
 pub no_room : (segs : List Segment) (base next : ℕ) (s : Span) (spans : List Span) → AreApart 0 spans → ReachBase base spans
     → ((i : ℕ) → next ≤ i → is_covered spans i ≡ is_captured segs i) → base ≤ next → HasNoRoomFor (record { from = base; to = next }) s spans
-    → (all : List Span) × AreTaken segs base next all × (1024 ≤ length all)
-no_room segs base next s spans a r c h (inl w) = elim (cases_lt base next) [
-  | inl l ↦ (
-    record { from = base; to = next } ∷ spans,
-    record {
-      apart = (omega arith, l, all_past base next spans a r h w.1);
-      covered = λ i b. ap (λ x. if x then true else is_covered spans i) (from_it (record { from = base; to = next }) i b)
-          ∙ same_if (nat_lt i next) (is_covered spans i) (is_captured segs i) (λ e. c i (ltb-false i next e));
-    },
-    omega (arith, w.0),
-  )
-  | inr l ↦ (
-      let cut = cut_at base spans a r in (
-        cut.0,
-        record {
-          apart = cut.1.apart;
-          covered = λ i b. (
-              let p : next ≤ i = omega (arith, l, b) in
-              cut.1.same i b ∙ c i p ∙ sym (ap (λ x. if x then true else is_captured segs i) (le-ltb i next p)));
-        },
-        omega (arith, w.0, cut.1.long),
-      ))
-]
+    → LacksRoom segs base s next
+no_room segs base next s spans a r c h (inl w) = (
+  spans,
+  w.0,
+  inl (
+    sym (c next (omega arith)) ∙ w.1 next (omega (arith, h)) (omega arith),
+    record { apart = apart-less next (next + 1) spans (omega arith) (all_past base next spans a r h w.1); covered = c },
+  ),
+)
 no_room segs base next s spans a r c h (inr w) =
     let cut = cut_at base w.0 w.1 (reach_one base next spans w.0 w.2 r) in (
       cut.0,
-      record {
-        apart = cut.1.apart;
-        covered = λ i b. cut.1.same i b ∙ w.2 i ∙ ap (λ x. if x then true else is_covered spans i) (from_it (record { from = base; to = next }) i b)
-            ∙ same_if (nat_lt i next) (is_covered spans i) (is_captured segs i) (λ e. c i (ltb-false i next e));
-      },
-      omega (arith, w.3, cut.1.long),
+      cut.1.long ∙ w.3.0,
+      inr (
+        record {
+          apart = cut.1.apart;
+          covered = λ i b. cut.1.same i b ∙ w.2 i ∙ ap (λ x. if x then true else is_covered spans i) (from_it (record { from = base; to = next }) i b)
+              ∙ same_if (nat_lt i next) (is_covered spans i) (is_captured segs i) (λ e. c i (ltb-false i next e));
+        },
+        alone_from base s w.0 cut.0 cut.1 w.3.1,
+      ),
     )

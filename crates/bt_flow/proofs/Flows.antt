@@ -1,8 +1,7 @@
 -- What a direction has taken after a call.
-use Rattle.std.proofs.Common.{◌≡◌, ℕ, ◌+◌, ◌-◌, min, ◌<◌, ◌≤◌, ◌%◌, ◌^◌, Bool, true, false, List, [], ◌∷◌, ◌++◌, length, length-append, append_assoc, append-nil}
-use Rattle.std.proofs.Common.{refl, sym, ap, subst, ◌∙◌, arith, inl, inr}
+use Rattle.std.proofs.Common.{◌≡◌, ℕ, ◌+◌, ◌-◌, min, ◌<◌, ◌≤◌, ◌%◌, ◌^◌, Bool, true, false, List, [], ◌∷◌, ◌++◌, length}
+use Rattle.std.proofs.Common.{length-append, append_assoc, append-nil, refl, sym, ap, subst, ◌∙◌, arith, inl, inr}
 use Rattle.std.specs.Prelude.{Option, Some, None, unwrap_or, ◌⊎◌, if◌then◌else◌}
-use Rattle.bt_tcp.specs.declared.covered.Span.{Span}
 use Rattle.bt_tcp.specs.Covered.{is_covered}
 use Rattle.bt_tcp.specs.declared.halves.Half.{Half}
 use Rattle.bt_tcp.specs.Segments.{Segment}
@@ -22,7 +21,7 @@ use Rattle.bt_flow.proofs.Streams.{conflicts_none}
 use Rattle.bt_flow.specs.Counts.{counts}
 use Rattle.bt_flow.specs.Streams.{IsStreamOf, conflicts_with}
 use Rattle.bt_flow.specs.Flows.{has_bytes, AreQuiet, IsBaseOf, IsStreamFor, is_lost_stream, with_segment, sent_at, FlowTakes, BeginsAt, StreamsOnly}
-use Rattle.bt_flow.specs.Flows.{AreNotedFor, NotesIn, FillsIn, first_held, CountsMore, IsCounted, GivesUpLate, AreTaken, FillsLate}
+use Rattle.bt_flow.specs.Flows.{AreNotedFor, NotesIn, FillsIn, first_held, CountsMore, IsCounted, GivesUpLate, LacksRoom, FillsLate}
 
 quiet_more : (heard : List Heard) (e : Heard) → AreQuiet heard → has_bytes e ≡ false → AreQuiet (heard ++ e ∷ [])
 quiet_more [] e q h = (h, tt)
@@ -97,18 +96,26 @@ counted : (segs : List Segment) (out : List ℕ) (o : Option Stream) (at : ℕ) 
     → counts at (length bytes) ≡ true → CountsMore segs out o at bytes o' → IsCounted segs out o at bytes o'
 counted segs out o at bytes o' y m = (λ n. absurd (let z : true ≡ false = sym y ∙ n in cc), λ _. m)
 
-fills_same : (segs : List Segment) (out : List ℕ) (o : Option Stream) (n n' : Option Noted) → n' ≡ n → FillsLate segs out o n n'
-fills_same segs out None n n' e = tt
-fills_same segs out (Some s) n n' e = λ l x. absurd (let z : true ≡ false = sym x ∙ ap is_full e ∙ l in cc)
+fills_same : (segs : List Segment) (out : List ℕ) (o : Option Stream) (at : ℕ) (bytes : List ℕ) (n n' : Option Noted) → n' ≡ n
+    → FillsLate segs out o at bytes n n'
+fills_same segs out o at bytes n n' e = (λ l. ap is_full e ∙ l, λ l x. absurd (let z : true ≡ false = sym x ∙ ap is_full e ∙ l in cc))
 
-fills_late : (segs : List Segment) (out : List ℕ) (s : Stream) (next at «end» : ℕ) (n n' : Option Noted) → next_of s.window ≡ s.base + length out
-    → next ≤ next_of s.window → AreNoted segs s.base next n → FillsOne s.base (next_of s.window) (record { from = at; to = «end» }) n n'
-    → FillsLate segs out (Some s) n n'
-fills_late segs out s next at «end» n n' e l a f o full =
-    let old = a o in
-    subst (λ k. (spans : List Span) × AreTaken segs s.base k spans × (1024 ≤ length spans)) e
-    (no_room segs s.base (next_of s.window) (record { from = at; to = «end» }) (spans_noted n) (apart_noted n) old.1
-    (λ i h. old.0 i (omega (arith, l, h))) (omega (arith, e)) (f o full))
+stays_full : (b : Bool) (n n' : Option Noted) → is_full n' ≡ b → (is_full n' ≡ false → is_full n ≡ false) → is_full n ≡ true → is_full n' ≡ true
+stays_full true n n' e f l = e
+stays_full false n n' e f l = absurd (let z : true ≡ false = sym l ∙ f e in cc)
+
+fills_late : (segs : List Segment) (out : List ℕ) (s : Stream) (next at : ℕ) (bytes : List ℕ) (n n' : Option Noted)
+    → next_of s.window ≡ s.base + length out → next ≤ next_of s.window → AreNoted segs s.base next n
+    → NotesOne s.base (next_of s.window) (record { from = at; to = at + length bytes }) n n'
+    → FillsOne s.base (next_of s.window) (record { from = at; to = at + length bytes }) n n' → FillsLate segs out (Some s) at bytes n n'
+fills_late segs out s next at bytes n n' e l a m f = (
+  stays_full (is_full n') n n' refl (λ x. (m x).0),
+  λ o full. (
+      let old = a o in
+      subst (λ k. LacksRoom segs s.base (record { from = at; to = at + length bytes }) k) e
+      (no_room segs s.base (next_of s.window) (record { from = at; to = at + length bytes }) (spans_noted n) (apart_noted n) old.1
+      (λ i h. old.0 i (omega (arith, l, h))) (omega (arith, e)) (f o full))),
+)
 
 late_same : (out : List ℕ) (o : Option Stream) (at : ℕ) (bytes : List ℕ) (o' : Option Stream) → o' ≡ o → GivesUpLate out o at bytes o'
 late_same out o at bytes None e = tt
@@ -136,7 +143,7 @@ takes_quiet g flow given flow' at s m h n = record {
         },
         uncounted segs out flow.stream at g.payload.now flow'.stream n s,
         late_same out flow.stream at g.payload.now flow'.stream s,
-        fills_same segs (out ++ []) flow'.stream flow.noted flow'.noted m,
+        fills_same segs (out ++ []) flow'.stream at g.payload.now flow.noted flow'.noted m,
       ));
 }
 
@@ -154,7 +161,8 @@ record TakesBytes (at : ℕ) (bytes : List ℕ) (sent : Sent) (half : Half) (o :
       → AreNotedFor (segs ++ record { place = at; bytes = bytes } ∷ []) o' n'
   counted : (heard : List Heard) (segs : List Segment) (out : List ℕ) → IsStreamFor heard segs out o → CountsMore segs out o at bytes o'
   late : (heard : List Heard) (segs : List Segment) (out : List ℕ) → IsStreamFor heard segs out o → GivesUpLate out o at bytes o'
-  fills : (heard : List Heard) (segs : List Segment) (out : List ℕ) → IsStreamFor heard segs out o → AreNotedFor segs o n → FillsLate segs (out ++ more) o' n n'
+  fills : (heard : List Heard) (segs : List Segment) (out : List ℕ) → IsStreamFor heard segs out o → AreNotedFor segs o n
+      → FillsLate segs (out ++ more) o' at bytes n n'
 
 takes_bytes : (at : ℕ) (bytes : List ℕ) (sent : Sent) (flow : Flow) (o o1 : Option Stream) (more : List ℕ) (o2 : Option Stream)
     (n n' : Option Noted)
@@ -187,7 +195,7 @@ takes_bytes at bytes sent flow (Some s) (Some s1) more (Some s2) n n' y p b t w 
       let j = t.taken segs out (subst (λ x. IsStreamOf segs out x) (sym b) i.1) in
       let l : next_of s.window ≤ next_of s2.window = omega (arith, e, i.1.next_is, j.next_is, length-append out more) in
       let a2 : AreNoted segs s2.base (next_of s.window) n = subst (λ x. AreNoted segs x (next_of s.window) n) (sym e) a in
-      fills_late segs (out ++ more) s2 (next_of s.window) at (at + length bytes) n n' j.next_is l a2 q);
+      fills_late segs (out ++ more) s2 (next_of s.window) at bytes n n' j.next_is l a2 w q);
   late = λ heard segs out i l x. (
       let i1 : IsStreamOf segs out s1 = subst (λ x. IsStreamOf segs out x) (sym b) i.1 in
       omega (arith, t.lost (ap (λ x. x.is_lost) b ∙ l) x, i1.next_is, t.base));
@@ -226,8 +234,8 @@ takes_bytes at bytes sent flow None (Some s1) more (Some s2) n n' y p b t w q = 
       let i1 : IsStreamOf segs out s1 = subst (λ x. IsStreamOf segs x s1) (sym i.2) (subst (λ x. IsStreamOf x [] s1) (sym i.1) b.0) in
       let j = t.taken segs out i1 in
       let l : next_of s1.window ≤ next_of s2.window = omega (arith, t.base, i1.next_is, j.next_is, length-append out more) in
-      fills_late segs (out ++ more) s2 (next_of s1.window) at (at + length bytes) n n' j.next_is l
-      (noted_none segs s2.base (next_of s1.window) n i.1 a) q);
+      fills_late segs (out ++ more) s2 (next_of s1.window) at bytes n n' j.next_is l
+      (noted_none segs s2.base (next_of s1.window) n i.1 a) w q);
   late = λ heard segs out i l x. (
       let i1 : IsStreamOf segs out s1 = subst (λ x. IsStreamOf segs x s1) (sym i.2) (subst (λ x. IsStreamOf x [] s1) (sym i.1) b.0) in
       omega (arith, t.lost b.1 x, i1.next_is, t.base));
@@ -271,8 +279,8 @@ takes_counted g flow given more flow0 flow1 flow2 flow3 at u v w q m1 m0 s h y b
                 (r.counted heard segs out (subst (λ o. IsStreamFor heard segs out o) (sym s) i.stream)))),
             subst (λ o. GivesUpLate out flow.stream at g.payload.now o) (sym v) (subst (λ o. GivesUpLate out o at g.payload.now flow2.stream) s
                 (r.late heard segs out (subst (λ o. IsStreamFor heard segs out o) (sym s) i.stream))),
-            subst (λ o. FillsLate segs (out ++ more) o flow.noted flow3.noted) (sym v)
-                (subst (λ n. FillsLate segs (out ++ more) flow2.stream n flow3.noted) (m1 ∙ m0)
+            subst (λ o. FillsLate segs (out ++ more) o at g.payload.now flow.noted flow3.noted) (sym v)
+                (subst (λ n. FillsLate segs (out ++ more) flow2.stream at g.payload.now n flow3.noted) (m1 ∙ m0)
                 (r.fills heard segs out (subst (λ o. IsStreamFor heard segs out o) (sym s) i.stream)
                 (same_noted segs flow.stream flow0.stream flow.noted flow2.noted s (m1 ∙ m0) i.noted))),
           ));

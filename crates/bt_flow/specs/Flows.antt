@@ -1,9 +1,10 @@
 -- A direction: what was heard of it, the segments with data that it has taken, and the bytes that it has handed out.
-use Rattle.std.specs.Prelude.{◌≡◌, ℕ, ◌+◌, ◌<◌, ◌≤◌, ◌-◌, ◌^◌, ◌%◌, Bool, true, false, List, [], ◌∷◌, ◌++◌, length, Option, Some, None, ◌⊎◌, is_some, min, max, if◌then◌else◌, nat_lt}
+use Rattle.std.specs.Prelude.{◌≡◌, ℕ, ◌+◌, ◌<◌, ◌≤◌, ◌-◌, ◌^◌, ◌%◌, Bool, true, false, List, [], ◌∷◌, ◌++◌, length}
+use Rattle.std.specs.Prelude.{Option, Some, None, ◌⊎◌, is_some, min, max, if◌then◌else◌, nat_lt}
 use Rattle.bt_tcp.specs.Segments.{Segment, byte_at}
 use Rattle.bt_tcp.specs.History.{conflicts, first_known, kept}
 use Rattle.bt_tcp.specs.declared.covered.Span.{Span}
-use Rattle.bt_tcp.specs.Covered.{AreApart, AreGaps, is_covered, sent_end, no_gaps}
+use Rattle.bt_tcp.specs.Covered.{AreApart, AreGaps, IsAlone, is_covered, sent_end, no_gaps}
 use Rattle.bt_tcp.specs.declared.covered.Gaps.{Gaps}
 use Rattle.bt_tcp.specs.Heard.{Heard, Sent, Took, Acked, opening_of, high_of, fin_of, acked_of, sent_of, IsStart, IsAfterSyn}
 use Rattle.bt_tcp.specs.Halves.{IsHalf, IsOutOfRange}
@@ -81,13 +82,13 @@ abbrev pub first_held : Bool → List Segment → ℕ → List ℕ → ℕ → O
 first_held false segs base out = first_known segs base (base + length out)
 first_held true segs base out = kept base out
 
--- Those of its bytes are counted that differ from the first captured ones.
+-- Those bytes of a segment are counted that differ from the first captured ones.
 abbrev pub CountsMore : List Segment → List ℕ → Option Stream → ℕ → List ℕ → Option Stream → Type 0
 CountsMore segs out o at bytes None = ⊥
 CountsMore segs out o at bytes (Some s') =
     s'.conflicts ≡ min (2 ^ 64 - 1) (conflicts_in o + conflicts (first_held (is_lost_stream o) segs s'.base out) at bytes)
 
--- Only bytes that count change the stream, and their conflicts are counted.
+-- Bytes that don't count leave the stream as it is. Of others those are counted that differ.
 abbrev pub IsCounted : List Segment → List ℕ → Option Stream → ℕ → List ℕ → Option Stream → Type 0
 IsCounted segs out o at bytes o' =
     (counts at (length bytes) ≡ false → o' ≡ o) × (counts at (length bytes) ≡ true → CountsMore segs out o at bytes o')
@@ -104,22 +105,33 @@ is_captured segs i = is_some (byte_at segs i)
 abbrev pub is_taken : List Segment → ℕ → ℕ → Bool
 is_taken segs next i = if nat_lt i next then true else is_captured segs i
 
--- The taken places from the base on are these spans, which don't touch.
-pub record AreTaken (segs : List Segment) (base next : ℕ) (spans : List Span) : Type 0 where
-  pub apart : AreApart base spans
-  pub covered : (i : ℕ) → base ≤ i → is_covered spans i ≡ is_taken segs next i
+-- Such places, from one on, are these spans, which don't touch.
+pub record AreSpansOf (is_such : ℕ → Bool) (from : ℕ) (spans : List Span) : Type 0 where
+  pub apart : AreApart from spans
+  pub covered : (i : ℕ) → from ≤ i → is_covered spans i ≡ is_such i
 
--- A captured place isn't noted only if there were 1,024 spans of taken places before. Those handed out are one of them.
-abbrev pub FillsLate : List Segment → List ℕ → Option Stream → Option Noted → Option Noted → Type 0
-FillsLate segs out None n n' = Unit {0}
-FillsLate segs out (Some s) n n' =
-    is_full n ≡ false → is_full n' ≡ true → (spans : List Span) × AreTaken segs s.base (s.base + length out) spans × (1024 ≤ length spans)
+-- There is no room for a segment if 1,024 spans of captured places are past the next place,
+-- or if there are 1,024 spans of taken places, of which those handed out are one, and the segment touches none of them.
+abbrev pub LacksRoom : List Segment → ℕ → Span → ℕ → Type 0
+LacksRoom segs base s next =
+    (spans : List Span) × (length spans ≡ 1024) × (((is_captured segs next ≡ false) × AreSpansOf (is_captured segs) next spans)
+    ⊎ (AreSpansOf (is_taken segs next) base spans × IsAlone s spans))
+
+abbrev pub LacksRoomFor : List Segment → List ℕ → Option Stream → ℕ → List ℕ → Type 0
+LacksRoomFor segs out None at bytes = ⊥
+LacksRoomFor segs out (Some s) at bytes = LacksRoom segs s.base (record { from = at; to = at + length bytes }) (s.base + length out)
+
+-- The table of captured places becomes full only if it has no room for a segment. Then it stays full, and some of them aren't noted.
+abbrev pub FillsLate : List Segment → List ℕ → Option Stream → ℕ → List ℕ → Option Noted → Option Noted → Type 0
+FillsLate segs out o at bytes n n' =
+    (is_full n ≡ true → is_full n' ≡ true) × (is_full n ≡ false → is_full n' ≡ true → LacksRoomFor segs out o at bytes)
 
 -- The segment was taken at its place, or its place is out of range and nothing has changed.
 abbrev pub HasTaken : Given → List Heard → List Segment → List ℕ → Flow → List ℕ → Flow → Type 0
 HasTaken g heard segs out flow more flow' =
-    ((at : ℕ) × IsFlow (heard ++ Took (sent_at g at) ∷ []) (with_segment segs at g.payload.now) (out ++ more) flow' × IsCounted segs out flow.stream at g.payload.now flow'.stream
-    × GivesUpLate out flow.stream at g.payload.now flow'.stream × FillsLate segs (out ++ more) flow'.stream flow.noted flow'.noted)
+    ((at : ℕ) × IsFlow (heard ++ Took (sent_at g at) ∷ []) (with_segment segs at g.payload.now) (out ++ more) flow'
+    × IsCounted segs out flow.stream at g.payload.now flow'.stream × GivesUpLate out flow.stream at g.payload.now flow'.stream
+    × FillsLate segs (out ++ more) flow'.stream at g.payload.now flow.noted flow'.noted)
     ⊎ (IsOutOfRange flow.half ((g.sequence + (if g.syn then 1 else 0)) % 2 ^ 32) (length g.payload.now) g.length × (more ≡ []) × IsFlow heard segs out flow'
     × (flow'.stream ≡ flow.stream) × (flow'.noted ≡ flow.noted))
 
@@ -165,7 +177,8 @@ gaps_end heard o next = sent_end (spans_noted o) (sent_of heard (max next (high_
 abbrev pub AreGapsAt : List Heard → List Segment → Flow → Option ℕ → Gaps → Type 0
 AreGapsAt heard segs flow None gaps = gaps ≡ no_gaps
 AreGapsAt heard segs flow (Some next) gaps =
-    is_full flow.noted ≡ false → (base : ℕ) × (found : Gaps) × IsBaseNow heard flow.stream (Some base) × AreGaps (is_captured segs) next (gaps_end heard flow.noted next) found × (gaps ≡ from_base base found)
+    is_full flow.noted ≡ false → (base : ℕ) × (found : Gaps) × IsBaseNow heard flow.stream (Some base)
+    × AreGaps (is_captured segs) next (gaps_end heard flow.noted next) found × (gaps ≡ from_base base found)
 
 abbrev pub AreGapsOf : List Heard → List Segment → List ℕ → Flow → Gaps → Type 0
 AreGapsOf heard segs out flow gaps = (place : Option ℕ) × IsPlaceNow heard out flow.stream place × AreGapsAt heard segs flow place gaps
@@ -181,7 +194,9 @@ abbrev pub BeginsAt : ℕ → Flow → Option Stream → Option Stream → Type 
 BeginsAt at flow (Some s) (Some s') = s' ≡ s
 BeginsAt at flow (Some s) None = ⊥
 BeginsAt at flow None None = ⊥
-BeginsAt at flow None (Some s) = IsStreamOf [] [] s × (s.is_lost ≡ false) × (s.conflicts ≡ 0) × ((heard : List Heard) → IsHalf heard flow.half → IsAfterSyn heard s.base ⊎ ((opening_of heard ≡ None) × (s.base ≡ at)))
+BeginsAt at flow None (Some s) =
+    IsStreamOf [] [] s × (s.is_lost ≡ false) × (s.conflicts ≡ 0)
+    × ((heard : List Heard) → IsHalf heard flow.half → IsAfterSyn heard s.base ⊎ ((opening_of heard ≡ None) × (s.base ≡ at)))
 
 abbrev pub Begins : ℕ → Flow → Flow → Type 0
 Begins at flow flow' = BeginsAt at flow flow.stream flow'.stream

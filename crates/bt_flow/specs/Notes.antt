@@ -46,7 +46,8 @@ is_full (Some n) = n.is_full
 -- Only places from the next one on matter.
 abbrev pub NotesOne : ℕ → ℕ → Span → Option Noted → Option Noted → Type 0
 NotesOne base next s o o' =
-    is_full o' ≡ false → (is_full o ≡ false) × ((i : ℕ) → next ≤ i → is_covered (spans_noted o') i ≡ (if in_span s i then true else is_covered (spans_noted o) i))
+    is_full o' ≡ false → (is_full o ≡ false)
+    × ((i : ℕ) → next ≤ i → is_covered (spans_noted o') i ≡ (if in_span s i then true else is_covered (spans_noted o) i))
     × (base ≤ next → ReachBase base (spans_noted o) → ReachBase base (spans_noted o'))
 
 -- The table becomes full only if there is no room for what was handed out, as a span, or for the new one beside it.
