@@ -23,13 +23,13 @@ by_taken g opening p flow given flow' given' t (inl h) = record {
     front = if opening then p.out ++ t.more else p.front;
   };
   is = h.1;
-  adds = record { more = t.more; out = refl; front = refl; lost = t.none; added = inl (h.0, refl, refl, h.2, h.3) };
+  adds = record { more = t.more; out = refl; front = refl; lost = t.none; added = inl (h.0, refl, refl, h.2, h.3, h.4) };
   out = t.is;
 }
 by_taken g opening p flow given flow' given' t (inr h) = record {
   past = record { heard = p.heard; segs = p.segs; out = p.out ++ t.more; front = if opening then p.out ++ t.more else p.front };
   is = subst (λ l. IsFlow p.heard p.segs l flow') (sym (ap (λ l. p.out ++ l) h.1 ∙ append-nil p.out)) h.2;
-  adds = record { more = t.more; out = refl; front = refl; lost = t.none; added = inr (h.0, h.1, refl, refl) };
+  adds = record { more = t.more; out = refl; front = refl; lost = t.none; added = inr (h.0, h.1, refl, refl, h.3, h.4) };
   out = t.is;
 }
 
