@@ -7,7 +7,8 @@ use Rattle.bt_remarks.specs.declared.events.Side.{Side}
 use Rattle.bt_remarks.specs.declared.events.Side.TheVariants.{A, B}
 use Rattle.bt_packet.specs.declared.tcp.Segment.{Segment}
 use Rattle.bt_wire.specs.declared.item.Item.{Item}
-use Rattle.bt_remarks.specs.Said.{Told}
+use Rattle.bt_remarks.specs.Said.{Told, other}
+use Rattle.bt_flow.specs.declared.flow.Flow.{Flow}
 use Rattle.bt_talk.specs.declared.closing.When.{When}
 use Rattle.bt_talk.specs.declared.closing.Closing.{Closing}
 use Rattle.bt_talk.specs.declared.direction.Direction.{Direction}
@@ -25,9 +26,10 @@ use Rattle.bt_talk.specs.Rows.{Shown, is_item}
 use Rattle.bt_talk.specs.Shown.{AreTurnRows}
 use Rattle.bt_talk.specs.Shows.{Appends}
 use Rattle.bt_talk.specs.Stages.{IsDirection, IsHeard, is_opening}
-use Rattle.bt_talk.specs.Talks.{IsTalk, Takes, IsSender, Shows, HasSettled, is_in_opening, flow_of, cut_of, of_side}
+use Rattle.bt_talk.specs.Talks.{IsTalk, Takes, IsSender, Says, Shows, HasSettled, direction_of, is_in_opening, flow_of, cut_of, of_side}
 use Rattle.bt_talk.specs.Watching.{IsWatched}
 use Rattle.bt_talk.proofs.Closes.{closes_same}
+use Rattle.bt_talk.proofs.Saying.{says_same, stages_same}
 use Rattle.bt_talk.proofs.Shown.{appends_more, appends_same, rows_same}
 use Rattle.bt_talk.proofs.Talks.{end_same, flow_same, sent_same, both_same}
 use Rattle.bt_talk.proofs.Watching.{watched_same}
@@ -99,6 +101,15 @@ opening_alike t u i = ap (λ (d : Direction). is_opening d.stage) i.a
 pub sender_alike : (s : Segment) (t u : Talk) (side : Side) → Alike t u → IsSender s t side → IsSender s u side
 sender_alike s t u side i k = subst (λ (e : Ends). (side ≡ A) ↔ (s.source ≡ e.a)) (sym i.ends) k
 
+stages_alike : (t u : Talk) → Alike t u → (side : Side) → (direction_of side u).stage ≡ (direction_of side t).stage
+stages_alike t u i side = stages_same side t u (ap (λ (d : Direction). d.stage) i.a) (ap (λ (d : Direction). d.stage) i.b)
+
+pub says_alike : (s : Segment) (side : Side) (a b a' b' : Past) (t t' u u' : Talk) → Alike t u → Alike t' u' → Says s side a b a' b' t t'
+    → Says s side a b a' b' u u'
+says_alike s side a b a' b' t t' u u' i k x =
+    says_same s side a b a' b' t t' u u' (stages_alike t u i) (stages_alike t' u' k) (λ j. flow_same j t' u' k.a k.b)
+    (λ events items w. watched_alike events items u t (alike_back t u i) w) (λ events items w. watched_alike events items t' u' k w) x
+
 -- A segment was taken.
 abbrev pub takes_alike : (s : Segment) (when : When) (a b : Past) (t t' u u' : Talk) → Alike t u → Alike t' u' → Takes s when a b t t' → Takes s when a b u u'
 takes_alike s when a b t t' u u' i k x =
@@ -125,6 +136,9 @@ takes_alike s when a b t t' u u' i k x =
           both_same side t' u' k.a k.b ∙ x.cut side
           ∙ ap (λ (c : Closing). cut_after s.flags c.closed (length (of_side side x.a' x.b').out) (cut_of side t)) (sym i.closing)
           ∙ ap (λ (n : _). cut_after s.flags u.closing.closed (length (of_side side x.a' x.b').out) n) (sym (both_same side t u i.a i.b));
+      stream = ap (λ (f : Flow). f.stream) (flow' (other x.side)) ∙ x.stream ∙ ap (λ (f : Flow). f.stream) (sym (flow (other x.side)));
+      noted = ap (λ (f : Flow). f.noted) (flow' (other x.side)) ∙ x.noted ∙ ap (λ (f : Flow). f.noted) (sym (flow (other x.side)));
+      said = λ o. says_alike s x.side a b x.a' x.b' t t' u u' i k (x.said (sym (opening_alike t u i) ∙ o));
     }
 
 -- ---- rows
@@ -135,6 +149,7 @@ pub shows_alike : (s : Segment) (when when' : When) (t t' u u' : Talk) (r r' q q
 shows_alike s when when' t t' u u' r r' q q' i k e f g x = record {
   side = x.side;
   is_side = sender_alike s u t x.side (alike_back t u i) x.is_side;
+  known = x.known;
   items = x.items;
   others = x.others;
   no_item = x.no_item;
@@ -143,9 +158,8 @@ shows_alike s when when' t t' u u' r r' q q' i k e f g x = record {
       let rows = y.0 in (
         rows,
         record {
-          known = y.1.known;
           watched = watched_alike _ _ u' t' (alike_back t' u' k) y.1.watched;
-          shown = rows_same r.heading q.heading when when' x.side x.side y.1.known y.1.known x.items events rows (ap (λ (z : Rows). z.heading) f) e refl refl
+          shown = rows_same r.heading q.heading when when' x.side x.side x.known x.known x.items events rows (ap (λ (z : Rows). z.heading) f) e refl refl
               y.1.shown;
         },
         appends_same (rows ++ x.others) q q' r r' (sym f) (sym g) y.2,

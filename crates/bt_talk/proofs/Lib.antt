@@ -8,6 +8,7 @@ pub mod Items
 pub mod Cuts
 pub mod Replays
 pub mod Talks
+pub mod Saying
 pub mod Sent
 pub mod Closes
 pub mod AskedItems

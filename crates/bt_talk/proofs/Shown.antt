@@ -82,21 +82,21 @@ rows_more (x ∷ xs) events w w' took i =
 
 -- A side's turn came, and then its items.
 pub shown_by : (side : Side) (known : Bool) (more : List (ℕ × Item)) (w v w' : Watch) → v ≡ record w { side = side; known = known } → Took Watches v more w'
-    → GoesShown side more w w'
+    → GoesShown side known more w w'
 shown_by side known more w v w' e took = λ events items i.
     let to : Watch = record w { side = side; known = known } in
     let t = subst (λ (k : Watch). Took Watches k more w') e took in
     let rs = rows_more more events to w' t i.matched in (
       rs.0,
-      record { known = known; watched = watched_more more events items to w' t (turned side known events items w i); shown = rs.1 },
+      record { watched = watched_more more events items to w' t (turned side known events items w i); shown = rs.1 },
       rs.2,
       rs.3,
     )
 
-pub shown_nowhere : (side : Side) (w : Watch) → GoesShown side [] w w
-shown_nowhere side w = λ events items i. (
+pub shown_nowhere : (side : Side) (known : Bool) (w : Watch) → GoesShown side known [] w w
+shown_nowhere side known w = λ events items i. (
   [],
-  record { known = true; watched = nothing_watched side events items w i; shown = refl },
+  record { watched = nothing_watched side events items w i; shown = refl },
   appends_none w.rows,
   refl,
 )

@@ -29,16 +29,15 @@ AreItemRows h when side known (x ∷ xs) events (r ∷ rs) =
     IsItemRow h when side known x events r × AreItemRows h when side known xs (told_of side known x ∷ events) rs
 
 -- Further items of a side came with this packet. They follow the events that came before, and these rows show them.
-pub record IsShown (h : Heading) (when : When) (side : Side) (more : List (ℕ × Item)) (events : List Told) (items : Side → List (ℕ × Item)) (w' : Watch)
-    (rows : List Shown) : Type 0 where
-  pub known : Bool
+pub record IsShown (h : Heading) (when : When) (side : Side) (known : Bool) (more : List (ℕ × Item)) (events : List Told)
+    (items : Side → List (ℕ × Item)) (w' : Watch) (rows : List Shown) : Type 0 where
   pub watched : IsWatched (tell side known more events) (with_items side more items) w'
   pub shown : AreItemRows h when side known more events rows
 
 -- Further items of a side came, and their rows.
-abbrev pub GoesShown : Side → List (ℕ × Item) → Watch → Watch → Type 0
-GoesShown side more w w' = (events : List Told) (items : Side → List (ℕ × Item)) → IsWatched events items w
-    → (rows : List Shown) × IsShown w.rows.heading w.when side more events items w' rows × Appends rows w.rows w'.rows × (w'.when ≡ w.when)
+abbrev pub GoesShown : Side → Bool → List (ℕ × Item) → Watch → Watch → Type 0
+GoesShown side known more w w' = (events : List Told) (items : Side → List (ℕ × Item)) → IsWatched events items w
+    → (rows : List Shown) × IsShown w.rows.heading w.when side known more events items w' rows × Appends rows w.rows w'.rows × (w'.when ≡ w.when)
 
 -- ---- the opening, which is judged at its end
 

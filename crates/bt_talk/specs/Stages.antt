@@ -1,8 +1,10 @@
 -- How far one direction is: in the opening its bytes are kept, after that they are judged.
 use Rattle.bt_talk.specs.declared.terms.Terms.{Terms}
-use Rattle.std.specs.Prelude.{◌≡◌, ℕ, Bool, true, false, List, [], ◌++◌, drop, Option, Some, None}
+use Rattle.std.specs.Prelude.{◌≡◌, ℕ, Bool, true, false, not, List, [], ◌++◌, drop, Option, Some, None}
 use Rattle.bt_ext.specs.declared.ids.Rules.TheVariants.{Free}
 use Rattle.bt_feed.specs.Pumps.{Took}
+use Rattle.bt_flow.specs.declared.flow.Flow.{Flow}
+use Rattle.bt_flow.specs.Flows.{HasHole}
 use Rattle.bt_intro.specs.Hearing.{IsHeardOf}
 use Rattle.bt_intro.specs.Hellos.{IsFirstHello}
 use Rattle.bt_judge.specs.Judges.{under}
@@ -46,6 +48,16 @@ IsRefusedIn (Opening front) p r = r ≡ None
 IsRefusedIn (Open judged) p r = (start : ℕ) × IsFirstHello p.front start × IsStanding (under Free judged.value.receiver.own) (drop start p.out) r
 IsRefusedIn Stranger p r = r ≡ None
 
+abbrev pub IsKnownBy : Option Refusal → Past → Flow → Bool → Type 0
+IsKnownBy (Some r) p flow known = known ≡ false
+IsKnownBy None p flow known = (hole : Bool) × HasHole p.heard p.out flow.stream hole × (known ≡ not hole)
+
+-- All that the side has said up to here is known, if its stream is judged and isn't refused, and no byte that it has sent is missing.
+abbrev pub IsKnown : Stage → Past → Flow → Bool → Type 0
+IsKnown (Opening front) p flow known = known ≡ false
+IsKnown (Open judged) p flow known = (r : Option Refusal) × IsRefusedIn (Open judged) p r × IsKnownBy r p flow known
+IsKnown Stranger p flow known = known ≡ false
+
 -- This was captured of a side, and this of the other one.
 pub record IsDirection (terms : Terms) (p other : Past) (d : Direction) : Type 0 where
   pub flow : IsFlowOf p d.flow
@@ -66,9 +78,10 @@ AreItemsIn Stranger p xs = xs ≡ []
 abbrev pub Speaks : Stage → Past → Watch → Stage → Past → Watch → Type 0
 Speaks s p w s' q w' = (xs : List (ℕ × Item)) → AreItemsIn s p xs → (more : List (ℕ × Item)) × AreItemsIn s' q (xs ++ more) × Took Watches w more w'
 
--- as before, in a turn of that side
-abbrev pub SpeaksAs : Side → Stage → Past → Watch → Stage → Past → Watch → Type 0
-SpeaksAs side s p w s' q w' = (xs : List (ℕ × Item)) → AreItemsIn s p xs → (more : List (ℕ × Item)) × AreItemsIn s' q (xs ++ more) × GoesShown side more w w'
+-- as before, in a turn of that side; all that the other side has said up to here is known, or it isn't
+abbrev pub SpeaksAs : Side → Bool → Stage → Past → Watch → Stage → Past → Watch → Type 0
+SpeaksAs side known s p w s' q w' = (xs : List (ℕ × Item)) → AreItemsIn s p xs
+    → (more : List (ℕ × Item)) × AreItemsIn s' q (xs ++ more) × GoesShown side known more w w'
 
 -- What was judged of both sides, and what is kept of it.
 pub record IsHeard (p q : Past) (s s' : Stage) (w : Watch) : Type 0 where

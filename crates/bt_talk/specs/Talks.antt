@@ -20,7 +20,7 @@ use Rattle.bt_talk.specs.declared.ends.Ends.{Ends}
 use Rattle.bt_talk.specs.declared.closing.Closing.{Closing}
 use Rattle.bt_talk.specs.declared.closing.When.{When}
 use Rattle.bt_wire.specs.declared.item.Item.{Item}
-use Rattle.bt_talk.specs.Watching.{IsWatched}
+use Rattle.bt_talk.specs.Watching.{IsWatched, tell, with_items}
 use Rattle.bt_talk.specs.Rows.{Shown, is_item}
 use Rattle.bt_talk.specs.Shows.{Appends}
 use Rattle.bt_talk.specs.Shown.{AreTurnRows, GoesShown, IsShown, Turn, items_by, told_by}
@@ -28,7 +28,7 @@ use Rattle.bt_talk.specs.Closing.{Closes}
 use Rattle.bt_talk.specs.Courses.{end_of, gap_rows}
 use Rattle.bt_talk.specs.Cuts.{cut_length, cut_after}
 use Rattle.bt_talk.specs.Replays.{HasOpened}
-use Rattle.bt_talk.specs.Stages.{IsDirection, IsHeard, is_opening}
+use Rattle.bt_talk.specs.Stages.{AreItemsIn, IsDirection, IsHeard, IsKnown, is_opening}
 
 abbrev pub direction_of : Side → Talk → Direction
 direction_of A t = t.a
@@ -96,7 +96,7 @@ pub record IsEnd (a b : Past) (segments : ℕ) (over : Bool) : Type 0 where
 
 -- ---- a segment
 
--- A segment of the first side changes both.
+-- A segment of the first side changes both. Of the other side's stream it changes nothing.
 pub record Turns (s : Segment) (terms : Terms) (p q : Past) (d e d' e' : Direction) : Type 0 where
   pub p' : Past
   pub q' : Past
@@ -104,6 +104,8 @@ pub record Turns (s : Segment) (terms : Terms) (p q : Past) (d e d' e' : Directi
   pub q_is : IsDirection terms q' p' e'
   pub sent : HasSent s (is_opening d.stage) p d.flow p' d'.flow
   pub acked : IsAcked s q q'
+  pub stream : e'.flow.stream ≡ e.flow.stream
+  pub noted : e'.flow.noted ≡ e.flow.noted
 
 -- This side sent the segment.
 abbrev pub IsSender : Segment → Talk → Side → Type 0
@@ -113,19 +115,40 @@ IsSender s t side = (side ≡ A) ↔ (s.source ≡ t.ends.a)
 pub record HasSaid (s : Segment) (t t' : Talk) : Type 0 where
   pub side : Side
   pub is_side : IsSender s t side
+  pub known : Bool
   pub items : List (ℕ × Item)
-  pub follow : GoesShown side items t.watch t'.watch
+  pub follow : GoesShown side known items t.watch t'.watch
+
+-- all that a side has said up to here is known, or it isn't
+abbrev pub IsKnownOf : Side → Past → Past → Talk → Bool → Type 0
+IsKnownOf side a b t known = IsKnown (direction_of side t).stage (of_side side a b) (flow_of side t) known
+
+-- These are the items that were judged of a side.
+abbrev pub AreItemsOf : Side → Past → Past → Talk → List (ℕ × Item) → Type 0
+AreItemsOf side a b t xs = AreItemsIn (direction_of side t).stage (of_side side a b) xs
+
+-- These items of this side, which sent the segment, follow those that it has sent before, and all events that came before, of both sides.
+-- All that the other side has said is known or it isn't, once it was heard what the segment acknowledges.
+pub record Says (s : Segment) (side : Side) (a b a' b' : Past) (t t' : Talk) : Type 0 where
+  pub items : List (ℕ × Item)
+  pub known : Bool
+  pub known_is : s.flags.rst ≡ false → IsKnownOf (other side) a' b' t' known
+  pub are : (before : Side → List (ℕ × Item)) → ((k : Side) → AreItemsOf k a b t (before k))
+      → (k : Side) → AreItemsOf k a' b' t' (with_items side items before k)
+  pub follow : (events : List Told) (before : Side → List (ℕ × Item)) → IsWatched events before t.watch
+      → IsWatched (tell side known items events) (with_items side items before) t'.watch
 
 -- The sender's items that a segment completes follow all events that came before, of both sides. Rows are appended: one for each item,
 -- in order, and then others, which show no item.
 pub record Shows (s : Segment) (when : When) (t t' : Talk) (r r' : Rows) : Type 0 where
   pub side : Side
   pub is_side : IsSender s t side
+  pub known : Bool
   pub items : List (ℕ × Item)
   pub others : List Shown
   pub no_item : filter is_item others ≡ []
   pub follow : (events : List Told) (before : Side → List (ℕ × Item)) → IsWatched events before t.watch
-      → (rows : List Shown) × IsShown r.heading when side items events before t'.watch rows × Appends (rows ++ others) r r'
+      → (rows : List Shown) × IsShown r.heading when side known items events before t'.watch rows × Appends (rows ++ others) r r'
 
 -- One side sent a segment.
 pub record Exchanges (s : Segment) (a b : Past) (t t' : Talk) : Type 0 where
@@ -136,6 +159,9 @@ pub record Exchanges (s : Segment) (a b : Past) (t t' : Talk) : Type 0 where
   pub is : IsTalk a' b' t'
   pub sent : HasSent s (is_in_opening t) (of_side side a b) (flow_of side t) (of_side side a' b') (flow_of side t')
   pub acked : IsAcked s (of_side (other side) a b) (of_side (other side) a' b')
+  pub stream : (flow_of (other side) t').stream ≡ (flow_of (other side) t).stream
+  pub noted : (flow_of (other side) t').noted ≡ (flow_of (other side) t).noted
+  pub said : Says s side a b a' b' t t'
 
 -- The opening is over, or it isn't.
 pub record Settles (a b : Past) (t t' : Talk) : Type 0 where
@@ -159,6 +185,9 @@ pub record Takes (s : Segment) (when : When) (a b : Past) (t t' : Talk) : Type 0
   pub after : is_in_opening t ≡ false → is_in_opening t' ≡ false
   pub closes : Closes s when side a' b' (flow_of A t') (flow_of B t') (closing_of t) (closing_of t')
   pub cut : (k : Side) → cut_of k t' ≡ cut_after s.flags (closing_of t).closed (length (of_side k a' b').out) (cut_of k t)
+  pub stream : (flow_of (other side) t').stream ≡ (flow_of (other side) t).stream
+  pub noted : (flow_of (other side) t').noted ≡ (flow_of (other side) t).noted
+  pub said : is_in_opening t ≡ false → Says s side a b a' b' t t'
 
 -- ---- rows of the opening, and of gaps
 

@@ -14,7 +14,7 @@ ghost use Rattle.bt_talk.specs.Pasts.{Past, no_past, IsFlowOf, Adds};
 ghost use Rattle.bt_talk.specs.Sent.{IsReady};
 ghost use Rattle.bt_talk.specs.Receivers.{IsReceiver, IsJudgedBy, IsReceiverNow, AreItems, AreVerdicts};
 ghost use Rattle.bt_talk.specs.Replays.{IsReplay, IsOpenedBy};
-ghost use Rattle.bt_talk.specs.Stages.{IsDirection, IsStage, AreItemsIn, Speaks, is_opening, receiver_in, IsRefusedIn};
+ghost use Rattle.bt_talk.specs.Stages.{IsDirection, IsStage, AreItemsIn, Speaks, is_opening, receiver_in, IsRefusedIn, IsKnown};
 ghost use Rattle.bt_talk.specs.Cuts.{IsCutBy, IsLastBefore, cut_length};
 ghost use Rattle.bt_talk.specs.Watching.{IsLast, Watches};
 
@@ -181,6 +181,8 @@ impl Direction {
             → (at : ℕ) × IsDirection terms (record p { heard = p.heard ++ Acked (record { number = acked; opens = opens; place = at }) ∷ [] }) other self.new }
         ensures stage { self.new.stage ≡ self.old.stage }
         ensures cut { self.new.cut ≡ self.old.cut }
+        ensures stream { self.new.flow.stream ≡ self.old.flow.stream }
+        ensures noted { self.new.flow.noted ≡ self.old.flow.noted }
     {
         self.flow.hear(acked, opens);
     }
@@ -274,7 +276,9 @@ impl Direction {
     }
 
     /// Tells whether all that this side has said up to here is known.
-    pub(crate) fn is_known(&self) -> bool {
+    pub(crate) fn is_known(&self) -> bool
+        ensures { (terms : Terms) (p other : Past) → IsDirection terms p other self.now → IsKnown self.now.stage p self.now.flow result }
+    {
         match &self.stage {
             Stage::Opening(_) => false,
             Stage::Open(judged) => judged.is_known() && !self.flow.has_hole(),

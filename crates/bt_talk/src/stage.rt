@@ -1,10 +1,13 @@
 //! What is done with the bytes of one direction: in the opening they are kept, after that they are judged.
-ghost use Rattle.std.specs.Prelude.{◌≡◌, ◌<◌, ◌≤◌, ◌++◌, ℕ, List, length, OnOk, IfSome, Option};
+ghost use Rattle.std.specs.Prelude.{◌≡◌, ◌<◌, ◌≤◌, ◌++◌, ℕ, List, length, not, OnOk, IfSome, Option, is_some};
+ghost use Rattle.bt_ext.specs.declared.ids.Rules.TheVariants.{Free};
 ghost use Rattle.bt_feed.specs.Pumps.{Took};
 ghost use Rattle.bt_intro.specs.Hearing.{IsHeardOf};
-ghost use Rattle.bt_judge.specs.Judges.{AreJudged};
+ghost use Rattle.bt_judge.specs.Judges.{AreJudged, under};
+ghost use Rattle.bt_judge.specs.Readings.{IsStanding};
 ghost use Rattle.bt_wire.specs.declared.context.Own.{Own};
 ghost use Rattle.bt_wire.specs.declared.item.Item.{Item};
+ghost use Rattle.bt_wire.specs.declared.item.Refusal.{Refusal};
 ghost use Rattle.bt_talk.specs.Pasts.{Past};
 ghost use Rattle.bt_talk.specs.Receivers.{IsReceiver};
 ghost use Rattle.bt_talk.specs.Cuts.{IsLastIn};
@@ -30,7 +33,10 @@ pub(crate) struct Judged {
 
 impl Judged {
     /// Tells whether the stream isn't refused under the lenient rules.
-    pub(crate) fn is_known(&self) -> bool {
+    pub(crate) fn is_known(&self) -> bool
+        ensures { (own : Own) (b : List ℕ) (xs ys : List (ℕ × Item)) → AreJudged own b xs ys self.now.judge
+            → (r : Option Refusal) × IsStanding (under Free own) b r × (result ≡ not (is_some r)) }
+    {
         self.judge.refusal().is_none()
     }
 

@@ -1,11 +1,11 @@
 //! One captured connection.
 ghost use Rattle.bt_talk.specs.declared.terms.Terms.{Terms};
-ghost use Rattle.std.specs.Prelude.{◌≡◌, [], List, true, false, length, IfOk, OnOk, OnErr, Option, alloc_error};
+ghost use Rattle.std.specs.Prelude.{◌≡◌, [], Bool, List, true, false, length, IfOk, OnOk, OnErr, Option, alloc_error};
 ghost use Rattle.bt_talk.specs.Pasts.{Past, no_past, IsAcked, given_of as given_by};
 ghost use Rattle.bt_talk.specs.Sent.{IsReady, is_wanted};
 ghost use Rattle.bt_remarks.specs.declared.events.Side.{Side};
 ghost use Rattle.bt_remarks.specs.declared.events.Side.TheVariants.{A, B};
-ghost use Rattle.bt_talk.specs.Stages.{IsDirection, SpeaksAs, is_opening};
+ghost use Rattle.bt_talk.specs.Stages.{IsDirection, IsKnown, SpeaksAs, is_opening};
 ghost use Rattle.bt_talk.specs.Talks.{is_over as is_over_by, IsEnd, Turns};
 
 use crate::closing::{Closed, Closing, When, is_end};
@@ -50,6 +50,8 @@ fn hear(to: &mut Direction, segment: &Segment)
         → (q : Past) × IsDirection terms q other to.new × IsAcked segment.now p q × (q.front ≡ p.front) }
     ensures stage { to.new.stage ≡ to.old.stage }
     ensures cut { to.new.cut ≡ to.old.cut }
+    ensures stream { to.new.flow.stream ≡ to.old.flow.stream }
+    ensures noted { to.new.flow.noted ≡ to.old.flow.noted }
 {
     if let Some(acked) = segment.acked {
         to.hear(acked, segment.flags.syn);
@@ -70,7 +72,8 @@ fn turn(
 ) -> Result<(), AllocError>
     ensures taken { OnOk result ((terms : Terms) (p q : Past) → IsDirection terms p q from.old → IsDirection terms q p to.old
         → is_opening from.old.stage ≡ is_opening to.old.stage → (t : Turns segment.now terms p q from.old to.old from.new to.new)
-        × SpeaksAs side from.old.stage p watch.old from.new.stage t.p' watch.new
+        × ((known : Bool) × (segment.now.flags.rst ≡ false → IsKnown to.new.stage t.q' to.new.flow known)
+        × SpeaksAs side known from.old.stage p watch.old from.new.stage t.p' watch.new)
         × (room.old.out.items ≡ [] → IsReady (is_opening from.old.stage) (is_wanted side room.old.wanted) p t.p' room.new.out.items)) }
     ensures from { OnOk result (is_opening from.new.stage ≡ is_opening from.old.stage) }
     ensures to { OnOk result (to.new.stage ≡ to.old.stage) }

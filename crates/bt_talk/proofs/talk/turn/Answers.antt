@@ -1,4 +1,4 @@
-use Rattle.std.proofs.Common.{◌∙◌, ℕ, Bool, List, [], append-nil, refl, sym, ap, subst}
+use Rattle.std.proofs.Common.{◌≡◌, ◌∙◌, ℕ, Bool, true, false, List, [], append-nil, refl, sym, ap, subst}
 use Rattle.bt_flow.specs.declared.flow.Given.{Given}
 use Rattle.bt_talk.specs.Pasts.{Adds, given_of}
 use Rattle.bt_talk.specs.Sent.{IsReady, is_wanted}
@@ -19,11 +19,17 @@ returns-then-segment-clause-taken c = λ terms p q d e same. (
     q_is = e;
     sent = sent_reset c.args.segment.now (is_opening c.args.from.now.stage) p c.args.from.now.flow c.if-segment.true;
     acked = acked_reset c.args.segment.now q c.if-segment.true;
+    stream = refl;
+    noted = refl;
   },
-  λ xs i. (
-    [],
-    subst (λ (l : List (ℕ × Item)). AreItemsIn c.args.from.now.stage p l) (sym (append-nil xs)) i,
-    shown_nowhere c.args.side c.args.watch.now,
+  (
+    false,
+    λ f. absurd (let k : true ≡ false = sym c.if-segment.true ∙ f in cc),
+    λ xs i. (
+      [],
+      subst (λ (l : List (ℕ × Item)). AreItemsIn c.args.from.now.stage p l) (sym (append-nil xs)) i,
+      shown_nowhere c.args.side false c.args.watch.now,
+    ),
   ),
   λ e. ready_none (is_opening c.args.from.now.stage) (is_wanted c.args.side c.args.room.now.wanted) p p c.args.room.now.out.items refl e,
 )
@@ -44,9 +50,15 @@ returns-clause-taken c = λ terms p q d e same.
             (same ∙ sym (ap is_opening c.hear.ensures.stage) ∙ closed)) h.1;
         sent = sent_by c.args.segment.now (is_opening from.stage) p from.flow t.0 c.take.new.self.flow c.if-segment.false adds;
         acked = h.2;
+        stream = c.hear.ensures.stream;
+        noted = c.hear.ensures.noted;
       },
-      λ xs i.
-          let m = t.3 xs i in
-          (m.0, m.1, shown_by c.args.side _ m.0 c.args.watch.now c.turn_to.new.self c.take.new.watch c.turn_to.ensures m.2),
+      (
+        c.is_known.result,
+        λ _. c.is_known.ensures terms h.0 p h.1,
+        λ xs i.
+            let m = t.3 xs i in
+            (m.0, m.1, shown_by c.args.side c.is_known.result m.0 c.args.watch.now c.turn_to.new.self c.take.new.watch c.turn_to.ensures m.2),
+      ),
       λ e. subst (λ (w : Bool). IsReady (is_opening from.stage) w p t.0 c.take.new.out.items) c.wants-is_wanted.ensures (t.4 e),
     )

@@ -13,6 +13,7 @@ use Rattle.bt_talk.proofs.Items.{items_stay, opening_items}
 use Rattle.bt_talk.proofs.Shown.{no_rows, nil_right}
 use Rattle.bt_talk.specs.Cuts.{cut_length}
 use Rattle.bt_talk.proofs.Grows.{shown_on}
+use Rattle.bt_talk.proofs.Saying.{says_by}
 use Rattle.bt_talk.proofs.Talks.{acked_same, cuts_same}
 use Rattle.bt_talk.proofs.talk.Talk.exchange.Goals as goal
 
@@ -21,7 +22,7 @@ returns-in_ok-turn-in-A-clause-taken c = λ a b t.
     let self = c.args.self.now in
     let x = c.in_ok-turn-in-A.ensures.taken self.terms a b t.a_is t.b_is t.stages in
     let r = x.0 in
-    let s = x.1 (t.said.items A) t.said.a_items in
+    let s = x.1.2 (t.said.items A) t.said.a_items in
     let g = s.2 t.said.events t.said.items t.said.watched in
     let same = acked_same c.args.segment.now b r.q' r.acked in
     let to = c.in_ok-turn-in-A.ensures.to in (
@@ -35,7 +36,7 @@ returns-in_ok-turn-in-A-clause-taken c = λ a b t.
           b_is = r.q_is;
           stages = c.in_ok-turn-in-A.ensures.from ∙ t.stages ∙ sym (ap is_opening to);
           said = record {
-            events = tell A g.1.known s.0 t.said.events;
+            events = tell A x.1.0 s.0 t.said.events;
             items = with_items A s.0 t.said.items;
             a_items = s.1;
             b_items = subst (λ (k : Stage). AreItemsIn k r.q' (t.said.items B)) (sym to)
@@ -45,14 +46,17 @@ returns-in_ok-turn-in-A-clause-taken c = λ a b t.
         };
         sent = r.sent;
         acked = r.acked;
+        stream = r.stream;
+        noted = r.noted;
+        said = says_by c.args.segment.now A a b r.p' r.q' self _ (t.said.items A) s.0 x.1.0 t t.said.a_items s.1 to same.0 same.1 x.1.1 s.2;
       },
       x.2,
       λ before sh.
-          let z = x.1 (sh.heard.items A) sh.heard.a_items in
+          let z = x.1.2 (sh.heard.items A) sh.heard.a_items in
           let k = z.2 sh.heard.events sh.heard.items sh.heard.watched in
-          shown_on self.watch.rows.heading self.watch.when A k.1.known z.0 a b r.p' r.q' self _ before k.0 self.watch.rows c.turn.new.watch.rows sh
+          shown_on self.watch.rows.heading self.watch.when A x.1.0 z.0 a b r.p' r.q' self _ before k.0 self.watch.rows c.turn.new.watch.rows sh
           (record {
-            events = tell A k.1.known z.0 sh.heard.events;
+            events = tell A x.1.0 z.0 sh.heard.events;
             items = with_items A z.0 sh.heard.items;
             a_items = z.1;
             b_items = subst (λ (k : Stage). AreItemsIn k r.q' (sh.heard.items B)) (sym to)
@@ -66,7 +70,7 @@ returns-in_ok-turn-in-B-clause-taken c = λ a b t.
     let self = c.args.self.now in
     let x = c.in_ok-turn-in-B.ensures.taken self.terms b a t.b_is t.a_is (sym t.stages) in
     let r = x.0 in
-    let s = x.1 (t.said.items B) t.said.b_items in
+    let s = x.1.2 (t.said.items B) t.said.b_items in
     let g = s.2 t.said.events t.said.items t.said.watched in
     let same = acked_same c.args.segment.now a r.q' r.acked in
     let to = c.in_ok-turn-in-B.ensures.to in (
@@ -80,7 +84,7 @@ returns-in_ok-turn-in-B-clause-taken c = λ a b t.
           b_is = r.p_is;
           stages = ap is_opening to ∙ t.stages ∙ sym c.in_ok-turn-in-B.ensures.from;
           said = record {
-            events = tell B g.1.known s.0 t.said.events;
+            events = tell B x.1.0 s.0 t.said.events;
             items = with_items B s.0 t.said.items;
             a_items = subst (λ (k : Stage). AreItemsIn k r.q' (t.said.items A)) (sym to)
                 (items_stay self.a.stage a r.q' (t.said.items A) same.0 same.1 t.said.a_items);
@@ -90,14 +94,17 @@ returns-in_ok-turn-in-B-clause-taken c = λ a b t.
         };
         sent = subst (λ (o : Bool). HasSent c.args.segment.now o b self.b.flow r.p' c.turn-in-B.new.from.flow) (sym t.stages) r.sent;
         acked = r.acked;
+        stream = r.stream;
+        noted = r.noted;
+        said = says_by c.args.segment.now B a b r.q' r.p' self _ (t.said.items B) s.0 x.1.0 t t.said.b_items s.1 to same.0 same.1 x.1.1 s.2;
       },
       λ e. subst (λ (o : Bool). IsReady o (is_wanted B c.args.room.now.wanted) b r.p' c.turn-in-B.new.room.out.items) (sym t.stages) (x.2 e),
       λ before sh.
-          let z = x.1 (sh.heard.items B) sh.heard.b_items in
+          let z = x.1.2 (sh.heard.items B) sh.heard.b_items in
           let k = z.2 sh.heard.events sh.heard.items sh.heard.watched in
-          shown_on self.watch.rows.heading self.watch.when B k.1.known z.0 a b r.q' r.p' self _ before k.0 self.watch.rows c.turn-in-B.new.watch.rows sh
+          shown_on self.watch.rows.heading self.watch.when B x.1.0 z.0 a b r.q' r.p' self _ before k.0 self.watch.rows c.turn-in-B.new.watch.rows sh
           (record {
-            events = tell B k.1.known z.0 sh.heard.events;
+            events = tell B x.1.0 z.0 sh.heard.events;
             items = with_items B z.0 sh.heard.items;
             a_items = subst (λ (k : Stage). AreItemsIn k r.q' (sh.heard.items A)) (sym to)
                 (items_stay self.a.stage a r.q' (sh.heard.items A) same.0 same.1 sh.heard.a_items);
@@ -118,10 +125,11 @@ pub returns-in_ok-turn-in-A-clause-order : goal.returns-in_ok-turn-in-A-clause-o
 returns-in_ok-turn-in-A-clause-order c = λ a b t.
     let self = c.args.self.now in
     let x = c.in_ok-turn-in-A.ensures.taken self.terms a b t.a_is t.b_is t.stages in
-    let s = x.1 (t.said.items A) t.said.a_items in
+    let s = x.1.2 (t.said.items A) t.said.a_items in
     record {
       side = A;
       is_side = subst (λ (k : Side). IsSender c.args.segment.now self k) c.in-A.is c.sender.ensures;
+      known = x.1.0;
       items = s.0;
       follow = s.2;
     }
@@ -130,10 +138,11 @@ pub returns-in_ok-turn-in-B-clause-order : goal.returns-in_ok-turn-in-B-clause-o
 returns-in_ok-turn-in-B-clause-order c = λ a b t.
     let self = c.args.self.now in
     let x = c.in_ok-turn-in-B.ensures.taken self.terms b a t.b_is t.a_is (sym t.stages) in
-    let s = x.1 (t.said.items B) t.said.b_items in
+    let s = x.1.2 (t.said.items B) t.said.b_items in
     record {
       side = B;
       is_side = subst (λ (k : Side). IsSender c.args.segment.now self k) c.in-B.is c.sender.ensures;
+      known = x.1.0;
       items = s.0;
       follow = s.2;
     }
@@ -142,18 +151,18 @@ pub returns-in_ok-turn-in-A-clause-silent : goal.returns-in_ok-turn-in-A-clause-
 returns-in_ok-turn-in-A-clause-silent c = λ a b t o.
     let self = c.args.self.now in
     let x = c.in_ok-turn-in-A.ensures.taken self.terms a b t.a_is t.b_is t.stages in
-    let s = x.1 (t.said.items A) t.said.a_items in
+    let s = x.1.2 (t.said.items A) t.said.a_items in
     let g = s.2 t.said.events t.said.items t.said.watched in
     let all = opening_items c.turn.new.from.stage x.0.p' (t.said.items A ++ s.0) (c.in_ok-turn-in-A.ensures.from ∙ o) s.1 in
     subst (λ (l : List Shown). Appends l self.watch.rows c.turn.new.watch.rows)
-    (no_rows self.watch.rows.heading self.watch.when A g.1.known s.0 t.said.events g.0 (nil_right (t.said.items A) s.0 all) g.1.shown) g.2
+    (no_rows self.watch.rows.heading self.watch.when A x.1.0 s.0 t.said.events g.0 (nil_right (t.said.items A) s.0 all) g.1.shown) g.2
 
 pub returns-in_ok-turn-in-B-clause-silent : goal.returns-in_ok-turn-in-B-clause-silent
 returns-in_ok-turn-in-B-clause-silent c = λ a b t o.
     let self = c.args.self.now in
     let x = c.in_ok-turn-in-B.ensures.taken self.terms b a t.b_is t.a_is (sym t.stages) in
-    let s = x.1 (t.said.items B) t.said.b_items in
+    let s = x.1.2 (t.said.items B) t.said.b_items in
     let g = s.2 t.said.events t.said.items t.said.watched in
     let all = opening_items c.turn-in-B.new.from.stage x.0.p' (t.said.items B ++ s.0) (c.in_ok-turn-in-B.ensures.from ∙ (sym t.stages ∙ o)) s.1 in
     subst (λ (l : List Shown). Appends l self.watch.rows c.turn-in-B.new.watch.rows)
-    (no_rows self.watch.rows.heading self.watch.when B g.1.known s.0 t.said.events g.0 (nil_right (t.said.items B) s.0 all) g.1.shown) g.2
+    (no_rows self.watch.rows.heading self.watch.when B x.1.0 s.0 t.said.events g.0 (nil_right (t.said.items B) s.0 all) g.1.shown) g.2

@@ -3,7 +3,7 @@ use Rattle.std.proofs.lemmas.Bool.{cases_Bool}
 use Rattle.bt_talk.specs.declared.rows.Rows.{Rows}
 use Rattle.bt_talk.specs.declared.talk.Talk.{Talk}
 use Rattle.bt_talk.specs.declared.watch.Watch.{Watch}
-use Rattle.bt_talk.specs.Talks.{AreShown, is_in_opening}
+use Rattle.bt_talk.specs.Talks.{AreShown, ShowsMore, is_in_opening}
 use Rattle.bt_talk.proofs.Grows.{shown_after, shown_alike, shown_in, shows_alike_more, shows_by, shows_nothing, shows_opened}
 use Rattle.bt_talk.proofs.Lent.{Alike, alike_back, with_watch, talk_alike, takes_alike, shows_alike, settled_alike, some_rows}
 use Rattle.bt_talk.proofs.talk.Talk.take.Goals as goal
@@ -114,7 +114,7 @@ returns-in-Ok-clause-shown c = λ a b before t sh.
           let first = subst (λ (z : Rows). AreShown z.heading a b u before) (sym mine) was in
           let more = x.3 before o first in (
             took,
-            shows_by (is_in_opening w) head rows rows' took.a' took.b' w before (λ q. absurd (let e : true ≡ false = sym q ∙ took.after o in cc))
+            shows_by (is_in_opening w) head rows rows' took.a' took.b' w before (λ q. absurd {A = ShowsMore true head rows rows' took.a' took.b' w before} (let e : true ≡ false = sym q ∙ took.after o in cc))
                 (λ q. shows_alike_more u.watch.rows.heading head took.a' took.b' v w u.watch.rows v.watch.rows rows rows' before k
                 (sym (ap (λ (z : Rows). z.heading) mine)) (sym mine) c.swap_rows-2.ensures.others more),
           )

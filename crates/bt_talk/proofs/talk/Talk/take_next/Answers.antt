@@ -1,9 +1,10 @@
-use Rattle.std.proofs.Common.{◌≡◌, ◌∙◌, ℕ, ◌+◌, ◌-◌, ◌^◌, ◌++◌, [], min, length, Option, sym, ap, subst, refl}
+use Rattle.std.proofs.Common.{◌≡◌, ◌∙◌, ℕ, ◌+◌, ◌-◌, ◌^◌, false, ◌++◌, [], min, length, Option, sym, ap, subst, refl}
 use Rattle.std.specs.Prelude.{◌↔◌}
 use Rattle.std.specs.List.{filter}
 use Rattle.bt_remarks.specs.declared.events.Side.{Side}
 use Rattle.bt_remarks.specs.declared.events.Side.TheVariants.{A, B}
 use Rattle.bt_remarks.specs.Said.{other}
+use Rattle.bt_flow.specs.declared.flow.Flow.{Flow}
 use Rattle.bt_talk.specs.declared.closing.Closed.{Closed}
 use Rattle.bt_talk.specs.declared.closing.Closing.{Closing}
 use Rattle.bt_talk.specs.declared.direction.Direction.{Direction}
@@ -18,6 +19,7 @@ use Rattle.bt_talk.specs.Sent.{IsReady, is_wanted}
 use Rattle.bt_talk.proofs.Closes.{closes_same}
 use Rattle.bt_talk.proofs.Lent.{Alike, talk_alike, opening_alike, opened_after, after_steps}
 use Rattle.bt_talk.proofs.Grows.{shown_same, shows_others_too}
+use Rattle.bt_talk.proofs.Saying.{says_same, stages_same}
 use Rattle.bt_talk.proofs.Shown.{appends_more, appends_same}
 use Rattle.bt_talk.proofs.Sent.{ready_kept, fronts_kept, sends_on, parts_of}
 use Rattle.bt_talk.proofs.Talks.{acked_same, end_same, flow_same, sent_same, both_same}
@@ -50,7 +52,19 @@ returns-clause-taken c = λ a b t.
     λ side. sym (c.cut.ensures.flows side ∙ flow_same side given shown al.a al.b) in
     let closing = al.closing ∙ c.in_ok-exchange.ensures.closing in
     let cuts : (side : Side) → cut_of side shown ≡ cut_of side self =
-    λ side. both_same side given shown al.a al.b ∙ c.in_ok-exchange.ensures.cuts side in (
+    λ side. both_same side given shown al.a al.b ∙ c.in_ok-exchange.ensures.cuts side in
+    let settled = c.settle.new.self in
+    let flows_kept : (side : Side) → flow_of side settled ≡ flow_of side given = λ side. sym (kept side ∙ flows side) in
+    let noted_a : c.note.new.self.a ≡ c.cut.new.self.a = ap (λ (k : Talk). k.a) c.note.ensures.rest in
+    let noted_b : c.note.new.self.b ≡ c.cut.new.self.b = ap (λ (k : Talk). k.b) c.note.ensures.rest in
+    let a_stage : is_in_opening self ≡ false → settled.a.stage ≡ given.a.stage =
+    λ o. (c.in_ok-settle.ensures.stages (was ∙ o)).0 ∙ ap (λ (d : Direction). d.stage) noted_a ∙ c.cut.ensures.stages.0
+    ∙ ap (λ (d : Direction). d.stage) al.a in
+    let b_stage : is_in_opening self ≡ false → settled.b.stage ≡ given.b.stage =
+    λ o. (c.in_ok-settle.ensures.stages (was ∙ o)).1 ∙ ap (λ (d : Direction). d.stage) noted_b ∙ c.cut.ensures.stages.1
+    ∙ ap (λ (d : Direction). d.stage) al.b in
+    let watch : is_in_opening self ≡ false → settled.watch ≡ shown.watch =
+    λ o. c.in_ok-settle.ensures.watch (was ∙ o) ∙ ap (λ (k : Talk). k.watch) c.note.ensures.rest ∙ c.cut.ensures.watch in (
       record {
         side = x.side;
         is_side = x.is_side;
@@ -76,6 +90,12 @@ returns-clause-taken c = λ a b t.
             ∙ ap (λ (o : Option Closed). cut_after c.args.segment.now.flags o (length (of_side side x.a' x.b').out) (cut_of side shown))
             (ap (λ (k : Closing). k.closed) closing)
             ∙ ap (λ (o : Option ℕ). cut_after c.args.segment.now.flags self.closing.closed (length (of_side side x.a' x.b').out) o) (cuts side);
+        stream = ap (λ (f : Flow). f.stream) (flows_kept (other x.side)) ∙ x.stream;
+        noted = ap (λ (f : Flow). f.noted) (flows_kept (other x.side)) ∙ x.noted;
+        said = λ o. says_same c.args.segment.now x.side a b x.a' x.b' self given self settled (λ _. refl)
+            (λ k. stages_same k given settled (a_stage o) (b_stage o)) flows_kept (λ _ _ w. w)
+            (λ events items w. watched_same events items given.watch settled.watch (ap (λ (w : Watch). w.matcher) (watch o) ∙ al.matcher)
+            (ap (λ (w : Watch). w.a) (watch o) ∙ al.a_notes) (ap (λ (w : Watch). w.b) (watch o) ∙ al.b_notes) w) x.said;
       },
       λ o.
           let silent = c.in_ok-exchange.ensures.silent a b t o in
@@ -110,28 +130,18 @@ returns-clause-taken c = λ a b t.
       λ before o sh.
           let m = y.2 before sh in
           let marked = c.keep_mark.new.self in
-          let settled = c.settle.new.self in
           let others = c.in_ok-show.ensures.others in
-          let stages = c.in_ok-settle.ensures.stages (was ∙ o) in
-          let noted_a : c.note.new.self.a ≡ c.cut.new.self.a = ap (λ (k : Talk). k.a) c.note.ensures.rest in
-          let noted_b : c.note.new.self.b ≡ c.cut.new.self.b = ap (λ (k : Talk). k.b) c.note.ensures.rest in
-          let a_stage : settled.a.stage ≡ given.a.stage =
-          stages.0 ∙ ap (λ (d : Direction). d.stage) noted_a ∙ c.cut.ensures.stages.0 ∙ ap (λ (d : Direction). d.stage) al.a in
-          let b_stage : settled.b.stage ≡ given.b.stage =
-          stages.1 ∙ ap (λ (d : Direction). d.stage) noted_b ∙ c.cut.ensures.stages.1 ∙ ap (λ (d : Direction). d.stage) al.b in
-          let watch : settled.watch ≡ shown.watch =
-          c.in_ok-settle.ensures.watch (was ∙ o) ∙ ap (λ (k : Talk). k.watch) c.note.ensures.rest ∙ c.cut.ensures.watch in
           let before_is : given.watch ≡ marked.watch =
           sym (ap (λ (k : Talk). k.watch) c.keep_mark.ensures ∙ ap (λ (k : Talk). k.watch) c.go_on-closed.ensures.rest) in
           let head = self.watch.rows.heading in (
             m.0 ++ others.others,
             appends_more m.0 others.others self.watch.rows given.watch.rows settled.watch.rows m.1
                 (appends_same others.others marked.watch.rows shown.watch.rows given.watch.rows settled.watch.rows
-                (ap (λ (w : Watch). w.rows) before_is) (ap (λ (w : Watch). w.rows) watch) others.appends),
+                (ap (λ (w : Watch). w.rows) before_is) (ap (λ (w : Watch). w.rows) (watch o)) others.appends),
             shows_others_too head x.a' x.b' settled before m.0 others.others others.no_item
-                (shown_same head x.a' x.b' given settled (before ++ filter is_item m.0) a_stage b_stage
-                (ap (λ (w : Watch). w.matcher) watch ∙ al.matcher) (ap (λ (w : Watch). w.a) watch ∙ al.a_notes)
-                (ap (λ (w : Watch). w.b) watch ∙ al.b_notes) m.2),
+                (shown_same head x.a' x.b' given settled (before ++ filter is_item m.0) (a_stage o) (b_stage o)
+                (ap (λ (w : Watch). w.matcher) (watch o) ∙ al.matcher) (ap (λ (w : Watch). w.a) (watch o) ∙ al.a_notes)
+                (ap (λ (w : Watch). w.b) (watch o) ∙ al.b_notes) m.2),
           ),
     )
 
@@ -152,6 +162,7 @@ returns-clause-order c = λ a b t o.
     record {
       side = x.side;
       is_side = x.is_side;
+      known = x.known;
       items = x.items;
       others = others.others;
       no_item = others.no_item;
@@ -159,7 +170,6 @@ returns-clause-order c = λ a b t o.
           let g = x.follow events items i in (
             g.0,
             record {
-              known = g.1.known;
               watched = watched_same _ _ given.watch settled.watch (ap (λ (w : Watch). w.matcher) watch ∙ al.matcher)
                   (ap (λ (w : Watch). w.a) watch ∙ al.a_notes) (ap (λ (w : Watch). w.b) watch ∙ al.b_notes) g.1.watched;
               shown = g.1.shown;
