@@ -114,7 +114,8 @@ returns-in-Ok-clause-shown c = λ a b before t sh.
           let first = subst (λ (z : Rows). AreShown z.heading a b u before) (sym mine) was in
           let more = x.3 before o first in (
             took,
-            shows_by (is_in_opening w) head rows rows' took.a' took.b' w before (λ q. absurd {A = ShowsMore true head rows rows' took.a' took.b' w before} (let e : true ≡ false = sym q ∙ took.after o in cc))
+            shows_by (is_in_opening w) head rows rows' took.a' took.b' w before
+                (λ q. absurd {A = ShowsMore true head rows rows' took.a' took.b' w before} (let e : true ≡ false = sym q ∙ took.after o in cc))
                 (λ q. shows_alike_more u.watch.rows.heading head took.a' took.b' v w u.watch.rows v.watch.rows rows rows' before k
                 (sym (ap (λ (z : Rows). z.heading) mine)) (sym mine) c.swap_rows-2.ensures.others more),
           )
