@@ -74,7 +74,7 @@ after_steps t u v x e f g = record {
   b_notes = ap (λ (k : Talk). k.watch.b) g ∙ ap (λ (k : Talk). k.watch.b) f ∙ ap (λ (k : Talk). k.watch.b) e;
 }
 
-watched_alike : (events : List Told) (items : Side → List (ℕ × Item)) (t u : Talk) → Alike t u → IsWatched events items t.watch
+pub watched_alike : (events : List Told) (items : Side → List (ℕ × Item)) (t u : Talk) → Alike t u → IsWatched events items t.watch
     → IsWatched events items u.watch
 watched_alike events items t u i w = watched_same events items t.watch u.watch i.matcher i.a_notes i.b_notes w
 
@@ -101,10 +101,10 @@ opening_alike t u i = ap (λ (d : Direction). is_opening d.stage) i.a
 pub sender_alike : (s : Segment) (t u : Talk) (side : Side) → Alike t u → IsSender s t side → IsSender s u side
 sender_alike s t u side i k = subst (λ (e : Ends). (side ≡ A) ↔ (s.source ≡ e.a)) (sym i.ends) k
 
-stages_alike : (t u : Talk) → Alike t u → (side : Side) → (direction_of side u).stage ≡ (direction_of side t).stage
+pub stages_alike : (t u : Talk) → Alike t u → (side : Side) → (direction_of side u).stage ≡ (direction_of side t).stage
 stages_alike t u i side = stages_same side t u (ap (λ (d : Direction). d.stage) i.a) (ap (λ (d : Direction). d.stage) i.b)
 
-pub says_alike : (s : Segment) (side : Side) (a b a' b' : Past) (t t' u u' : Talk) → Alike t u → Alike t' u' → Says s side a b a' b' t t'
+abbrev pub says_alike : (s : Segment) (side : Side) (a b a' b' : Past) (t t' u u' : Talk) → Alike t u → Alike t' u' → Says s side a b a' b' t t'
     → Says s side a b a' b' u u'
 says_alike s side a b a' b' t t' u u' i k x =
     says_same s side a b a' b' t t' u u' (stages_alike t u i) (stages_alike t' u' k) (λ j. flow_same j t' u' k.a k.b)
@@ -144,7 +144,7 @@ takes_alike s when a b t t' u u' i k x =
 -- ---- rows
 
 -- Rows show the items of a segment.
-pub shows_alike : (s : Segment) (when when' : When) (t t' u u' : Talk) (r r' q q' : Rows) → Alike t u → Alike t' u' → when' ≡ when → q ≡ r → q' ≡ r'
+abbrev pub shows_alike : (s : Segment) (when when' : When) (t t' u u' : Talk) (r r' q q' : Rows) → Alike t u → Alike t' u' → when' ≡ when → q ≡ r → q' ≡ r'
     → Shows s when' u u' q q' → Shows s when t t' r r'
 shows_alike s when when' t t' u u' r r' q q' i k e f g x = record {
   side = x.side;

@@ -52,7 +52,7 @@ stay : (p p' : Past) (s s' : Stage) (xs : List (ℕ × Item)) → s' ≡ s → p
 stay p p' s s' xs e f g i = subst (λ (x : Stage). AreItemsIn x p' xs) (sym e) (items_stay s p p' xs f g i)
 
 -- The sender's items are followed by these; those of the other side stay.
-items_on : (side : Side) (a b a' b' : Past) (t t' : Talk) (xs items : List (ℕ × Item)) → IsTalk a b t → AreItemsOf side a b t xs
+pub items_on : (side : Side) (a b a' b' : Past) (t t' : Talk) (xs items : List (ℕ × Item)) → IsTalk a b t → AreItemsOf side a b t xs
     → AreItemsOf side a' b' t' (xs ++ items) → (direction_of (other side) t').stage ≡ (direction_of (other side) t).stage
     → (of_side (other side) a' b').front ≡ (of_side (other side) a b).front → (of_side (other side) a' b').out ≡ (of_side (other side) a b).out
     → (before : Side → List (ℕ × Item)) → ((k : Side) → AreItemsOf k a b t (before k)) → (k : Side) → AreItemsOf k a' b' t' (with_items side items before k)
@@ -62,7 +62,7 @@ items_on B a b a' b' t t' xs items i x y e f g before all A = stay a a' t.a.stag
 items_on B a b a' b' t t' xs items i x y e f g before all B = go_on t.terms b a b' t.b.stage t'.b.stage xs (before B) items i.b_is.stage x y (all B)
 
 -- A side sent a segment, which completes these items.
-pub says_by : (s : Segment) (side : Side) (a b a' b' : Past) (t t' : Talk) (xs items : List (ℕ × Item)) (known : Bool) → IsTalk a b t
+abbrev pub says_by : (s : Segment) (side : Side) (a b a' b' : Past) (t t' : Talk) (xs items : List (ℕ × Item)) (known : Bool) → IsTalk a b t
     → AreItemsOf side a b t xs → AreItemsOf side a' b' t' (xs ++ items) → (direction_of (other side) t').stage ≡ (direction_of (other side) t).stage
     → (of_side (other side) a' b').front ≡ (of_side (other side) a b).front → (of_side (other side) a' b').out ≡ (of_side (other side) a b).out
     → (s.flags.rst ≡ false → IsKnownOf (other side) a' b' t' known) → GoesShown side known items t.watch t'.watch → Says s side a b a' b' t t'
@@ -79,7 +79,7 @@ stages_same A t u e f = e
 stages_same B t u e f = f
 
 -- What it stands on is as it was.
-pub says_same : (s : Segment) (side : Side) (a b a' b' : Past) (t t' u u' : Talk) → ((k : Side) → (direction_of k u).stage ≡ (direction_of k t).stage)
+abbrev pub says_same : (s : Segment) (side : Side) (a b a' b' : Past) (t t' u u' : Talk) → ((k : Side) → (direction_of k u).stage ≡ (direction_of k t).stage)
     → ((k : Side) → (direction_of k u').stage ≡ (direction_of k t').stage) → ((k : Side) → flow_of k u' ≡ flow_of k t')
     → ((events : List Told) (items : Side → List (ℕ × Item)) → IsWatched events items u.watch → IsWatched events items t.watch)
     → ((events : List Told) (items : Side → List (ℕ × Item)) → IsWatched events items t'.watch → IsWatched events items u'.watch)

@@ -111,14 +111,6 @@ pub record Turns (s : Segment) (terms : Terms) (p q : Past) (d e d' e' : Directi
 abbrev pub IsSender : Segment → Talk → Side → Type 0
 IsSender s t side = (side ≡ A) ↔ (s.source ≡ t.ends.a)
 
--- The sender's items that a segment completes follow all events that came before, of both sides.
-pub record HasSaid (s : Segment) (t t' : Talk) : Type 0 where
-  pub side : Side
-  pub is_side : IsSender s t side
-  pub known : Bool
-  pub items : List (ℕ × Item)
-  pub follow : GoesShown side known items t.watch t'.watch
-
 -- all that a side has said up to here is known, or it isn't
 abbrev pub IsKnownOf : Side → Past → Past → Talk → Bool → Type 0
 IsKnownOf side a b t known = IsKnown (direction_of side t).stage (of_side side a b) (flow_of side t) known
@@ -150,6 +142,12 @@ pub record Shows (s : Segment) (when : When) (t t' : Talk) (r r' : Rows) : Type 
   pub follow : (events : List Told) (before : Side → List (ℕ × Item)) → IsWatched events before t.watch
       → (rows : List Shown) × IsShown r.heading when side known items events before t'.watch rows × Appends (rows ++ others) r r'
 
+-- The rows show what the segment says.
+pub record ShowsSaid (s : Segment) (when : When) (side : Side) (a b a' b' : Past) (t t' : Talk) (r r' : Rows) (says : Says s side a b a' b' t t')
+    (shows : Shows s when t t' r r') : Type 0 where
+  pub known : shows.known ≡ says.known
+  pub items : shows.items ≡ says.items
+
 -- One side sent a segment.
 pub record Exchanges (s : Segment) (a b : Past) (t t' : Talk) : Type 0 where
   pub side : Side
@@ -162,6 +160,7 @@ pub record Exchanges (s : Segment) (a b : Past) (t t' : Talk) : Type 0 where
   pub stream : (flow_of (other side) t').stream ≡ (flow_of (other side) t).stream
   pub noted : (flow_of (other side) t').noted ≡ (flow_of (other side) t).noted
   pub said : Says s side a b a' b' t t'
+  pub shown : GoesShown side said.known said.items t.watch t'.watch
 
 -- The opening is over, or it isn't.
 pub record Settles (a b : Past) (t t' : Talk) : Type 0 where

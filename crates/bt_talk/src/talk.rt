@@ -133,7 +133,7 @@ impl Talk {
     ghost use Rattle.std.specs.Option.{option_or};
     ghost use Rattle.bt_talk.specs.Closing.{Closes, still_open};
     ghost use Rattle.bt_talk.specs.Ends.{ends_by};
-    ghost use Rattle.bt_talk.specs.Talks.{IsTalk, HasSaid, Shows, Opens, HasSettled, Exchanges, Takes, Settles, ends_of};
+    ghost use Rattle.bt_talk.specs.Talks.{IsTalk, Shows, ShowsSaid, Opens, HasSettled, Exchanges, Takes, Settles, ends_of};
     ghost use Rattle.bt_talk.specs.Talks.{terms_of, closing_of, IsSender, is_in_opening, is_lost, flow_of, cut_of, direction_of, of_side};
     ghost use Rattle.bt_talk.specs.Talks.{began_with, segments_of, AreShown, AreShownIn, ShowsMore};
     ghost use Rattle.bt_talk.specs.Cuts.{cut_after};
@@ -182,7 +182,6 @@ impl Talk {
             → ShowsMore false self.old.watch.rows.heading self.old.watch.rows self.new.watch.rows x.a' x.b' self.new before)) }
         ensures opening { OnOk result (is_in_opening self.new ≡ is_in_opening self.old) }
         ensures cuts { OnOk result ((side : Side) → cut_of side self.new ≡ cut_of side self.old) }
-        ensures order { OnOk result ((a b : Past) → IsTalk a b self.old → HasSaid segment.now self.old self.new) }
         ensures silent { OnOk result ((a b : Past) → IsTalk a b self.old → is_in_opening self.old ≡ true → Appends [] self.old.watch.rows self.new.watch.rows) }
         ensures ends { self.new.ends ≡ self.old.ends }
         ensures terms { self.new.terms ≡ self.old.terms }
@@ -448,9 +447,11 @@ impl Talk {
             × (room.old.out.items ≡ [] → (side : Side) → room.old.wanted ≡ Some side
             → SendsOn (is_in_opening self.old) (of_side side a b) (is_in_opening self.new) (of_side side took.a' took.b') room.new.out.items)
             × ((before : List Shown) → is_in_opening self.old ≡ false → AreShown self.old.watch.rows.heading a b self.old before
-            → ShowsMore false self.old.watch.rows.heading self.old.watch.rows self.new.watch.rows took.a' took.b' self.new before)) }
-        ensures order { OnOk result ((a b : Past) → IsTalk a b self.old → is_in_opening self.old ≡ false
-            → Shows segment.now self.old.watch.when self.old self.new self.old.watch.rows self.new.watch.rows) }
+            → ShowsMore false self.old.watch.rows.heading self.old.watch.rows self.new.watch.rows took.a' took.b' self.new before)
+            × ((o : is_in_opening self.old ≡ false)
+            → (shows : Shows segment.now self.old.watch.when self.old self.new self.old.watch.rows self.new.watch.rows)
+            × ShowsSaid segment.now self.old.watch.when took.side a b took.a' took.b' self.old self.new self.old.watch.rows self.new.watch.rows (took.said o)
+            shows)) }
         ensures ends { self.new.ends ≡ self.old.ends }
         ensures terms { self.new.terms ≡ self.old.terms }
         ensures began { OnOk result (self.new.courses.first ≡ option_or self.old.courses.first (Some when)) }
@@ -488,6 +489,9 @@ impl Talk {
         ensures taken { OnOk result ((a b : Past) → IsTalk a b self.old → Takes segment.now when a b self.old self.new) }
         ensures order { OnOk result ((a b : Past) → IsTalk a b self.old → is_in_opening self.old ≡ false
             → Shows segment.now when self.old self.new (rows_in room.old) (rows_in room.new)) }
+        ensures says { OnOk result ((a b : Past) → IsTalk a b self.old → (o : is_in_opening self.old ≡ false)
+            → (took : Takes segment.now when a b self.old self.new) × (shows : Shows segment.now when self.old self.new (rows_in room.old) (rows_in room.new))
+            × ShowsSaid segment.now when took.side a b took.a' took.b' self.old self.new (rows_in room.old) (rows_in room.new) (took.said o) shows) }
         ensures opened { OnOk result ((a b : Past) → IsTalk a b self.old → is_in_opening self.old ≡ true → (took : Takes segment.now when a b self.old self.new)
             × HasSettled segment.now when a b self.old self.new took (rows_in room.old) (rows_in room.new)) }
         ensures sent { OnOk result ((a b : Past) → IsTalk a b self.old → (took : Takes segment.now when a b self.old self.new)

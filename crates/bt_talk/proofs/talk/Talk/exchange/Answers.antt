@@ -49,6 +49,7 @@ returns-in_ok-turn-in-A-clause-taken c = λ a b t.
         stream = r.stream;
         noted = r.noted;
         said = says_by c.args.segment.now A a b r.p' r.q' self _ (t.said.items A) s.0 x.1.0 t t.said.a_items s.1 to same.0 same.1 x.1.1 s.2;
+        shown = s.2;
       },
       x.2,
       λ before sh.
@@ -97,6 +98,7 @@ returns-in_ok-turn-in-B-clause-taken c = λ a b t.
         stream = r.stream;
         noted = r.noted;
         said = says_by c.args.segment.now B a b r.q' r.p' self _ (t.said.items B) s.0 x.1.0 t t.said.b_items s.1 to same.0 same.1 x.1.1 s.2;
+        shown = s.2;
       },
       λ e. subst (λ (o : Bool). IsReady o (is_wanted B c.args.room.now.wanted) b r.p' c.turn-in-B.new.room.out.items) (sym t.stages) (x.2 e),
       λ before sh.
@@ -120,32 +122,6 @@ returns-in_ok-turn-in-A-clause-cuts c = λ side.
 pub returns-in_ok-turn-in-B-clause-cuts : goal.returns-in_ok-turn-in-B-clause-cuts
 returns-in_ok-turn-in-B-clause-cuts c = λ side.
     cuts_same side c.args.self.now _ (ap cut_length c.in_ok-turn-in-B.ensures.cut_to) (ap cut_length c.in_ok-turn-in-B.ensures.cut)
-
-pub returns-in_ok-turn-in-A-clause-order : goal.returns-in_ok-turn-in-A-clause-order
-returns-in_ok-turn-in-A-clause-order c = λ a b t.
-    let self = c.args.self.now in
-    let x = c.in_ok-turn-in-A.ensures.taken self.terms a b t.a_is t.b_is t.stages in
-    let s = x.1.2 (t.said.items A) t.said.a_items in
-    record {
-      side = A;
-      is_side = subst (λ (k : Side). IsSender c.args.segment.now self k) c.in-A.is c.sender.ensures;
-      known = x.1.0;
-      items = s.0;
-      follow = s.2;
-    }
-
-pub returns-in_ok-turn-in-B-clause-order : goal.returns-in_ok-turn-in-B-clause-order
-returns-in_ok-turn-in-B-clause-order c = λ a b t.
-    let self = c.args.self.now in
-    let x = c.in_ok-turn-in-B.ensures.taken self.terms b a t.b_is t.a_is (sym t.stages) in
-    let s = x.1.2 (t.said.items B) t.said.b_items in
-    record {
-      side = B;
-      is_side = subst (λ (k : Side). IsSender c.args.segment.now self k) c.in-B.is c.sender.ensures;
-      known = x.1.0;
-      items = s.0;
-      follow = s.2;
-    }
 
 pub returns-in_ok-turn-in-A-clause-silent : goal.returns-in_ok-turn-in-A-clause-silent
 returns-in_ok-turn-in-A-clause-silent c = λ a b t o.

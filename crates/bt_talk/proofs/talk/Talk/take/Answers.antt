@@ -5,7 +5,7 @@ use Rattle.bt_talk.specs.declared.talk.Talk.{Talk}
 use Rattle.bt_talk.specs.declared.watch.Watch.{Watch}
 use Rattle.bt_talk.specs.Talks.{AreShown, ShowsMore, is_in_opening}
 use Rattle.bt_talk.proofs.Grows.{shown_after, shown_alike, shown_in, shows_alike_more, shows_by, shows_nothing, shows_opened}
-use Rattle.bt_talk.proofs.Lent.{Alike, alike_back, with_watch, talk_alike, takes_alike, shows_alike, settled_alike, some_rows}
+use Rattle.bt_talk.proofs.Lent.{Alike, alike_back, with_watch, opening_alike, talk_alike, takes_alike, shows_alike, settled_alike, some_rows}
 use Rattle.bt_talk.proofs.talk.Talk.take.Goals as goal
 
 pub returns-in-Ok-clause-taken : goal.returns-in-Ok-clause-taken
@@ -37,9 +37,34 @@ returns-in-Ok-clause-order c = λ a b t o.
     let back = c.swap_rows-2.ensures.mine in
     let k : Alike v w = with_watch v false c.swap_rows-2.new.self (ap (λ (x : Watch). x.matcher) back) (ap (λ (x : Watch). x.a) back)
     (ap (λ (x : Watch). x.b) back) in
+    let x = c.in-Ok.ensures.taken a b (talk_alike a b self u i t) in
+    let still = sym (opening_alike u self (alike_back self u i)) ∙ o in
     shows_alike c.args.segment.now c.args.when c.come_to.new.self.when self w u v c.args.room.now.rows c.swap_rows-2.new.rows u.watch.rows v.watch.rows i
     (alike_back v w k) (ap (λ (x : Watch). x.when) watch) (ap (λ (x : Watch). x.rows) watch) (sym c.swap_rows-2.ensures.others)
-    (c.in-Ok.ensures.order a b (talk_alike a b self u i t) o)
+    (x.4 still).0
+
+pub returns-in-Ok-clause-says : goal.returns-in-Ok-clause-says
+returns-in-Ok-clause-says c = λ a b t o.
+    let self = c.args.self.now in
+    let u : Talk = record self { is_lost = true; watch = c.come_to.new.self } in
+    let v = c.take_next-taken.new.self in
+    let w : Talk = record v { is_lost = false; watch = c.swap_rows-2.new.self } in
+    let watch : c.come_to.new.self ≡ record self.watch { rows = c.args.room.now.rows; when = c.args.when } =
+    c.come_to.ensures ∙ ap (λ (k : Watch). record k { when = c.args.when }) c.swap_rows.ensures.mine in
+    let i : Alike self u = with_watch self true c.come_to.new.self (ap (λ (k : Watch). k.matcher) watch) (ap (λ (k : Watch). k.a) watch)
+    (ap (λ (k : Watch). k.b) watch) in
+    let back = c.swap_rows-2.ensures.mine in
+    let k : Alike v w = with_watch v false c.swap_rows-2.new.self (ap (λ (x : Watch). x.matcher) back) (ap (λ (x : Watch). x.a) back)
+    (ap (λ (x : Watch). x.b) back) in
+    let x = c.in-Ok.ensures.taken a b (talk_alike a b self u i t) in
+    let still = sym (opening_alike u self (alike_back self u i)) ∙ o in
+    let y = x.4 still in (
+      takes_alike c.args.segment.now c.args.when a b u v self w (alike_back self u i) k x.0,
+      shows_alike c.args.segment.now c.args.when c.come_to.new.self.when self w u v c.args.room.now.rows c.swap_rows-2.new.rows u.watch.rows v.watch.rows i
+          (alike_back v w k) (ap (λ (x : Watch). x.when) watch) (ap (λ (x : Watch). x.rows) watch) (sym c.swap_rows-2.ensures.others)
+          y.0,
+      record { known = y.1.known; items = y.1.items },
+    )
 
 pub returns-in-Ok-clause-opened : goal.returns-in-Ok-clause-opened
 returns-in-Ok-clause-opened c = λ a b t o.

@@ -143,39 +143,30 @@ returns-clause-taken c = λ a b t.
                 (ap (λ (w : Watch). w.matcher) (watch o) ∙ al.matcher) (ap (λ (w : Watch). w.a) (watch o) ∙ al.a_notes)
                 (ap (λ (w : Watch). w.b) (watch o) ∙ al.b_notes) m.2),
           ),
-    )
-
-pub returns-clause-order : goal.returns-clause-order
-returns-clause-order c = λ a b t o.
-    let self = c.args.self.now in
-    let given = c.exchange.new.self in
-    let marked = c.keep_mark.new.self in
-    let shown = c.show.new.self in
-    let settled = c.settle.new.self in
-    let x = c.in_ok-exchange.ensures.order a b t in
-    let al : Alike given shown = after_steps given c.go_on-closed.new.self marked shown c.go_on-closed.ensures.rest c.keep_mark.ensures c.show.ensures.rest in
-    let was = ap is_in_opening c.note.ensures.rest ∙ c.cut.ensures.opening ∙ opening_alike given shown al ∙ c.in_ok-exchange.ensures.opening in
-    let watch : settled.watch ≡ shown.watch =
-    c.in_ok-settle.ensures.watch (was ∙ o) ∙ ap (λ (k : Talk). k.watch) c.note.ensures.rest ∙ c.cut.ensures.watch in
-    let before : given.watch ≡ marked.watch = sym (ap (λ (k : Talk). k.watch) c.keep_mark.ensures ∙ ap (λ (k : Talk). k.watch) c.go_on-closed.ensures.rest) in
-    let others = c.in_ok-show.ensures.others in
-    record {
-      side = x.side;
-      is_side = x.is_side;
-      known = x.known;
-      items = x.items;
-      others = others.others;
-      no_item = others.no_item;
-      follow = λ events items i.
-          let g = x.follow events items i in (
-            g.0,
+      λ o.
+          let before : given.watch ≡ c.keep_mark.new.self.watch =
+          sym (ap (λ (k : Talk). k.watch) c.keep_mark.ensures ∙ ap (λ (k : Talk). k.watch) c.go_on-closed.ensures.rest) in
+          let others = c.in_ok-show.ensures.others in (
             record {
-              watched = watched_same _ _ given.watch settled.watch (ap (λ (w : Watch). w.matcher) watch ∙ al.matcher)
-                  (ap (λ (w : Watch). w.a) watch ∙ al.a_notes) (ap (λ (w : Watch). w.b) watch ∙ al.b_notes) g.1.watched;
-              shown = g.1.shown;
+              side = x.side;
+              is_side = x.is_side;
+              known = x.said.known;
+              items = x.said.items;
+              others = others.others;
+              no_item = others.no_item;
+              follow = λ events items i.
+                  let g = x.shown events items i in (
+                    g.0,
+                    record {
+                      watched = watched_same _ _ given.watch settled.watch (ap (λ (w : Watch). w.matcher) (watch o) ∙ al.matcher)
+                          (ap (λ (w : Watch). w.a) (watch o) ∙ al.a_notes) (ap (λ (w : Watch). w.b) (watch o) ∙ al.b_notes) g.1.watched;
+                      shown = g.1.shown;
+                    },
+                    appends_more g.0 others.others self.watch.rows given.watch.rows settled.watch.rows g.2
+                        (appends_same others.others c.keep_mark.new.self.watch.rows shown.watch.rows given.watch.rows settled.watch.rows
+                        (ap (λ (w : Watch). w.rows) before) (ap (λ (w : Watch). w.rows) (watch o)) others.appends),
+                  );
             },
-            appends_more g.0 others.others self.watch.rows given.watch.rows settled.watch.rows g.2
-                (appends_same others.others marked.watch.rows shown.watch.rows given.watch.rows settled.watch.rows (ap (λ (w : Watch). w.rows) before)
-                (ap (λ (w : Watch). w.rows) watch) others.appends),
-          );
-    }
+            record { known = refl; items = refl },
+          ),
+    )
