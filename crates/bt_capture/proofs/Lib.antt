@@ -19,6 +19,10 @@ pub mod Reported
 pub mod Outcomes
 pub mod Shown
 pub mod Sending
+pub mod Skipping
 mod Rowing
 mod Seeing
 mod Parting
+mod Steps
+mod Order
+mod Silent

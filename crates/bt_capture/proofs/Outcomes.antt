@@ -2,8 +2,9 @@
 use Rattle.std.proofs.Common.{◌≡◌, ◌∙◌, inl, inr, ℕ, ◌+◌, ◌-◌, ◌^◌, ◌<◌, min, Bool, true, if◌then◌else◌, List, [], ◌∷◌, ◌++◌, length}
 use Rattle.std.proofs.Common.{append-nil, append_assoc, Option, Some, None, is_some, unwrap_or, Result, Ok, Err, refl, sym, ap, subst, arith}
 use Rattle.std.specs.List.{All}
-use Rattle.std.specs.List.Sorted.{IsPermutation}
+use Rattle.std.specs.List.Sorted.{IsNonDecreasing, IsPermutation}
 use Rattle.std.specs.Io.KnownBytes.{Appends, Consumes, Keeps}
+use Rattle.std.proofs.lemmas.List.{nil_from_length}
 use Rattle.std.proofs.lemmas.List.Elements.{All-contains, All-nil}
 use Rattle.std.proofs.KnownBytes.{Appends-nil, Appends-trans, Consumes-nil, Consumes-trans, Consumes-kept}
 use Rattle.bt_io.specs.Counts.{Grew}
@@ -23,11 +24,13 @@ use Rattle.bt_capture.specs.declared.ending.CaptureFault.TheVariants.{File, Read
 use Rattle.bt_capture.specs.declared.ending.Form.{Form}
 use Rattle.bt_capture.specs.declared.pair.Pair.{Pair}
 use Rattle.bt_capture.specs.Arrivals.{arrivals, first_time}
+use Rattle.bt_capture.specs.Ends.{IsBroken, IsWhy}
 use Rattle.bt_capture.specs.FlowTexts.{datagrams, flow_texts}
+use Rattle.bt_capture.specs.Following.{AreInOrder, numbers}
 use Rattle.bt_capture.specs.Following.{AtEnd, Finished, IsFinished, IsSentBy, IsShared, IsStreaming, IsStreamSoFar, Follows, Phase, Stops, Streams}
 use Rattle.bt_capture.specs.Following.{reports_of, told_by}
 use Rattle.bt_capture.specs.Forms.{absent_from, is_stream, wanted_by}
-use Rattle.bt_capture.specs.Readings.{Reading, IsReading, GoesOn, Hands, nothing_read, shown}
+use Rattle.bt_capture.specs.Readings.{Reading, IsReading, GoesOn, Hands, Waits, nothing_read, shown, with_bytes}
 use Rattle.bt_capture.specs.Tables.{Held}
 use Rattle.bt_capture.specs.Tellings.{Tells, IsStopped, IsEmpty, AreTexts}
 use Rattle.bt_capture.specs.Runs.{Origin, HasRead, IsTelling, IsTellingIn, IsLeft, IsEndOf, AreOver, AreAllOver, AreWritten, ArePartlyWritten, AfterFault, Adds}
@@ -36,7 +39,8 @@ use Rattle.bt_capture.proofs.Going.{fresh}
 use Rattle.bt_capture.proofs.InOrder.{no_texts}
 use Rattle.bt_capture.proofs.Numbers.{one_if_began}
 use Rattle.bt_capture.proofs.Parting.{parted_all}
-use Rattle.bt_capture.proofs.Reported.{follows_end, follows_flushed, follows_moved, follows_same, follows_so_far, stops_of}
+use Rattle.bt_capture.proofs.Reported.{follows_end, follows_flushed, follows_same, follows_so_far, stops_of}
+use Rattle.bt_capture.proofs.Steps.{follows_moved}
 use Rattle.bt_capture.proofs.Rowing.{rows_same}
 use Rattle.bt_capture.proofs.SoFar.{so_far_same}
 use Rattle.bt_capture.proofs.Streaming.{find_over, numbered_end, streaming_same, untold_end}
@@ -68,6 +72,27 @@ hands_some r r' x p e h = subst (λ y. Hands r (shown y) r') e h
 
 pub hands_fault : (r r' : Reading) (x : Result (Option Packet) FileFault) (f : FileFault) → x ≡ Err f → Hands r (shown x) r' → GoesOn r [] [] r'
 hands_fault r r' x f e h = (subst (λ y. Hands r (shown y) r') e h).0
+
+pub hands_more : (r r' : Reading) (x : Result (Option Packet) FileFault) → x ≡ Ok None → Hands r (shown x) r' → Waits r'
+hands_more r r' x e h = (subst (λ y. Hands r (shown y) r') e h).1
+
+pub hands_broken : (r r' : Reading) (x : Result (Option Packet) FileFault) (f : FileFault) → x ≡ Err f → Hands r (shown x) r' → IsBroken f r'
+hands_broken r r' x f e h = inl (subst (λ y. Hands r (shown y) r') e h).1
+
+-- No byte came: what is held is the same.
+pub waits_on : (r r' : Reading) (bytes : List ℕ) → length bytes ≡ 0 → r' ≡ with_bytes r bytes → Waits r → Waits r'
+waits_on r r' bytes none is w =
+    let same : r.held ++ bytes ≡ r.held = ap (λ (l : List ℕ). r.held ++ l) (nil_from_length bytes none) ∙ append-nil r.held in
+    let n = min (r.bytes + length bytes) (2 ^ 64 - 1) in
+    let P : List ℕ → Type 0 = λ l. Waits (record { format = r.format; skip = r.skip; held = l; bytes = n; packets = r.packets }) in
+    subst (λ x. Waits x) (sym is) (subst P (sym same) (record { few = w.few; inside = w.inside }))
+
+pub fault_of_telling : (f : CaptureFault) (r : Reading) → IsOfTelling f → IsWhy f r
+fault_of_telling Write r x = tt
+fault_of_telling Memory r x = tt
+fault_of_telling (File f) r x = absurd x
+fault_of_telling Read r x = absurd x
+fault_of_telling Turns r x = absurd x
 
 -- the number of the next packet
 pub next_number : (packets : List Captured) (all : List ℕ) (r : Reading) (n m : ℕ) → IsReading all packets r → n ≡ r.packets → m ≡ min (n + 1) (2 ^ 64 - 1)
@@ -103,15 +128,16 @@ told_read o left left' now es run r r' reads i = record {
   time = i.time;
   follows = i.follows;
   utp = i.utp;
+  skipped = i.skipped;
 }
 
 pub flushed : {ph : Phase} (o : Origin) (left : Option (List ℕ)) (now after : TargetSeen) (es : List (Pair × Held)) (old new : Run) (r : Reading)
     → new.terms ≡ old.terms → new.teller.form ≡ old.teller.form → new.start ≡ old.start → new.lost ≡ old.lost → new.begun ≡ old.begun
-    → new.utp ≡ old.utp → IsEmpty new.teller
+    → new.utp ≡ old.utp → new.skipped ≡ old.skipped → IsEmpty new.teller
     → ((reports : List Report) (written : List ℕ) → Tells o.target now old.teller reports written
     → Tells o.target after new.teller reports (written ++ old.teller.text.items))
     → IsTellingIn ph o left now es old r → IsTellingIn ph o left after es new r
-flushed o left now after es old new r terms form begin lost count utp empty tells i = record {
+flushed o left now after es old new r terms form begin lost count utp skipped empty tells i = record {
   packets = i.packets;
   read = i.read;
   terms = terms ∙ i.terms;
@@ -119,6 +145,7 @@ flushed o left now after es old new r terms form begin lost count utp empty tell
   time = begin ∙ i.time;
   follows = follows_flushed o.target now after (arrivals i.packets) es old new terms begin lost count form empty tells i.follows;
   utp = subst (AreCounted (datagrams i.packets)) (sym utp) i.utp;
+  skipped = skipped ∙ i.skipped;
 }
 
 finished_by : (o : Origin) (packets : List Captured) (fs : List Finished) (run : Run) → run.terms ≡ o.terms → run.start ≡ first_time packets
@@ -242,6 +269,9 @@ all_shared : (o : Origin) (left : Option (List ℕ)) (now : TargetSeen) (run : R
     → IsShared k (arrivals i.packets) i.follows.fs []
 all_shared o left now run r i k = let s = i.follows.shared k in subst (IsShared k (arrivals i.packets) i.follows.fs) s.is s.share
 
+pub begun_all : (begun n : ℕ) → begun ≡ min (n + 0) (2 ^ 64 - 1) → begun ≡ min n (2 ^ 64 - 1)
+begun_all begun n e = omega (arith, e)
+
 pub all_over : (o : Origin) (left : Option (List ℕ)) (now : TargetSeen) (run : Run) (r : Reading) → (i : IsTellingIn AtEnd o left now [] run r)
     → AreAllOver o i.packets i.follows.fs
 all_over o left now run r i = record {
@@ -249,6 +279,10 @@ all_over o left now run r i = record {
   numbered = numbered_end run.begun i.follows.fs i.follows.begun i.follows.streams.numbered;
   shared = λ k. all_shared o left now run r i k;
   parted = λ k. parted_all (arrivals i.packets) i.follows.fs k (all_shared o left now run r i k) i.follows.parting;
+  place = i.follows.order.place;
+  order = subst (λ n. AreInOrder i.follows.order.place (arrivals i.packets) n i.follows.fs)
+      (begun_all run.begun (length i.follows.fs) i.follows.begun) i.follows.order.order;
+  last = i.follows.last;
 }
 
 pub stream_told : (o : Origin) (left : Option (List ℕ)) (now : TargetSeen) (run : Run) (r : Reading) → IsEmpty run.teller
@@ -286,12 +320,14 @@ whole_written o left before now run r empty i held =
     Appends-trans o.target.held before.held now.held i.follows.written (utp_lines o.form i.packets) i.follows.known.tells.held
     (subst (λ f. Appends before.held now.held (utp_lines f i.packets)) i.form held)
 
-all_written : (o : Origin) (left : Option (List ℕ)) (before now : TargetSeen) (run : Run) (r : Reading) → IsEmpty run.teller
-    → (i : IsTellingIn AtEnd o left before [] run r) → Appends before.held now.held (utp_lines run.teller.form i.packets) → AreWritten o left now
-all_written o left before now run r empty i held = record {
+all_written : (Why : Reading → Type 0) (o : Origin) (left : Option (List ℕ)) (before now : TargetSeen) (run : Run) (r : Reading) → Why r
+    → IsEmpty run.teller → (i : IsTellingIn AtEnd o left before [] run r) → Appends before.held now.held (utp_lines run.teller.form i.packets)
+    → AreWritten Why o left now
+all_written Why o left before now run r why empty i held = record {
   packets = i.packets;
   r = r;
   read = i.read;
+  why = why;
   fs = i.follows.fs;
   over = all_over o left before run r i;
   text = i.follows.written;
@@ -352,13 +388,13 @@ told_fault ph Turns o left now es run r x i = absurd x
 
 -- The file couldn't be read on.
 pub told_unread : (f : CaptureFault) (o : Origin) (left : Option (List ℕ)) (before now : TargetSeen) (run : Run) (r : Reading) → IsOfReading f
-    → IsEmpty run.teller → (i : IsTellingIn AtEnd o left before [] run r) → Appends before.held now.held (utp_lines run.teller.form i.packets)
+    → IsWhy f r → IsEmpty run.teller → (i : IsTellingIn AtEnd o left before [] run r) → Appends before.held now.held (utp_lines run.teller.form i.packets)
     → IsToldTo f o left now
-told_unread Write o left before now run r x empty i held = absurd x
-told_unread Memory o left before now run r x empty i held = absurd x
-told_unread (File f) o left before now run r x empty i held = all_written o left before now run r empty i held
-told_unread Read o left before now run r x empty i held = all_written o left before now run r empty i held
-told_unread Turns o left before now run r x empty i held = absurd x
+told_unread Write o left before now run r x why empty i held = absurd x
+told_unread Memory o left before now run r x why empty i held = absurd x
+told_unread (File f) o left before now run r x why empty i held = all_written (IsBroken f) o left before now run r why empty i held
+told_unread Read o left before now run r x why empty i held = all_written Waits o left before now run r why empty i held
+told_unread Turns o left before now run r x why empty i held = absurd x
 
 -- A fault of telling leaves no connection.
 pub fault_any : (ph : Phase) (f : CaptureFault) (o : Origin) (left : Option (List ℕ)) (now : TargetSeen) (es gs : List (Pair × Held)) (run : Run) (r : Reading)
@@ -371,8 +407,9 @@ fault_any ph Turns o left now es gs run r x i = absurd x
 
 -- Those that are left are taken out of the table.
 pub told_rest : (o : Origin) (left : Option (List ℕ)) (now : TargetSeen) (old new : Run) (es : List (Pair × Held)) (r : Reading)
-    → IsPermutation old.table es → new ≡ record old { table = new.table } → IsTelling o left now old.table old r → IsTellingIn AtEnd o left now es new r
-told_rest o left now old new es r all same i =
+    → IsPermutation old.table es → IsNonDecreasing (numbers es) → new ≡ record old { table = new.table } → IsTelling o left now old.table old r
+    → IsTellingIn AtEnd o left now es new r
+told_rest o left now old new es r all up same i =
     let table : List (Pair × Held) = old.table in
     let mid : Run = record old { table = new.table } in
     subst (λ x. IsTellingIn AtEnd o left now es x r) (sym same) (record {
@@ -382,15 +419,16 @@ told_rest o left now old new es r all same i =
       form = i.form;
       time = i.time;
       follows = follows_same o.target now (arrivals i.packets) es old mid refl refl refl refl refl
-          (follows_end o.target now (arrivals i.packets) es old (follows_moved o.target now (arrivals i.packets) table es old all i.follows));
+          (follows_end o.target now (arrivals i.packets) es old up (follows_moved o.target now (arrivals i.packets) table es old all i.follows));
       utp = i.utp;
+      skipped = i.skipped;
     })
 
 -- ---- the begin
 
 pub begins : (o : Origin) (run : Run) (r : Reading) → run.terms ≡ o.terms → run.teller.form ≡ o.form → run.start ≡ None
-    → Follows o.target o.target [] run.table run → AreCounted [] run.utp → r ≡ nothing_read → IsTelling o o.left o.target run.table run r
-begins o run r terms form begin follows utp same = record {
+    → Follows o.target o.target [] run.table run → AreCounted [] run.utp → run.skipped ≡ 0 → r ≡ nothing_read → IsTelling o o.left o.target run.table run r
+begins o run r terms form begin follows utp skipped same = record {
   packets = [];
   read = subst (HasRead o o.left []) (sym same) (read_nothing o);
   terms = terms;
@@ -398,12 +436,10 @@ begins o run r terms form begin follows utp same = record {
   time = begin;
   follows = follows;
   utp = utp;
+  skipped = skipped;
 }
 
 -- ---- connections that have begun
-
-pub begun_all : (begun n : ℕ) → begun ≡ min (n + 0) (2 ^ 64 - 1) → begun ≡ min n (2 ^ 64 - 1)
-begun_all begun n e = omega (arith, e)
 
 pub absent_by : (form form' : Form) (n begun : ℕ) → form' ≡ form → begun ≡ min n (2 ^ 64 - 1) → (o : Option ℕ) → o ≡ absent_from form' begun
     → o ≡ absent_from form (min n (2 ^ 64 - 1))

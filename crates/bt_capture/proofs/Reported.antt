@@ -2,17 +2,12 @@
 use Rattle.bt_talk.specs.declared.terms.Terms.{Terms}
 use Rattle.std.proofs.Common.{◌≡◌, ◌∙◌, ◌⊎◌, ℕ, ◌+◌, ◌-◌, ◌^◌, ◌<◌, ◌≤◌, min, Bool, true, false, List, [], ◌∷◌, ◌++◌, length, append-nil, append_assoc}
 use Rattle.std.proofs.Common.{Option, Some, None, unwrap_or, Result, Ok, Err, OnOk, OnErr, refl, sym, ap, subst, arith, inl, inr}
-use Rattle.std.specs.List.{All, filter, list_any}
-use Rattle.std.specs.List.Sorted.{IsPermutation}
-use Rattle.std.specs.Map.{lookup, remove_entry}
-use Rattle.std.specs.Option.{option_or}
-use Rattle.std.proofs.lemmas.Bool.{cases_Bool}
+use Rattle.std.specs.List.{All, filter}
+use Rattle.std.specs.Map.{lookup}
 use Rattle.std.proofs.lemmas.Grind.{flat_map-append}
 use Rattle.std.proofs.lemmas.List.{length-append}
-use Rattle.std.proofs.lemmas.List.Elements.{All-cons, All-head, All-nil, All-push, All-tail, filter-append}
-use Rattle.std.proofs.lemmas.List.Sorted.{length_permutation}
+use Rattle.std.proofs.lemmas.List.Elements.{All-push, filter-append}
 use Rattle.bt_io.specs.Seen.{TargetSeen}
-use Rattle.bt_pcap.specs.Formats.{Captured}
 use Rattle.bt_remarks.specs.declared.events.Side.{Side}
 use Rattle.bt_talk.specs.Pasts.{Past}
 use Rattle.bt_talk.specs.Sent.{IsSent}
@@ -22,35 +17,39 @@ use Rattle.bt_talk.specs.Talks.{AreShown, AreShownIn, IsTalk, is_in_opening, is_
 use Rattle.bt_talk.specs.declared.talk.Talk.{Talk}
 use Rattle.bt_told.specs.declared.report.Left.{Left}
 use Rattle.bt_told.specs.declared.report.Report.{Report}
-use Rattle.bt_capture.specs.Arrivals.{Arrival, arrivals, arrivals_of, arrivals_after, has_data, is_between, pair_of, first_time}
+use Rattle.bt_capture.specs.Arrivals.{Arrival, is_between, pair_of}
 use Rattle.bt_capture.specs.Connections.{IsFirst, IsMade, IsOpen}
-use Rattle.bt_capture.specs.Following.{AreRowsOf, AtEnd, Cause, Coming, During, FollowsIn, GoesIn, IsOverBy, IsParted, IsRowing, MayBe, MayEnd, Phase, Rows}
+use Rattle.bt_capture.specs.Following.{AreRowsOf, AtEnd, Cause, Coming, During, FollowsIn, GoesIn, IsOverBy, IsParted, MayBe, MayEnd, Phase, Rows}
 use Rattle.bt_capture.specs.Following.{Unknown, coming, left_by}
-use Rattle.bt_capture.specs.Following.{Finished, Fate, Reported, Silent, Lost, IsFinished, IsFate, IsKnown, IsReported, IsSentBy, IsShared, IsEnded}
-use Rattle.bt_capture.specs.Following.{IsStreaming, IsStreamSoFar, Follows, Stops, Holds, Shares, Streams, count_lost, count_open, is_lost_by}
+use Rattle.bt_capture.specs.Following.{Finished, Fate, Reported, Silent, Lost, IsFinished, IsKnown, IsReported, IsSentBy, IsShared, IsEnded}
+use Rattle.bt_capture.specs.Following.{IsStreamSoFar, Follows, Stops, Holds, Shares, Streams, count_lost, count_open, is_lost_by}
 use Rattle.bt_capture.specs.Following.{report_in, reports_of, taken_between, told_by}
 use Rattle.bt_capture.specs.Forms.{is_stream, showing_by, wanted_by}
 use Rattle.bt_capture.specs.Sending.{HasSent, IsSending}
 use Rattle.bt_capture.specs.Rowed.{HasShown, IsShowing, ShowsOn, heading_of}
-use Rattle.bt_capture.specs.Tables.{Held, IsApart, same_pair}
+use Rattle.bt_capture.specs.Tables.{Held, same_pair}
 use Rattle.bt_capture.specs.Tellings.{ArePartsOf, Part, SaysAfter, Tells, TellsOn, item_rows, report_by}
 use Rattle.bt_capture.specs.declared.connection.Connection.{Connection}
 use Rattle.bt_capture.specs.declared.connections.Run.{Run}
 use Rattle.bt_capture.specs.declared.ending.Form.{Form}
 use Rattle.bt_capture.specs.declared.pair.Pair.{Pair}
 use Rattle.bt_capture.specs.declared.telling.Teller.{Teller}
-use Rattle.bt_capture.proofs.Entries.{apart_moved, apart_none, apart_put, apart_rest, apart_without, lookup_back, lookup_gone, lookup_moved}
-use Rattle.bt_capture.proofs.Entries.{same_is, same_self}
+use Rattle.bt_capture.proofs.Entries.{apart_put, apart_rest}
 use Rattle.bt_capture.proofs.Rowing.{AddsRows, adds_by, adds_nothing, items_of_report, items_of_segment, more_of, own_rows_of, parts_more, parts_of_report}
-use Rattle.bt_capture.proofs.Rowing.{parts_of_segment, parts_same, rows_begun, rows_held, rows_moved, rows_nothing, rows_over, rows_same, rows_started}
-use Rattle.bt_capture.proofs.Parting.{parts_coming, parts_end, parts_nothing, parts_over, parts_took}
+use Rattle.bt_capture.proofs.Rowing.{parts_of_segment, parts_same, rows_begun, rows_held, rows_over, rows_same}
+use Rattle.bt_capture.proofs.Parting.{parts_coming, parts_end, parts_over, parts_took}
 use Rattle.bt_capture.proofs.Rowing.{rows_to_same, rows_took, text_of_report, text_of_segment}
-use Rattle.bt_capture.proofs.Shares.{IsIts, own_of, others_of, others_on, over, moved, took, own_none, ready, ready_sent, share_same}
-use Rattle.bt_capture.proofs.SoFar.{EndsStream, ended_so_far, held_so_far, open_so_far, so_far_more, so_far_on, so_far_same}
+use Rattle.bt_capture.proofs.Shares.{IsIts, own_of, others_of, others_on, over, took, own_none, ready, ready_sent, share_same}
+use Rattle.bt_capture.proofs.SoFar.{EndsStream, ended_so_far, open_so_far, so_far_more, so_far_same}
 use Rattle.bt_capture.proofs.Streaming.{AddsFor, alone_open, alone_over, has_begun}
-use Rattle.bt_capture.proofs.Streaming.{sending_begun, sending_same, streaming_begun, streaming_moved, streaming_nothing, streaming_out}
-use Rattle.bt_capture.proofs.Streaming.{streaming_over, streaming_same, streaming_started, streaming_took}
+use Rattle.bt_capture.proofs.Streaming.{sending_begun, sending_same, streaming_begun}
+use Rattle.bt_capture.proofs.Streaming.{streaming_over, streaming_same, streaming_took}
 use Rattle.bt_capture.proofs.Wants.{wanted_stream}
+use Rattle.std.specs.List.Sorted.{IsNonDecreasing}
+use Rattle.bt_capture.specs.Following.{AreParts, ComeLast, numbers}
+use Rattle.bt_capture.proofs.Order.{last_begins, last_over, order_begun, order_held, order_over, order_same, order_took}
+use Rattle.bt_capture.proofs.Rowing.{after_rows}
+use Rattle.bt_capture.proofs.Silent.{nothing_came, nothing_sent, nothing_shown}
 
 pub reports_more : (fs : List Finished) (f : Finished) → reports_of (fs ++ f ∷ []) ≡ reports_of fs ++ report_in f.fate
 reports_more fs f = flat_map-append (λ g. report_in g.fate) fs (f ∷ []) ∙ ap (λ l. reports_of fs ++ l) (append-nil (report_in f.fate))
@@ -102,19 +101,8 @@ begun_took a n e es h = omega (arith, h)
 begun_more : (a b n m : ℕ) → a ≡ min (b + 1) (2 ^ 64 - 1) → b ≡ min (n + m) (2 ^ 64 - 1) → a ≡ min (n + (m + 1)) (2 ^ 64 - 1)
 begun_more a b n m e f = omega (arith, e, f)
 
-begun_out : (a n : ℕ) (e : Pair × Held) (es out : List (Pair × Held)) → length es ≡ length out + 1 → a ≡ min (n + length es) (2 ^ 64 - 1)
-    → a ≡ min (n + length (e ∷ out)) (2 ^ 64 - 1)
-begun_out a n e es out more h = omega (arith, h, more)
-
-length_out : (test : Pair → Bool) (es : List (Pair × Held)) (c : Held) → lookup test es ≡ Some c → length es ≡ length (remove_entry test es) + 1
-length_out test [] c found = cc
-length_out test (e ∷ es) c found = elim (cases_Bool (test e.0)) [
-  | inl t ↦ rw t (omega arith)
-  | inr f ↦ let rest = length_out test es c (rw f at found) in rw f (omega (arith, rest))
-]
-
 -- What is told of a stream stays.
-told_same : (written : List ℕ) (old new : Run) → new.teller ≡ old.teller → told_by written new ≡ told_by written old
+pub told_same : (written : List ℕ) (old new : Run) → new.teller ≡ old.teller → told_by written new ≡ told_by written old
 told_same written old new teller = ap (λ (t : Teller). written ++ t.text.items) teller
 
 streams_same : (written written' : List ℕ) (fs : List Finished) (es : List (Pair × Held)) (old new : Run) → new.terms ≡ old.terms
@@ -131,7 +119,7 @@ rows_as parts written written' came fs es old new terms begin form count told i 
     rows_same old.teller.form new.teller.form parts (told_by written old) (told_by written' new) old.terms new.terms (unwrap_or old.start 0)
     (unwrap_or new.start 0) old.begun new.begun came fs es form told terms (ap (λ o. unwrap_or o 0) begin) count i
 
-shares_same : (written written' : List ℕ) (came : List Arrival) (fs : List Finished) (old new : Run) (k : Pair) (o : Option Held)
+pub shares_same : (written written' : List ℕ) (came : List Arrival) (fs : List Finished) (old new : Run) (k : Pair) (o : Option Held)
     → new.terms ≡ old.terms → new.teller.form ≡ old.teller.form → told_by written' new ≡ told_by written old → Shares written came fs old k o
     → Shares written' came fs new k o
 shares_same written written' came fs old new k o terms form told i =
@@ -175,6 +163,8 @@ follows_over {ph} start now came p c es old new absent terms begin form count i 
           (rows_over shown old.terms from i.parts parts told told' old.begun came i.fs f p c es rows ends absent share
           (alone_over old.begun i.fs p c es i.streams.numbered) alone (has_begun old.begun i.fs p c es i.streams.numbered) gets parts_are shows i.rows);
       parting = parts_over ph came i.fs p f ends share parted may i.parting;
+      order = order_same came (i.fs ++ f ∷ []) es old.begun new.begun count (order_over came i.fs f p c es old.begun number ends absent share i.order);
+      last = last_over ph i.fs f p c es may number i.last;
     }
 
 pub known_same : (start now : TargetSeen) (fs : List Finished) (written written' : List ℕ) (old new : Run) → new.terms ≡ old.terms
@@ -208,6 +198,8 @@ follows_same start now came es old new terms begin lost teller count i =
       parts = i.parts;
       rows = rows_as i.parts i.written i.written came i.fs es old new terms begin form count told i.rows;
       parting = i.parting;
+      order = order_same came i.fs es old.begun new.begun count i.order;
+      last = i.last;
     }
 
 pub stops_same : (start now : TargetSeen) (came : List Arrival) (old new : Run) → new.terms ≡ old.terms → new.start ≡ old.start → new.lost ≡ old.lost
@@ -264,6 +256,8 @@ follows_flushed start now after came es old new terms begin lost count form empt
       parts = i.parts;
       rows = rows_as i.parts i.written written came i.fs es old new terms begin form count told i.rows;
       parting = i.parting;
+      order = order_same came i.fs es old.begun new.begun count i.order;
+      last = i.last;
     }
 
 -- The first connection's share of the segments.
@@ -313,36 +307,40 @@ over_by terms taken ph p c cause may m = record {
   why = may.why m.a m.b m.made.is;
 }
 
--- no byte of it was captured
+-- No byte of it was captured.
 pub silent : {ph : Phase} (start now : TargetSeen) (came : List Arrival) (p : Pair) (c : Held) (es : List (Pair × Held)) (run : Run) (cause : Cause)
-    → MayEnd ph cause p c.value → lookup (same_pair p) es ≡ None → c.value.has_payload ≡ false → FollowsIn ph start now came ((p, c) ∷ es) run
-    → FollowsIn ph start now came es run
-silent {ph} start now came p c es run cause may absent none i =
+    → MayEnd ph cause p c.value → lookup (same_pair p) es ≡ None → c.value.has_payload ≡ false → is_lost c.value.talk ≡ false
+    → FollowsIn ph start now came ((p, c) ∷ es) run → FollowsIn ph start now came es run
+silent {ph} start now came p c es run cause may absent none there i =
     let s = own start now came p c es run i in
+    let form = run.teller.form in
+    let n = c.value.number in
+    let talk = c.value.talk in
+    let told = told_by i.written run in
+    let from = unwrap_or run.start 0 in
     let no_data = sym s.is.0.has_payload ∙ none in
-    elim (cases_Bool (is_lost c.value.talk)) [
-      | inl gone ↦
-          let f : Finished = record { number = c.value.number; pair = p; taken = s.taken; fate = Silent; cause = Unknown } in
-          unreported start now came p c es run run Silent Unknown tt (may_unknown ph) absent refl refl refl refl refl i f refl
-          (i.known.lost ∙ lost_same i.fs f refl) (no_data, inl refl) (λ side small w. tt) (λ small. tt)
-      | inr there ↦
-          let f : Finished = record { number = c.value.number; pair = p; taken = s.taken; fate = Silent; cause = cause } in
-          unreported start now came p c es run run Silent cause may.parted may.may_be absent refl refl refl refl refl i f refl
-          (i.known.lost ∙ lost_same i.fs f refl) (no_data, inr (over_by run.terms s.taken ph p c.value cause may (s.is.0.made there)))
-          (λ side small w. tt) (λ small. tt)
-    ]
+    let rows = own_rows_of form run.terms from i.parts told run.begun came i.fs p c es s.taken s.share i.rows in
+    let g = rows.1 there in
+    let out = nothing_came run.terms s.taken talk no_data g.0 in
+    let no_rows = nothing_shown (is_in_opening talk) (heading_of form n from) g.0.a g.0.b talk rows.0 g.0.made.is out.0 out.1 g.1 in
+    let f : Finished = record { number = n; pair = p; taken = s.taken; fate = Silent; cause = cause } in
+    unreported start now came p c es run run Silent cause may.parted may.may_be absent refl refl refl refl refl i f refl
+    (i.known.lost ∙ lost_same i.fs f refl) (no_data, over_by run.terms s.taken ph p c.value cause may (s.is.0.made there))
+    (λ side small w.
+    let h = s.is.1 side small w there in
+    let none_out = nothing_came run.terms s.taken talk no_data h.0 in
+    nothing_sent (is_in_opening talk) side h.0.a h.0.b told none_out.0 none_out.1 h.1) (λ small. rows.2 small ∙ no_rows)
 
--- its opening couldn't be ended
+-- Memory ran out with it.
 pub lost_one : {ph : Phase} (start now : TargetSeen) (came : List Arrival) (p : Pair) (c : Held) (es : List (Pair × Held)) (old new : Run)
-    → lookup (same_pair p) es ≡ None → c.value.has_payload ≡ true → new.terms ≡ old.terms → new.start ≡ old.start → new.teller ≡ old.teller
+    → lookup (same_pair p) es ≡ None → new.terms ≡ old.terms → new.start ≡ old.start → new.teller ≡ old.teller
     → new.lost ≡ min (old.lost + 1) (2 ^ 64 - 1) → new.begun ≡ old.begun → FollowsIn ph start now came ((p, c) ∷ es) old
     → FollowsIn ph start now came es new
-lost_one {ph} start now came p c es old new absent some terms begin teller lost count i =
+lost_one {ph} start now came p c es old new absent terms begin teller lost count i =
     let s = own start now came p c es old i in
     let f : Finished = record { number = c.value.number; pair = p; taken = s.taken; fate = Lost; cause = Unknown } in
     unreported start now came p c es old new Lost Unknown tt (may_unknown ph) absent terms begin teller count refl i f refl
-    (lost ∙ ap (λ n. min (n + 1) (2 ^ 64 - 1)) i.known.lost ∙ lost_more i.fs f refl) (sym s.is.0.has_payload ∙ some, refl) (λ side small w. tt)
-    (λ small. tt)
+    (lost ∙ ap (λ n. min (n + 1) (2 ^ 64 - 1)) i.known.lost ∙ lost_more i.fs f refl) (tt, refl) (λ side small w. tt) (λ small. tt)
 
 -- What is told after these bytes were appended, if a stream is told.
 appended : (written more : List ℕ) (old new : Run) → new.teller.text.items ≡ old.teller.text.items ++ more → told_by written new ≡ told_by written old ++ more
@@ -420,8 +418,11 @@ reported {A} {E} {ph} (Ok x) start now came p c es old new cause left may left_i
     let k = h.0 in
     let R : List ℕ → Type 0 = λ l. IsSent false (of_side side k.a k.b) l in
     (report k, subst R (sym (is (wanted_stream old.teller.form n side w))) (ends k.a k.b side told k.made.is w h.1)))
-    parts (filter is_item w.0) gets parts_are (λ small.
-    (report g.0, subst (λ l. AreShown head g.0.a g.0.b talk l) (sym (gets.0 ∙ ap (λ (l : List Shown). l ++ filter is_item w.0) (own.2 small))) w.1))
+    parts (filter is_item w.0) gets parts_are (λ small. (
+      report g.0,
+      subst (λ l. AreShown head g.0.a g.0.b talk l) (sym (gets.0 ∙ ap (λ (l : List Shown). l ++ filter is_item w.0) (own.2 small))) w.1,
+      after_rows n said.0 i.parts more all,
+    ))
 reported (Err x) start now came p c es old new cause left may left_is absent some terms begin lost form count there talk ended Q shown nothing more text
     part none ends reports i =
     let m = (own start now came p c es old i).is.0.made there in
@@ -486,6 +487,8 @@ begun start now came x p c es old new absent terms begin lost teller count is nu
           c.value es form same terms (ap (λ o. unwrap_or o 0) begin)
           (rows_begun old.teller.form old.terms from i.parts told old.begun new.begun came i.fs x p c.value es number count shown i.rows);
       parting = i.parting;
+      order = order_begun came i.fs x p c.value.number es old.begun new.begun number count most i.order;
+      last = i.last;
     }
 
 pub held : (start now : TargetSeen) (came : List Arrival) (x : Arrival) (p : Pair) (c : Held) (es : List (Pair × Held)) (run : Run)
@@ -509,39 +512,37 @@ held start now came x p c es run its absent i =
       rows = rows_held run.teller.form run.terms (unwrap_or run.start 0) i.parts (told_by i.written run) run.begun came i.fs x p c es s.taken its s.share
           i.rows;
       parting = i.parting;
+      order = order_held came i.fs x p c s.taken es run.begun s.share i.order;
+      last = i.last;
     }
+
+-- More is known of what comes.
+follows_with : {ph ph' : Phase} (start now : TargetSeen) (came : List Arrival) (es : List (Pair × Held)) (run : Run)
+    → (i : FollowsIn ph start now came es run) → AreParts ph' came i.fs → ComeLast ph' i.fs es → FollowsIn ph' start now came es run
+follows_with start now came es run i parting last = record {
+  fs = i.fs;
+  written = i.written;
+  known = i.known;
+  begun = i.begun;
+  apart = i.apart;
+  streams = i.streams;
+  shared = i.shared;
+  parts = i.parts;
+  rows = i.rows;
+  parting = parting;
+  order = i.order;
+  last = last;
+}
 
 -- The next segment is known.
 pub follows_coming : (start now : TargetSeen) (came : List Arrival) (es : List (Pair × Held)) (run : Run) (p : Pair) (x : Arrival)
     → Follows start now came es run → FollowsIn (Coming p x) start now came es run
-follows_coming start now came es run p x i = record {
-  fs = i.fs;
-  written = i.written;
-  known = i.known;
-  begun = i.begun;
-  apart = i.apart;
-  streams = i.streams;
-  shared = i.shared;
-  parts = i.parts;
-  rows = i.rows;
-  parting = parts_coming came i.fs p x i.parting;
-}
+follows_coming start now came es run p x i = follows_with start now came es run i (parts_coming came i.fs p x i.parting) i.last
 
--- None comes any more.
-pub follows_end : (start now : TargetSeen) (came : List Arrival) (es : List (Pair × Held)) (run : Run) → Follows start now came es run
-    → FollowsIn AtEnd start now came es run
-follows_end start now came es run i = record {
-  fs = i.fs;
-  written = i.written;
-  known = i.known;
-  begun = i.begun;
-  apart = i.apart;
-  streams = i.streams;
-  shared = i.shared;
-  parts = i.parts;
-  rows = i.rows;
-  parting = parts_end came i.fs i.parting;
-}
+-- None comes any more. Those that are left are in the order of their numbers.
+pub follows_end : (start now : TargetSeen) (came : List Arrival) (es : List (Pair × Held)) (run : Run) → IsNonDecreasing (numbers es)
+    → Follows start now came es run → FollowsIn AtEnd start now came es run
+follows_end start now came es run up i = follows_with start now came es run i (parts_end came i.fs i.parting) (last_begins i.fs es up i.last)
 
 -- The connection takes the segment.
 pub follows_took : (start now : TargetSeen) (came : List Arrival) (x : Arrival) (p : Pair) (c c' : Held) (es : List (Pair × Held)) (old new : Run)
@@ -604,9 +605,12 @@ follows_took start now came x p c c' es old new ends terms begin lost count form
           (rows_took shown old.terms from i.parts parts told told' old.begun came i.fs x p i.taken c c' es items ends i.share
           (alone_over old.begun i.fs p c es i.streams.numbered) alone (has_begun old.begun i.fs p c es i.streams.numbered) gets parts_are shows_now i.rows);
       parting = parts_took came i.fs p x ends i.parting;
+      order = order_same (came ++ x ∷ []) i.fs ((p, c') ∷ es) old.begun new.begun count
+          (order_took came i.fs x p c.value.number c' i.taken es old.begun ends number i.share i.order);
+      last = i.last;
     }
 
-more_shared : (k : Pair) (came more : List Arrival) (fs : List Finished) (rest : List Arrival) → IsShared k came fs rest
+pub more_shared : (k : Pair) (came more : List Arrival) (fs : List Finished) (rest : List Arrival) → IsShared k came fs rest
     → (left : List Arrival) × IsShared k (came ++ more) fs left
 more_shared k came more fs rest share =
     let test = is_between k in (
@@ -622,189 +626,3 @@ stops_more start now came more run i = record {
   so_far = so_far_more run.teller.form (told_by i.written run) run.terms (unwrap_or run.start 0) came more i.fs i.so_far;
   shared = λ k. let s = i.shared k in more_shared k came more i.fs s.0 s.1;
 }
-
--- ---- the first packet
-
-parts_none : {X : Type 0} (xs ys : List X) → xs ++ ys ≡ [] → (xs ≡ []) × (ys ≡ [])
-parts_none [] ys e = (refl, e)
-parts_none (x ∷ xs) ys e = cc
-
-none_taken : (fs : List Finished) → ((k : Pair) → taken_between k fs ≡ []) → All (λ f. f.taken ≡ []) fs
-none_taken [] none = All-nil (λ f. f.taken ≡ [])
-none_taken (f ∷ fs) none =
-    let rest : (k : Pair) → taken_between k fs ≡ [] = λ k. elim (cases_Bool (same_pair k f.pair)) [
-      | inl t ↦ (parts_none f.taken (taken_between k fs) (rw t at (none k))).1
-      | inr e ↦ rw e at (none k)
-    ] in
-    All-cons (λ g. g.taken ≡ []) f fs (parts_none f.taken (taken_between f.pair fs) (rw (same_self f.pair) at (none f.pair))).0 (none_taken fs rest)
-
-not_both : (b : Bool) → b ≡ false → b ≡ true → ⊥
-not_both b e f = cc
-
-fate_any : (terms : Terms) (from from' number : ℕ) (taken : List Arrival) (cause : Cause) (end : Fate) → taken ≡ []
-    → IsFate terms from number taken cause end → IsFate terms from' number taken cause end
-fate_any terms from from' number taken cause (Reported r) e i =
-    absurd (not_both (list_any has_data taken) (subst (λ l. list_any has_data l ≡ false) (sym e) refl) i.0)
-fate_any terms from from' number taken cause Silent e i = i
-fate_any terms from from' number taken cause Lost e i = i
-
-all_any : (terms : Terms) (from from' : ℕ) (fs : List Finished) → All (λ f. f.taken ≡ []) fs → All (IsFinished terms from) fs
-    → All (IsFinished terms from') fs
-all_any terms from from' [] none i = All-nil (IsFinished terms from')
-all_any terms from from' (f ∷ fs) none i =
-    let is = All-head (IsFinished terms from) f fs i in
-    All-cons (IsFinished terms from') f fs
-    (fate_any terms from from' f.number f.taken f.cause f.fate (All-head (λ g. g.taken ≡ []) f fs none) is.0, is.1)
-    (all_any terms from from' fs (All-tail (λ g. g.taken ≡ []) f fs none) (All-tail (IsFinished terms from) f fs i))
-
-shares_none : (k : Pair) (fs : List Finished) (rest : List Arrival) → IsShared k [] fs rest → taken_between k fs ≡ []
-shares_none k fs rest e = (parts_none (taken_between k fs) rest (sym e)).0
-
-pub started : (start now : TargetSeen) (packets : List Captured) (old new : Run) (time : ℕ) → old.start ≡ first_time packets
-    → new.start ≡ option_or old.start (Some time) → new.terms ≡ old.terms → new.lost ≡ old.lost → new.teller ≡ old.teller → new.table ≡ old.table
-    → new.begun ≡ old.begun → Follows start now (arrivals packets) old.table old → Follows start now (arrivals packets) new.table new
-started start now [] old new time is begin terms lost teller table count i =
-    let none = none_taken i.fs (λ k. shares_none k i.fs (i.shared k).taken (i.shared k).share) in
-    let form = ap (λ (t : Teller). t.form) teller in
-    let told = told_by i.written old in
-    let told' = told_by i.written new in
-    let same = told_same i.written old new teller in
-    let from = unwrap_or old.start 0 in
-    let from' = unwrap_or new.start 0 in
-    let P : List (Pair × Held) → Type 0 = λ l. Follows start now [] l new in
-    let follows : P old.table = record {
-      fs = i.fs;
-      written = i.written;
-      begun = count ∙ i.begun;
-      apart = i.apart;
-      known = record {
-        tells = subst (λ t. Tells start now t (reports_of i.fs) i.written) (sym teller) i.known.tells;
-        finished = subst (λ x. All (IsFinished x from') i.fs) (sym terms) (all_any old.terms from from' i.fs none i.known.finished);
-        lost = lost ∙ i.known.lost;
-      };
-      streams = streaming_same old.teller.form new.teller.form told told' old.terms new.terms from' from' old.begun new.begun i.fs old.table form same terms
-          refl count (streaming_started old.teller.form told old.terms from from' old.begun i.fs old.table none i.streams);
-      shared = λ k. shares_same i.written i.written [] i.fs old new k (lookup (same_pair k) old.table) terms form same (i.shared k);
-      parts = i.parts;
-      rows = rows_same old.teller.form new.teller.form i.parts told told' old.terms new.terms from' from' old.begun new.begun [] i.fs old.table form same
-          terms refl count (rows_started old.teller.form i.parts told old.terms from from' old.begun i.fs old.table none i.rows);
-      parting = i.parting;
-    } in
-    subst P (sym table) follows
-started start now (p ∷ ps) old new time is begin terms lost teller table count i =
-    let e : new.start ≡ old.start = begin ∙ ap (λ o. option_or o (Some time)) is ∙ sym is in
-    subst (λ t. Follows start now (arrivals (p ∷ ps)) t new) (sym table)
-    (follows_same start now (arrivals (p ∷ ps)) old.table old new terms e lost teller count i)
-
-after_more : (n : ℕ) (packets : List Captured) (p : Captured)
-    → arrivals_after n (packets ++ p ∷ []) ≡ arrivals_after n packets ++ arrivals_of (min (n + length packets + 1) (2 ^ 64 - 1)) p
-after_more n [] p =
-    let same : n + 1 ≡ n + length {A = Captured} [] + 1 = omega arith in
-    append-nil (arrivals_of (min (n + 1) (2 ^ 64 - 1)) p) ∙ ap (λ m. arrivals_of (min m (2 ^ 64 - 1)) p) same
-after_more n (q ∷ qs) p =
-    let first = arrivals_of (min (n + 1) (2 ^ 64 - 1)) q in
-    let same : (n + 1) + length qs + 1 ≡ n + length (q ∷ qs) + 1 = omega arith in
-    ap (λ l. first ++ l) (after_more (n + 1) qs p)
-    ∙ sym (append_assoc first (arrivals_after (n + 1) qs) (arrivals_of (min ((n + 1) + length qs + 1) (2 ^ 64 - 1)) p))
-    ∙ ap (λ m. (first ++ arrivals_after (n + 1) qs) ++ arrivals_of (min m (2 ^ 64 - 1)) p) same
-
-pub arrivals_more : (packets : List Captured) (p : Captured) (number : ℕ) → number ≡ min (length packets + 1) (2 ^ 64 - 1)
-    → arrivals (packets ++ p ∷ []) ≡ arrivals packets ++ arrivals_of number p
-arrivals_more packets p number e =
-    let same : min (0 + length packets + 1) (2 ^ 64 - 1) ≡ number = omega (arith, e) in
-    after_more 0 packets p ∙ ap (λ m. arrivals packets ++ arrivals_of m p) same
-
--- ---- a connection is taken out
-
-pub follows_out : (start now : TargetSeen) (came : List Arrival) (p : Pair) (c : Held) (es out : List (Pair × Held)) (run : Run)
-    → lookup (same_pair p) es ≡ Some c → out ≡ remove_entry (same_pair p) es → Follows start now came es run → Follows start now came ((p, c) ∷ out) run
-follows_out start now came p c es out run found is i =
-    let form = run.teller.form in
-    let told = told_by i.written run in
-    let gone = remove_entry (same_pair p) es in
-    let longer = length_out (same_pair p) es c found ∙ ap (λ (l : List (Pair × Held)). length l + 1) (sym is) in
-    record {
-      fs = i.fs;
-      written = i.written;
-      known = i.known;
-      begun = begun_out run.begun (length i.fs) (p, c) es out longer i.begun;
-      apart = subst (λ (l : List (Pair × Held)). IsApart ((p, c) ∷ l)) (sym is) (apart_put (p, c) gone (lookup_gone p es i.apart) (apart_without p es i.apart));
-      streams = subst (λ l. Streams i.written i.fs ((p, c) ∷ l) run) (sym is)
-          (streaming_out form told run.terms (unwrap_or run.start 0) run.begun i.fs (same_pair p) p c es found i.streams);
-      shared = subst (λ l. (k : Pair) → Shares i.written came i.fs run k (lookup (same_pair k) ((p, c) ∷ l))) (sym is)
-          (moved form run.terms came i.fs told es ((p, c) ∷ gone) (lookup_back p c es found) i.shared);
-      parts = i.parts;
-      rows = subst (λ l. Rows i.parts i.written came i.fs ((p, c) ∷ l) run) (sym is)
-          (rows_moved form run.terms (unwrap_or run.start 0) i.parts told run.begun came i.fs es ((p, c) ∷ gone) (lookup_back p c es found) i.rows);
-      parting = i.parting;
-    }
-
--- They are in another order.
-pub follows_moved : {ph : Phase} (start now : TargetSeen) (came : List Arrival) (es gs : List (Pair × Held)) (run : Run) → IsPermutation es gs
-    → FollowsIn ph start now came es run → FollowsIn ph start now came gs run
-follows_moved start now came es gs run moves i =
-    let form = run.teller.form in
-    let told = told_by i.written run in
-    record {
-      fs = i.fs;
-      written = i.written;
-      known = i.known;
-      begun = i.begun ∙ ap (λ n. min (length i.fs + n) (2 ^ 64 - 1)) (sym (length_permutation es gs moves));
-      apart = apart_moved es gs moves i.apart;
-      streams = streaming_moved form told run.terms (unwrap_or run.start 0) run.begun i.fs es gs moves i.streams;
-      shared = moved form run.terms came i.fs told es gs (lookup_moved es gs moves i.apart) i.shared;
-      parts = i.parts;
-      rows = rows_moved form run.terms (unwrap_or run.start 0) i.parts told run.begun came i.fs es gs (lookup_moved es gs moves i.apart) i.rows;
-      parting = i.parting;
-    }
-
--- The connection of the segment x is given up.
-pub holds_stop : (start now : TargetSeen) (came : List Arrival) (x : Arrival) (p : Pair) (c : Held) (es : List (Pair × Held)) (old new : Run)
-    → pair_of x ≡ p → new.terms ≡ old.terms → new.start ≡ old.start → new.lost ≡ old.lost → new.teller.form ≡ old.teller.form
-    → TellsOn old.teller new.teller → (is_stream old.teller.form ≡ true → new.teller.text.items ≡ old.teller.text.items)
-    → Holds start now came x p c es old → Stops start now (came ++ x ∷ []) new
-holds_stop start now came x p c es old new ends terms begin lost form tells kept i =
-    let shown = old.teller.form in
-    let told = told_by i.written old in
-    let told' = told_by i.written new in
-    let from = unwrap_or old.start 0 in
-    let is : is_stream shown ≡ true → told' ≡ told = λ stream. ap (λ (l : List ℕ). i.written ++ l) (kept stream) in
-    let so_far = held_so_far shown told old.terms from old.begun came x i.fs p c es i.taken ends i.absent i.apart i.streams i.share i.sends i.others in
-    record {
-      fs = i.fs;
-      written = i.written;
-      known = known_same start now i.fs i.written i.written old new terms begin lost (tells start now (reports_of i.fs) i.written i.known.tells) i.known;
-      so_far = so_far_same shown new.teller.form told' told' old.terms new.terms from (unwrap_or new.start 0) (came ++ x ∷ []) i.fs form refl terms
-          (ap (λ o. unwrap_or o 0) begin) (so_far_on shown told told' old.terms from (came ++ x ∷ []) i.fs is so_far);
-      shared = λ k.
-          let rest : (rest : List Arrival) × IsShared k came i.fs rest = elim (cases_Bool (same_pair k p)) [
-            | inl t ↦ subst (λ q. (rest : List Arrival) × IsShared q came i.fs rest) (sym (same_is k p t)) (i.taken, i.share)
-            | inr e ↦ let s = i.others k e in (s.taken, s.share)
-          ] in
-          more_shared k came (x ∷ []) i.fs rest.0 rest.1;
-    }
-
-pub follows_table : (start now : TargetSeen) (came : List Arrival) (p : Pair) (c : Held) (es gs : List (Pair × Held)) (run : Run) → gs ≡ es
-    → Follows start now came ((p, c) ∷ es) run → Follows start now came ((p, c) ∷ gs) run
-follows_table start now came p c es gs run e i = subst (λ l. Follows start now came ((p, c) ∷ l) run) (sym e) i
-
-pub follows_nothing : (start : TargetSeen) (run : Run) → Tells start start run.teller [] [] → run.teller.text.items ≡ [] → run.lost ≡ 0 → run.begun ≡ 0
-    → run.table ≡ [] → Follows start start [] run.table run
-follows_nothing start run tells empty lost count none =
-    let from = unwrap_or run.start 0 in
-    let P : List (Pair × Held) → Type 0 = λ l. Follows start start [] l run in
-    let Q : ℕ → Type 0 = λ n. IsStreaming run.teller.form (told_by [] run) run.terms from n [] [] in
-    let follows : P [] = record {
-      fs = [];
-      written = [];
-      begun = count;
-      apart = apart_none;
-      known = record { tells = tells; finished = All-nil (IsFinished run.terms from); lost = lost };
-      streams = subst Q (sym count) (streaming_nothing run.teller.form (told_by [] run) run.terms from empty);
-      shared = λ k. record { taken = []; is = refl; share = refl };
-      parts = [];
-      rows = subst (λ n. IsRowing run.teller.form [] (told_by [] run) run.terms from n [] [] []) (sym count)
-          (rows_nothing run.teller.form (told_by [] run) run.terms from empty);
-      parting = parts_nothing;
-    } in
-    subst P (sym none) follows

@@ -22,7 +22,7 @@ use Rattle.bt_talk.specs.Watching.{told_of}
 use Rattle.bt_told.specs.declared.report.Report.{Report}
 use Rattle.bt_capture.specs.Arrivals.{Arrival, is_between, pair_of}
 use Rattle.bt_capture.specs.Connections.{IsFirst}
-use Rattle.bt_capture.specs.Following.{AreRowsBy, AreRowsOf, Fate, Finished, IsLeftShown, IsRowShare, IsRowing, IsRowingTo, IsShared}
+use Rattle.bt_capture.specs.Following.{AreRowsBy, AreRowsOf, Fate, Finished, IsAfterRows, IsLeftShown, IsRowShare, IsRowing, IsRowingTo, IsShared}
 use Rattle.bt_capture.specs.Following.{Lost, Reported, Silent, count_open, count_over, reports_of, taken_between}
 use Rattle.bt_capture.specs.Forms.{is_stream, showing_by, side_of, wanted_by}
 use Rattle.bt_capture.specs.Rowed.{AreOf, HasShown, IsShowing, heading_of}
@@ -94,9 +94,10 @@ other_rows n m (r ∷ rs) other i =
 abbrev pub AddsRows : ℕ → List Shown → List Part → List Part → Type 0
 AddsRows n rows parts parts' =
     (item_rows n parts' ≡ item_rows n parts ++ rows) × ((m : ℕ) → (m ≡ n → ⊥) → item_rows m parts' ≡ item_rows m parts)
+    × ((more : List Part) × (parts' ≡ parts ++ more) × ((m : ℕ) → (m ≡ n → ⊥) → item_rows m more ≡ []))
 
 pub adds_nothing : (n : ℕ) (parts : List Part) → AddsRows n [] parts parts
-adds_nothing n parts = (sym (append-nil (item_rows n parts)), λ m other. refl)
+adds_nothing n parts = (sym (append-nil (item_rows n parts)), λ m other. refl, ([], sym (append-nil parts), λ m other. refl))
 
 rows_and : (m : ℕ) (parts more : List Part) → item_rows m (parts ++ more) ≡ item_rows m parts ++ item_rows m more
 rows_and m parts more =
@@ -107,13 +108,13 @@ rows_and m parts more =
 
 pub adds_by : (n : ℕ) (rows : List Shown) (parts more : List Part) → filter is_item (flat_map rows_of_part more) ≡ rows → AreOf n rows
     → AddsRows n rows parts (parts ++ more)
-adds_by n rows parts more is all = (
-  rows_and n parts more ∙ ap (λ (l : List Shown). item_rows n parts ++ filter (is_row_of n) l) is
-      ∙ ap (λ (l : List Shown). item_rows n parts ++ l) (own_rows n rows all),
-  λ m other.
-      rows_and m parts more ∙ ap (λ (l : List Shown). item_rows m parts ++ filter (is_row_of m) l) is
-      ∙ ap (λ (l : List Shown). item_rows m parts ++ l) (other_rows n m rows other all) ∙ append-nil (item_rows m parts),
-)
+adds_by n rows parts more is all =
+    let none : (m : ℕ) → (m ≡ n → ⊥) → item_rows m more ≡ [] = λ m other. ap (filter (is_row_of m)) is ∙ other_rows n m rows other all in (
+      rows_and n parts more ∙ ap (λ (l : List Shown). item_rows n parts ++ filter (is_row_of n) l) is
+          ∙ ap (λ (l : List Shown). item_rows n parts ++ l) (own_rows n rows all),
+      λ m other. rows_and m parts more ∙ ap (λ (l : List Shown). item_rows m parts ++ l) (none m other) ∙ append-nil (item_rows m parts),
+      (more, refl, none),
+    )
 
 no_stream_none : (n : ℕ) (s : Option (ℕ × Side)) → is_some s ≡ false → side_of n s ≡ None
 no_stream_none n None e = refl
@@ -180,12 +181,24 @@ showing_on : (form : Form) (parts parts' : List Part) (terms : Terms) (from : �
     → IsShowing form parts' terms from taken more c
 showing_on form parts parts' terms from taken more c n rows other adds i = (i.0, i.1, λ small. adds.1 c.number (other small) ∙ i.2 small)
 
-by_same : (form : Form) (parts parts' : List Part) (terms : Terms) (from n : ℕ) (taken : List Arrival) (end : Fate) → item_rows n parts' ≡ item_rows n parts
-    → AreRowsBy form parts terms from n taken end → AreRowsBy form parts' terms from n taken end
-by_same form parts parts' terms from n taken (Reported r) same i =
-    (i.0, subst (λ l. AreShown (heading_of form n from) i.0.a i.0.b i.0.talk l) (sym same) i.1)
-by_same form parts parts' terms from n taken Silent same i = i
-by_same form parts parts' terms from n taken Lost same i = i
+-- Parts follow that have no rows of the connection's items.
+after_more : (n : ℕ) (r : Report) (parts more : List Part) → item_rows n more ≡ [] → IsAfterRows n r parts → IsAfterRows n r (parts ++ more)
+after_more n r parts more none i = record {
+  before = i.before;
+  after = i.after ++ more;
+  is = ap (λ (l : List Part). l ++ more) i.is ∙ append_assoc i.before (OfReport r ∷ i.after) more;
+  none = rows_and n i.after more ∙ ap (λ (l : List Shown). l ++ item_rows n more) i.none ∙ none;
+}
+
+by_same : (form : Form) (parts more : List Part) (terms : Terms) (from n : ℕ) (taken : List Arrival) (end : Fate) → item_rows n more ≡ []
+    → AreRowsBy form parts terms from n taken end → AreRowsBy form (parts ++ more) terms from n taken end
+by_same form parts more terms from n taken (Reported r) none i =
+    let same : item_rows n parts ≡ item_rows n (parts ++ more) =
+    sym (rows_and n parts more ∙ ap (λ (l : List Shown). item_rows n parts ++ l) none ∙ append-nil (item_rows n parts)) in
+    (i.0, subst (λ l. AreShown (heading_of form n from) i.0.a i.0.b i.0.talk l) same i.1, after_more n r parts more none i.2)
+by_same form parts more terms from n taken Silent none i =
+    rows_and n parts more ∙ ap (λ (l : List Shown). l ++ item_rows n more) i ∙ none
+by_same form parts more terms from n taken Lost none i = i
 
 all_on : (form : Form) (parts parts' : List Part) (terms : Terms) (from : ℕ) (fs : List Finished) (n : ℕ) (rows : List Shown)
     → (n < 2 ^ 64 - 1 → count_over n fs ≡ 0) → AddsRows n rows parts parts' → All (AreRowsOf form parts terms from) fs
@@ -199,8 +212,10 @@ all_on form parts parts' terms from (f ∷ fs) n rows none adds i =
     let no = none below in
     let self : one_if (f.number == n) ≡ 1 = subst (λ m. one_if (f.number == m) ≡ 1) same (same_counts f.number) in
     absurd (omega (arith, cons, no, self)) in
+    let more = adds.2 in
     let head : AreRowsOf form parts' terms from f = λ small.
-    by_same form parts parts' terms from f.number f.taken f.fate (adds.1 f.number (other small)) (All-head (AreRowsOf form parts terms from) f fs i small) in
+    subst (λ l. AreRowsBy form l terms from f.number f.taken f.fate) (sym more.1)
+    (by_same form parts more.0 terms from f.number f.taken f.fate (more.2 f.number (other small)) (All-head (AreRowsOf form parts terms from) f fs i small)) in
     All-cons (AreRowsOf form parts' terms from) f fs head
     (all_on form parts parts' terms from fs n rows (λ below. let no = none below in omega (arith, cons, no)) adds
     (All-tail (AreRowsOf form parts terms from) f fs i))
@@ -374,6 +389,15 @@ rows_to_same form form' parts text text' terms terms' from from' begun came fs x
     (subst (λ y. IsRowingTo form parts y terms' from' begun came fs x p taken c es) (sym b)
     (subst (λ y. IsRowingTo form parts text y from' begun came fs x p taken c es) (sym d)
     (subst (λ y. IsRowingTo form parts text terms y begun came fs x p taken c es) (sym e) i)))
+
+-- A report follows the rows of its connection.
+pub after_rows : (n : ℕ) (r : Report) (parts : List Part) (bytes : List ℕ) (rows : List Shown) → IsAfterRows n r (parts ++ parts_of_report bytes rows r)
+after_rows n r parts bytes rows = record {
+  before = parts ++ OfBytes bytes ∷ OfRows rows ∷ [];
+  after = [];
+  is = sym (append_assoc parts (OfBytes bytes ∷ OfRows rows ∷ []) (OfReport r ∷ []));
+  none = refl;
+}
 
 -- ---- before the first segment
 

@@ -1,6 +1,6 @@
 -- A connection takes one segment more.
 use Rattle.bt_talk.specs.declared.terms.Terms.{Terms}
-use Rattle.std.proofs.Common.{◌≡◌, ◌∙◌, Bool, true, false, ◌||◌, List, [], ◌∷◌, ◌++◌, append-nil, Result, Ok, Err, OnOk, OnErr, refl, sym, ap, subst, inl, inr}
+use Rattle.std.proofs.Common.{◌≡◌, ◌∙◌, Bool, true, false, not, ◌&&◌, ◌||◌, List, [], ◌∷◌, ◌++◌, append-nil, Result, Ok, Err, OnOk, OnErr, refl, sym, ap, subst, inl, inr}
 use Rattle.std.specs.List.{list_any}
 use Rattle.std.proofs.lemmas.Bool.{cases_Bool}
 use Rattle.std.proofs.lemmas.List.Folds.{list_any-append}
@@ -14,6 +14,18 @@ use Rattle.bt_capture.specs.Connections.{Begins, HasTaken, IsFirst, IsMade, IsNe
 
 pub any_more : {X : Type 0} (p : X → Bool) (xs : List X) (x : X) → list_any p (xs ++ x ∷ []) ≡ (list_any p xs || p x)
 any_more p xs x = list_any-append p xs (x ∷ []) ∙ ap (λ (b : Bool). list_any p xs || b) (elim (cases_Bool (p x)) [ inl e ↦ rw e refl | inr e ↦ rw e refl ])
+
+-- A silent connection has no byte, and isn't lost.
+pub silent_is : (payload lost : Bool) → (not payload && not lost) ≡ true → (payload ≡ false) × (lost ≡ false)
+silent_is true lost e = absurd (let f : false ≡ true = e in cc)
+silent_is false true e = absurd (let f : false ≡ true = e in cc)
+silent_is false false e = (refl, refl)
+
+-- One that isn't silent has a byte, or is lost.
+pub has_some : (payload lost : Bool) → (not payload && not lost) ≡ false → lost ≡ false → payload ≡ true
+has_some true lost e f = refl
+has_some false true e f = absurd (let g : true ≡ false = f in cc)
+has_some false false e f = absurd (let g : true ≡ false = e in cc)
 
 -- the outcome is the fact, since the connection isn't lost
 pub on_there : {A E P : Type 0} (r : Result A E) (lost : Bool) → OnOk r P → OnErr r (lost ≡ true) → lost ≡ false → P

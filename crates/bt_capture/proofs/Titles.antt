@@ -1,6 +1,7 @@
--- What a side calls itself.
-use Rattle.std.proofs.Common.{◌≡◌, ◌∙◌, ℕ, List, Some, ap}
+-- What a side calls itself, and its receiver.
+use Rattle.std.proofs.Common.{◌≡◌, ◌∙◌, ℕ, true, List, Option, Some, None, is_some, ap}
 use Rattle.bt_intro.specs.Hearing.{IsSaid}
+use Rattle.bt_intro.specs.declared.settling.Receiver.{Receiver}
 use Rattle.bt_intro.specs.Listening.{handshake_of, last_client}
 use Rattle.bt_jobs.specs.Others.{first_of}
 use Rattle.bt_talk.specs.Pasts.{Past}
@@ -22,3 +23,7 @@ title_is p client h t f x y = record {
   named_is = x.1;
   text = f ∙ ap (λ (c : List ℕ). title_by c h) x.2;
 }
+
+pub receiver_there : (o : Option Receiver) (P : Option Receiver → Type 0) → is_some o ≡ true → P o → (r : Receiver) × P (Some r)
+receiver_there None P e i = cc
+receiver_there (Some r) P e i = (r, i)

@@ -1,5 +1,6 @@
--- The segments of a capture, in the order of its packets.
-use Rattle.std.specs.Prelude.{ℕ, ◌+◌, ◌-◌, ◌^◌, min, Bool, not, ◌&&◌, ◌==◌, List, [], ◌∷◌, ◌++◌, length, Option, Some, None}
+-- The segments of a capture, in the order of its packets, and how many packets have none.
+use Rattle.std.specs.Prelude.{ℕ, ◌+◌, ◌-◌, ◌^◌, min, Bool, true, false, not, ◌&&◌, ◌==◌, List, [], ◌∷◌, ◌++◌, length, Option, Some, None}
+use Rattle.std.specs.List.{filter}
 use Rattle.bt_packet.specs.Tcp.{TcpSegment, segment}
 use Rattle.bt_packet.specs.declared.tcp.Segment.{Segment}
 use Rattle.bt_pcap.specs.Formats.{Captured}
@@ -51,3 +52,18 @@ arrivals packets = arrivals_after 0 packets
 abbrev pub first_time : List Captured → Option ℕ
 first_time [] = None
 first_time (p ∷ ps) = Some p.nanos
+
+-- ---- packets that aren't TCP
+
+abbrev pub is_no_segment : Seen → Bool
+is_no_segment (SawSegment s) = false
+is_no_segment (SawUtp u) = true
+is_no_segment SawOther = true
+
+-- It carries no segment.
+abbrev pub is_skipped : Captured → Bool
+is_skipped p = is_no_segment (seen_in p.link p.bytes p.original)
+
+-- how many carry none, at most 2 ^ 64 - 1
+abbrev pub count_skipped : List Captured → ℕ
+count_skipped packets = min (length (filter is_skipped packets)) (2 ^ 64 - 1)

@@ -1,8 +1,9 @@
 -- The connections of a capture: those that are over, and those that aren't.
 use Rattle.bt_talk.specs.declared.terms.Terms.{Terms}
-use Rattle.std.specs.Prelude.{◌≡◌, ◌⊎◌, ◌==◌, ℕ, ◌+◌, ◌-◌, ◌^◌, ◌<◌, ◌≤◌, min, nat_lt, Bool, true, false, if◌then◌else◌, List, [], ◌∷◌, ◌++◌, length}
+use Rattle.std.specs.Prelude.{◌≡◌, ◌⊎◌, ◌==◌, ℕ, ◌+◌, ◌-◌, ◌^◌, ◌<◌, ◌≤◌, min, map, nat_lt, Bool, true, false, if◌then◌else◌, List, [], ◌∷◌, ◌++◌, length}
 use Rattle.std.specs.Prelude.{Option, Some, None, is_some, unwrap_or, Result, Ok, Err}
-use Rattle.std.specs.List.{All, count_by, filter, flat_map, list_any}
+use Rattle.std.specs.List.{All, count_by, filter, flat_map, list_any, slice_get}
+use Rattle.std.specs.List.Sorted.{IsNonDecreasing}
 use Rattle.std.specs.Map.{lookup}
 use Rattle.bt_io.specs.Seen.{TargetSeen}
 use Rattle.bt_packet.specs.declared.tcp.Segment.{Segment}
@@ -21,7 +22,7 @@ use Rattle.bt_capture.specs.Reportings.{IsReportOf}
 use Rattle.bt_capture.specs.Sending.{IsSending}
 use Rattle.bt_capture.specs.Rowed.{IsShowing, heading_of}
 use Rattle.bt_capture.specs.Tables.{Held, IsApart, same_pair}
-use Rattle.bt_capture.specs.Tellings.{ArePartsOf, Part, Tells, item_rows}
+use Rattle.bt_capture.specs.Tellings.{ArePartsOf, OfReport, Part, Tells, item_rows}
 use Rattle.bt_capture.specs.declared.connection.Connection.{Connection}
 use Rattle.bt_capture.specs.declared.connections.Run.{Run}
 use Rattle.bt_capture.specs.declared.ending.Form.{Form}
@@ -29,7 +30,7 @@ use Rattle.bt_capture.specs.declared.pair.Pair.{Pair}
 
 -- ---- connections that are over
 
--- It was reported; or no byte of its streams was captured; or memory ran out.
+-- It was reported; or no byte of its streams was captured; or memory ran out with it.
 pub data Fate : Type 0 where
   Reported : Report → Fate
   Silent : Fate
@@ -87,7 +88,7 @@ abbrev pub IsFate : Terms → (from number : ℕ) → List Arrival → Cause →
 IsFate terms from number taken cause (Reported r) =
     (list_any has_data taken ≡ true) × (i : IsReported terms from number taken r) × (i.left ≡ left_by cause)
 IsFate terms from number taken cause Silent = list_any has_data taken ≡ false
-IsFate terms from number taken cause Lost = list_any has_data taken ≡ true
+IsFate terms from number taken cause Lost = Unit {0}
 
 -- The connection is over for this reason.
 abbrev pub IsWhy : Cause → Past → Past → Talk → Type 0
@@ -110,7 +111,7 @@ pub record IsOverBy (terms : Terms) (taken : List Arrival) (cause : Cause) : Typ
 -- If memory ran out with a connection no reason is known.
 abbrev pub IsCause : Terms → List Arrival → Cause → Fate → Type 0
 IsCause terms taken cause (Reported r) = IsOverBy terms taken cause
-IsCause terms taken cause Silent = (cause ≡ Unknown) ⊎ IsOverBy terms taken cause
+IsCause terms taken cause Silent = IsOverBy terms taken cause
 IsCause terms taken cause Lost = cause ≡ Unknown
 
 abbrev pub IsFinished : Terms → ℕ → Finished → Type 0
@@ -146,13 +147,49 @@ count_open n es = count_by (λ e. e.1.value.number == n) es
 abbrev pub AreNumbered : ℕ → List Finished → List (Pair × Held) → Type 0
 AreNumbered begun fs es = (n : ℕ) → n < 2 ^ 64 - 1 → count_over n fs + count_open n es ≡ (if nat_lt n begun then 1 else 0)
 
+-- the numbers of those that aren't over
+abbrev pub numbers : List (Pair × Held) → List ℕ
+numbers es = map (λ e. e.1.value.number) es
+
+-- The first of these segments is at this place of those that came.
+abbrev pub IsFirstAt : List Arrival → ℕ → List Arrival → Type 0
+IsFirstAt arrivals i [] = ⊥
+IsFirstAt arrivals i (x ∷ taken) = slice_get arrivals i ≡ Some x
+
+-- The connection with this number, which took these segments, began at the number's place. Nothing is said of the number 2 ^ 64 - 1.
+abbrev pub IsBegunAt : (ℕ → ℕ) → List Arrival → (begun number : ℕ) → List Arrival → Type 0
+IsBegunAt place arrivals begun number taken = number < 2 ^ 64 - 1 → (number < begun) × IsFirstAt arrivals (place number) taken
+
+-- So many have begun, with the segments at these places, of which each is after those before. These connections are over.
+pub record AreInOrder (place : ℕ → ℕ) (arrivals : List Arrival) (begun : ℕ) (fs : List Finished) : Type 0 where
+  pub ascending : (m n : ℕ) → m < n → n < begun → place m < place n
+  pub over : All (λ f. IsBegunAt place arrivals begun f.number f.taken) fs
+
+abbrev pub is_final : Cause → Bool
+is_final Final = true
+is_final Ended = false
+is_final Crowded = false
+is_final Unknown = false
+is_final (Before x) = false
+
+abbrev pub AreNotFinal : List Finished → Type 0
+AreNotFinal fs = All (λ f. is_final f.cause ≡ false) fs
+
+-- Those that were left at the end are the last, in the order of their numbers, and the ones with these numbers come after them.
+pub record AreLast (fs : List Finished) (left : List ℕ) : Type 0 where
+  pub early : List Finished
+  pub late : List Finished
+  pub is : fs ≡ early ++ late
+  pub early_are : AreNotFinal early
+  pub ascending : IsNonDecreasing (map (λ f. f.number) late ++ left)
+
 -- ---- the stream that is told
 
 -- These are all bytes of the side's stream, from its handshake on, or from its first byte if none started in the opening: the stream of which
--- the report tells. Nothing is said of a connection without a report.
+-- the report tells. There are none of a connection without a captured byte. Nothing is said of one with which memory ran out.
 abbrev pub IsStreamBy : Side → List ℕ → Terms → (from number : ℕ) → List Arrival → Fate → Type 0
 IsStreamBy side bytes terms from number taken (Reported r) = (i : IsReported terms from number taken r) × IsSent false (of_side side i.a i.b) bytes
-IsStreamBy side bytes terms from number taken Silent = Unit {0}
+IsStreamBy side bytes terms from number taken Silent = bytes ≡ []
 IsStreamBy side bytes terms from number taken Lost = Unit {0}
 
 abbrev pub IsStreamOf : Side → List ℕ → Terms → ℕ → Finished → Type 0
@@ -225,13 +262,6 @@ coming During k = []
 coming (Coming p x) k = if same_pair k p then x ∷ [] else []
 coming AtEnd k = []
 
-abbrev pub is_final : Cause → Bool
-is_final Final = true
-is_final Ended = false
-is_final Crowded = false
-is_final Unknown = false
-is_final (Before x) = false
-
 -- As long as segments may come no connection is known to be the last one between its ends.
 abbrev pub MayBe : Phase → Cause → Type 0
 MayBe During cause = is_final cause ≡ false
@@ -254,16 +284,49 @@ pub record MayEnd (ph : Phase) (cause : Cause) (p : Pair) (c : Connection) : Typ
   pub parted : IsParted cause (coming ph p)
   pub why : (a b : Past) → IsTalk a b c.talk → IsWhy cause a b c.talk
 
+-- ---- the order of all connections
+
+abbrev pub ComeLast : Phase → List Finished → List (Pair × Held) → Type 0
+ComeLast During fs es = AreNotFinal fs
+ComeLast (Coming p x) fs es = AreNotFinal fs
+ComeLast AtEnd fs es = AreLast fs (numbers es)
+
+-- So many have begun, each after those of lower numbers: those that are over, and those that aren't.
+pub record AreBegun (arrivals : List Arrival) (fs : List Finished) (es : List (Pair × Held)) (begun : ℕ) : Type 0 where
+  pub place : ℕ → ℕ
+  pub within : (n : ℕ) → n < begun → place n < length arrivals
+  pub order : AreInOrder place arrivals begun fs
+  pub left : (k : Pair) (c : Held) (rest : List Arrival) → lookup (same_pair k) es ≡ Some c → IsShared k arrivals fs rest
+      → IsBegunAt place arrivals begun c.value.number rest
+
+-- The connection between the ends p, with this number, takes the segment x next, and isn't among the others.
+pub record AreBegunTo (arrivals : List Arrival) (fs : List Finished) (x : Arrival) (p : Pair) (number : ℕ) (taken : List Arrival)
+    (es : List (Pair × Held)) (begun : ℕ) : Type 0 where
+  pub place : ℕ → ℕ
+  pub within : (n : ℕ) → n < begun → place n < length arrivals + 1
+  pub order : AreInOrder place arrivals begun fs
+  pub own : IsBegunAt place (arrivals ++ x ∷ []) begun number (taken ++ x ∷ [])
+  pub left : (k : Pair) (c : Held) (rest : List Arrival) → same_pair k p ≡ false → lookup (same_pair k) es ≡ Some c → IsShared k arrivals fs rest
+      → IsBegunAt place arrivals begun c.value.number rest
+
 -- ---- the rows of items
+
+-- No row of an item of the connection with this number comes after this report.
+pub record IsAfterRows (number : ℕ) (r : Report) (parts : List Part) : Type 0 where
+  pub before : List Part
+  pub after : List Part
+  pub is : parts ≡ before ++ OfReport r ∷ after
+  pub none : item_rows number after ≡ []
 
 abbrev pub AreRowsBy : Form → List Part → Terms → (from number : ℕ) → List Arrival → Fate → Type 0
 AreRowsBy form parts terms from number taken (Reported r) =
     (i : IsReported terms from number taken r) × AreShown (heading_of form number from) i.a i.b i.talk (item_rows number parts)
-AreRowsBy form parts terms from number taken Silent = Unit {0}
+    × IsAfterRows number r parts
+AreRowsBy form parts terms from number taken Silent = item_rows number parts ≡ []
 AreRowsBy form parts terms from number taken Lost = Unit {0}
 
 -- The rows of this connection among the parts show the items of both its sides: a row for each item of the streams of which the report tells,
--- those of a side in its order. Nothing is said of a connection without a report.
+-- those of a side in its order, all of them before the report. Nothing is said of a connection with which memory ran out.
 abbrev pub AreRowsOf : Form → List Part → Terms → ℕ → Finished → Type 0
 AreRowsOf form parts terms from f = f.number < 2 ^ 64 - 1 → AreRowsBy form parts terms from f.number f.taken f.fate
 
@@ -355,6 +418,8 @@ pub record FollowsIn (ph : Phase) (start now : TargetSeen) (arrivals : List Arri
   pub parts : List Part
   pub rows : Rows parts written arrivals fs es run
   pub parting : AreParts ph arrivals fs
+  pub order : AreBegun arrivals fs es run.begun
+  pub last : ComeLast ph fs es
 
 -- As FollowsIn, and the capture is still read.
 abbrev pub Follows : TargetSeen → TargetSeen → List Arrival → List (Pair × Held) → Run → Type 0
@@ -393,6 +458,8 @@ pub record Holds (start now : TargetSeen) (arrivals : List Arrival) (x : Arrival
   pub parts : List Part
   pub rows : IsRowingTo run.teller.form parts (told_by written run) run.terms (unwrap_or run.start 0) run.begun arrivals fs x p taken c.value es
   pub parting : AreParts (Coming p x) arrivals fs
+  pub order : AreBegunTo arrivals fs x p c.value.number taken es run.begun
+  pub last : AreNotFinal fs
 
 -- The connection of the next segment x was found or begun; or memory ran out.
 abbrev pub Finds : {E : Type 0} → TargetSeen → TargetSeen → List Arrival → Arrival → Pair → List (Pair × Held) → Run → Result Held E → Type 0

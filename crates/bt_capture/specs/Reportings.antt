@@ -132,10 +132,14 @@ abbrev pub IsLastOfSide : Side → Past → Past → Talk → Option Last → Ty
 IsLastOfSide side a b t last =
     IsLastBefore (is_in_opening t) (terms_of t) (of_side side a b) (of_side (other side) a b) (cut_of side t) last
 
+-- It has a whole handshake.
+abbrev pub HasReceiver : Side → Past → Past → Talk → Type 0
+HasReceiver side a b t = (r : Receiver) × IsReceiverOf side a b t (Some r)
+
 -- What a side had sent then; nothing is told if it has no whole handshake.
 abbrev pub IsBeforeOf : Side → Past → Past → Talk → Option Before → Type 0
 IsBeforeOf side a b t None = IsReceiverOf side a b t None ⊎ (IsSentBefore side a b t None ⊎ IsLastOfSide side a b t None)
-IsBeforeOf side a b t (Some before) = IsSentBefore side a b t (Some before.sent) × IsLastOfSide side a b t (Some before.last)
+IsBeforeOf side a b t (Some before) = HasReceiver side a b t × IsSentBefore side a b t (Some before.sent) × IsLastOfSide side a b t (Some before.last)
 
 -- The first FIN or RST; its time counts from the capture's start.
 pub record IsClosing (from : ℕ) (a b : Past) (t : Talk) (c : FirstClose) (r : Closed) : Type 0 where
@@ -161,7 +165,7 @@ AreRemarksOn side a b t i r =
 -- The remarks are those on what both sides sent; there are none if a side has no whole handshake.
 abbrev pub AreRemarksOf : Past → Past → Talk → Remarked → Remarked → Type 0
 AreRemarksOf a b t x y =
-    ((i : IsTalk a b t) × AreRemarksOn A a b t i x × AreRemarksOn B a b t i y)
+    (HasReceiver A a b t × HasReceiver B a b t × (i : IsTalk a b t) × AreRemarksOn A a b t i x × AreRemarksOn B a b t i y)
     ⊎ ((x ≡ no_remarks) × (y ≡ no_remarks) × (IsReceiverOf A a b t None ⊎ IsReceiverOf B a b t None))
 
 -- A connection that has ended is complete.

@@ -16,11 +16,11 @@ use Rattle.bt_capture.specs.declared.ending.CaptureFault.TheVariants.{File, Read
 use Rattle.bt_capture.specs.declared.packets.FileEnd.{FileEnd}
 use Rattle.bt_capture.specs.declared.packets.FileEnd.TheVariants.{Whole, Cut}
 use Rattle.bt_capture.specs.declared.pair.Pair.{Pair}
-use Rattle.bt_capture.specs.Arrivals.{Arrival, arrivals, first_time}
-use Rattle.bt_capture.specs.Ends.{IsEnded}
-use Rattle.bt_capture.specs.Following.{AreParted, AreRowsOf, Finished, IsFinished, IsSentBy, IsShared, IsStreamOf}
+use Rattle.bt_capture.specs.Arrivals.{Arrival, arrivals, count_skipped, first_time}
+use Rattle.bt_capture.specs.Ends.{IsBroken, IsEnded}
+use Rattle.bt_capture.specs.Following.{AreInOrder, AreLast, AreParted, AreRowsOf, Finished, IsFinished, IsSentBy, IsShared, IsStreamOf}
 use Rattle.bt_capture.specs.Following.{Phase, During, IsStreamSoFar, AreNumbered, FollowsIn, between, reports_of, count_lost}
-use Rattle.bt_capture.specs.Readings.{Reading, IsReading}
+use Rattle.bt_capture.specs.Readings.{Reading, IsReading, Waits}
 use Rattle.bt_capture.specs.Tables.{Held}
 use Rattle.bt_utp.specs.Flows.{flows}
 use Rattle.bt_utp.specs.States.{AreCounted}
@@ -63,6 +63,7 @@ pub record IsTellingIn (ph : Phase) (o : Origin) (left : Option (List ℕ)) (now
   pub time : run.start ≡ first_time packets
   pub follows : FollowsIn ph o.target now (arrivals packets) es run
   pub utp : AreCounted (datagrams packets) run.utp
+  pub skipped : run.skipped ≡ count_skipped packets
 
 -- As IsTellingIn, and the capture is still read.
 abbrev pub IsTelling : Origin → Option (List ℕ) → TargetSeen → List (Pair × Held) → Run → Reading → Type 0
@@ -75,13 +76,16 @@ pub record AreOver (o : Origin) (packets : List Captured) (fs : List Finished) :
   pub finished : All (IsFinished o.terms (unwrap_or (first_time packets) 0)) fs
   pub shared : (k : Pair) → (rest : List Arrival) × IsShared k (arrivals packets) fs rest
 
--- All connections are over: each segment of the packets was taken by one of them, and each has its number. Of those between the same ends each
--- is over for a reason, and those that come after it took the segments that follow.
+-- All connections are over: each segment of the packets was taken by one of them, and each has its number, in the order in which they began. Of
+-- those between the same ends each is over for a reason, and those that come after it took the segments that follow.
 pub record AreAllOver (o : Origin) (packets : List Captured) (fs : List Finished) : Type 0 where
   pub finished : All (IsFinished o.terms (unwrap_or (first_time packets) 0)) fs
   pub numbered : AreNumbered (length fs) fs []
   pub shared : (k : Pair) → IsShared k (arrivals packets) fs []
   pub parted : (k : Pair) → AreParted (between k fs) []
+  pub place : ℕ → ℕ
+  pub order : AreInOrder place (arrivals packets) (min (length fs) (2 ^ 64 - 1)) fs
+  pub last : AreLast fs []
 
 -- If a stream is told, the text is that of the asked side of the connection with the asked number, if there is a report on that. It is empty
 -- if no connection has the number.
@@ -109,16 +113,18 @@ utp_text form ds = if is_stream form then [] else flow_texts form.json (flows ds
 abbrev pub utp_lines : Form → List Captured → List ℕ
 utp_lines form packets = utp_text form (datagrams packets)
 
--- The file was read to its end. What was written are the texts of the reports on all its connections, in order, with rows between them, and
--- after them the lines on uTP; or the stream of one side of a connection. The reports add up to this.
+-- The file was read to its end, and none of what is left can be taken. What was written are the texts of the reports on all its connections,
+-- in order, with rows between them, and after them the lines on uTP; or the stream of one side of a connection. The reports add up to this.
 pub record IsEndOf (o : Origin) (left : Option (List ℕ)) (now : TargetSeen) (end : CaptureEnd) : Type 0 where
   pub packets : List Captured
   pub r : Reading
   pub read : HasRead o left packets r
+  pub waits : Waits r
   pub file_end : FileEnd
   pub ended : IsEnded r (Ok file_end)
   pub cut : end.is_cut ≡ is_cut_by file_end
   pub count : end.packets ≡ min (length packets) (2 ^ 64 - 1)
+  pub skipped : end.skipped ≡ count_skipped packets
   pub fs : List Finished
   pub over : AreAllOver o packets fs
   pub text : List ℕ
@@ -138,11 +144,12 @@ IsOnlyStream o now end packets fs n side = (bytes : List ℕ) × Appends o.targe
     × (((end.absent ≡ Some n) × (bytes ≡ []))
     ⊎ ((f : Finished) × Contains fs f × (f.number ≡ n) × IsStreamOf side bytes o.terms (unwrap_or (first_time packets) 0) f))
 
--- The texts of the reports on all connections of what was read are written, and the lines on uTP.
-pub record AreWritten (o : Origin) (left : Option (List ℕ)) (now : TargetSeen) : Type 0 where
+-- The texts of the reports on all connections of what was read are written, and the lines on uTP. This is why no more was read.
+pub record AreWritten (Why : Reading → Type 0) (o : Origin) (left : Option (List ℕ)) (now : TargetSeen) : Type 0 where
   pub packets : List Captured
   pub r : Reading
   pub read : HasRead o left packets r
+  pub why : Why r
   pub fs : List Finished
   pub over : AreAllOver o packets fs
   pub text : List ℕ
@@ -191,8 +198,8 @@ pub record IsLeft (o : Origin) (left : Option (List ℕ)) (now : TargetSeen) : T
 
 abbrev pub IsToldTo : CaptureFault → Origin → Option (List ℕ) → TargetSeen → Type 0
 IsToldTo Write o left now = IsLeft o left now
-IsToldTo (File f) o left now = AreWritten o left now
-IsToldTo Read o left now = AreWritten o left now
+IsToldTo (File f) o left now = AreWritten (IsBroken f) o left now
+IsToldTo Read o left now = AreWritten Waits o left now
 IsToldTo Memory o left now = ArePartlyWritten o left now
 IsToldTo Turns o left now = ArePartlyWritten o left now
 

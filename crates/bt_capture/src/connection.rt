@@ -1,6 +1,6 @@
 //! A connection of a capture, with its number.
 ghost use Rattle.bt_talk.specs.declared.terms.Terms.{Terms};
-ghost use Rattle.std.specs.Prelude.{false, ◌≡◌, ◌<◌, ◌^◌, ◌++◌, ◌∷◌, List, [], Option, Some, ℕ};
+ghost use Rattle.std.specs.Prelude.{false, not, ◌&&◌, ◌≡◌, ◌<◌, ◌^◌, ◌++◌, ◌∷◌, List, [], Option, Some, ℕ};
 ghost use Rattle.bt_talk.specs.declared.closing.When.{When};
 ghost use Rattle.bt_talk.specs.declared.rows.Heading.{Heading};
 ghost use Rattle.bt_capture.specs.Arrivals.{Arrival, arrived, has_data};
@@ -86,6 +86,13 @@ impl Connection {
         self.has_payload |= has_payload(segment);
         let _taken = self.talk.take(segment, when, room);
         self.size = size_with(&self.talk);
+    }
+
+    /// Tells whether no byte of a stream was captured, and memory didn't run out.
+    pub fn is_silent(&self) -> bool
+        ensures { result ≡ (not self.now.has_payload && not (is_lost self.now.talk)) }
+    {
+        !self.has_payload && !self.talk.is_lost()
     }
 
     /// Returns about how many bytes of memory it took after its last segment.

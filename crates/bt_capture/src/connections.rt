@@ -1,11 +1,12 @@
 //! The connections of a capture, and the reports of those that are over.
 ghost use Rattle.std.specs.Prelude.{◌≡◌, ◌∷◌, ◌++◌, [], ◌+◌, ◌-◌, ◌^◌, ◌<◌, ◌≤◌, min, ℕ, List, length, false, true, None, Some, unwrap_or, IfOk, OnOk, OnErr};
 ghost use Rattle.std.specs.Map.{lookup};
-ghost use Rattle.std.specs.List.Sorted.{IsPermutation};
+ghost use Rattle.std.specs.List.Sorted.{IsNonDecreasing, IsPermutation};
+ghost use Rattle.bt_io.specs.Counts.{counted as counted_if, one_more};
 ghost use Rattle.bt_io.specs.Seen.{TargetSeen};
 ghost use Rattle.bt_pcap.specs.Formats.{Captured};
 ghost use Rattle.bt_pcap.specs.Steps.{captured};
-ghost use Rattle.bt_capture.specs.Arrivals.{Arrival, arrived, arrivals, arrivals_in, first_time};
+ghost use Rattle.bt_capture.specs.Arrivals.{Arrival, arrived, arrivals, arrivals_in, count_skipped, first_time, is_no_segment};
 ghost use Rattle.bt_utp.specs.States.{AreCounted};
 ghost use Rattle.bt_packet.specs.declared.utp.Utp.{Utp};
 ghost use Rattle.bt_capture.specs.FlowTexts.{datagrams, datagrams_in};
@@ -20,7 +21,7 @@ ghost use Rattle.bt_capture.specs.Sending.{HasSent, IsSentOff};
 ghost use Rattle.bt_capture.specs.Rowed.{HasShown, ShowsOn, heading_of};
 ghost use Rattle.bt_capture.specs.Forms.{absent_from, handed, is_stream, showing_by, wanted_by};
 ghost use Rattle.bt_capture.specs.Bounds.{IsBounded, IsCounted};
-ghost use Rattle.bt_capture.specs.Following.{Phase, Coming, Cause, FollowsIn, GoesIn, Follows, Goes, Finds, MayEnd, left_by};
+ghost use Rattle.bt_capture.specs.Following.{Phase, Coming, Cause, FollowsIn, GoesIn, Follows, Goes, Finds, MayEnd, left_by, numbers};
 ghost use Rattle.bt_capture.specs.Tellings.{TellsOn};
 ghost use Rattle.bt_capture.specs.Runs.{utp_text};
 ghost use Rattle.bt_capture.specs.Sights.{seen};
@@ -104,6 +105,7 @@ impl Run {
         ensures terms { IfOk result (λ run. run.terms ≡ terms) }
         ensures form { IfOk result (λ run. run.teller.form ≡ form) }
         ensures utp { IfOk result (λ run. AreCounted [] run.utp) }
+        ensures skipped { IfOk result (λ run. run.skipped ≡ 0) }
         ensures bounded { IfOk result IsBounded }
     {
         Ok(Run {
@@ -143,8 +145,9 @@ impl Run {
         ensures form { self.new.teller.form ≡ self.old.teller.form }
         ensures start { self.new.start ≡ self.old.start }
         ensures utp { self.new.utp ≡ self.old.utp }
+        ensures skipped { self.new.skipped ≡ self.old.skipped }
     {
-        if !connection.has_payload {
+        if connection.is_silent() {
             return Ok(());
         }
         let from = self.start.unwrap_or(0);
@@ -176,6 +179,7 @@ impl Run {
         ensures form { self.new.teller.form ≡ self.old.teller.form }
         ensures start { self.new.start ≡ self.old.start }
         ensures utp { self.new.utp ≡ self.old.utp }
+        ensures skipped { self.new.skipped ≡ self.old.skipped }
     {
         match self.table.take_oldest() {
             Some((_, oldest)) => {
@@ -205,6 +209,7 @@ impl Run {
         ensures form { self.new.teller.form ≡ self.old.teller.form }
         ensures start { self.new.start ≡ self.old.start }
         ensures utp { self.new.utp ≡ self.old.utp }
+        ensures skipped { self.new.skipped ≡ self.old.skipped }
     {
         'oldest: while self.is_full() && self.table.len() > 0 {
             match self.end_oldest() {
@@ -228,6 +233,7 @@ impl Run {
         ensures form { self.new.teller.form ≡ self.old.teller.form }
         ensures start { self.new.start ≡ self.old.start }
         ensures utp { self.new.utp ≡ self.old.utp }
+        ensures skipped { self.new.skipped ≡ self.old.skipped }
     {
         self.bytes = self.bytes.saturating_add(connection.size());
         match self.table.put(pair, connection) {
@@ -248,6 +254,7 @@ impl Run {
         ensures form { self.new.teller.form ≡ self.old.teller.form }
         ensures start { self.new.start ≡ self.old.start }
         ensures utp { self.new.utp ≡ self.old.utp }
+        ensures skipped { self.new.skipped ≡ self.old.skipped }
     {
         let connection = Connection::new(self.alloc, self.begun, segment, self.terms);
         self.begun = self.begun.saturating_add(1);
@@ -274,6 +281,7 @@ impl Run {
         ensures form { self.new.teller.form ≡ self.old.teller.form }
         ensures start { self.new.start ≡ self.old.start }
         ensures utp { self.new.utp ≡ self.old.utp }
+        ensures skipped { self.new.skipped ≡ self.old.skipped }
     {
         if !begins_another(&connection.talk, segment, when) {
             return Ok(connection);
@@ -299,6 +307,7 @@ impl Run {
         ensures form { self.new.teller.form ≡ self.old.teller.form }
         ensures start { self.new.start ≡ self.old.start }
         ensures utp { self.new.utp ≡ self.old.utp }
+        ensures skipped { self.new.skipped ≡ self.old.skipped }
     {
         match self.table.take_out(pair) {
             Some(connection) => {
@@ -366,6 +375,7 @@ impl Run {
         ensures form { self.new.teller.form ≡ self.old.teller.form }
         ensures start { self.new.start ≡ self.old.start }
         ensures utp { self.new.utp ≡ self.old.utp }
+        ensures skipped { self.new.skipped ≡ self.old.skipped }
     {
         match self.table.take_out(pair) {
             Some(connection) => {
@@ -387,6 +397,7 @@ impl Run {
         ensures form { self.new.teller.form ≡ self.old.teller.form }
         ensures start { self.new.start ≡ self.old.start }
         ensures utp { self.new.utp ≡ self.old.utp }
+        ensures skipped { self.new.skipped ≡ self.old.skipped }
     {
         let Some(pair) = self.ended.take_due(nanos) else {
             return Ok(());
@@ -410,6 +421,7 @@ impl Run {
         ensures form { self.new.teller.form ≡ self.old.teller.form }
         ensures start { self.new.start ≡ self.old.start }
         ensures utp { self.new.utp ≡ self.old.utp }
+        ensures skipped { self.new.skipped ≡ self.old.skipped }
     {
         let pair = Pair::of(segment.source, segment.target);
         match self.connection_of(pair, segment, when) {
@@ -425,7 +437,7 @@ impl Run {
 
     /// Counts a packet that isn't TCP.
     fn skip(&mut self)
-        ensures { self.new ≡ record self.old { skipped = self.new.skipped } }
+        ensures { self.new ≡ record self.old { skipped = one_more self.old.skipped } }
     {
         self.skipped = self.skipped.saturating_add(1);
     }
@@ -439,6 +451,7 @@ impl Run {
         ensures form { self.new.teller.form ≡ self.old.teller.form }
         ensures start { self.new.start ≡ self.old.start }
         ensures utp { OnOk result ((ds : List Utp) → AreCounted ds self.old.utp → AreCounted (ds ++ datagrams_in (seen sight.now)) self.new.utp) }
+        ensures skipped { self.new.skipped ≡ counted_if (is_no_segment (seen sight.now)) self.old.skipped }
     {
         match sight {
             Sight::Segment(segment) => self.take_segment(segment, when),
@@ -470,6 +483,8 @@ impl Run {
         ensures start { (packets : List Captured) → self.old.start ≡ first_time packets → self.new.start ≡ first_time (packets ++ captured packet.now ∷ []) }
         ensures utp { OnOk result ((packets : List Captured) → AreCounted (datagrams packets) self.old.utp
             → AreCounted (datagrams (packets ++ captured packet.now ∷ [])) self.new.utp) }
+        ensures skipped { (packets : List Captured) → self.old.skipped ≡ count_skipped packets
+            → self.new.skipped ≡ count_skipped (packets ++ captured packet.now ∷ []) }
     {
         self.start = self.start.or(Some(packet.nanos));
         let when = When {
@@ -489,6 +504,7 @@ impl Run {
     pub fn rest(&mut self) -> Result<Vec<(Pair, Box<Connection>)>, AllocError>
         ensures all { IfOk result (λ all. IsPermutation self.old.table all.items) }
         ensures apart { IfOk result (λ all. IsApart all.items) }
+        ensures sorted { IfOk result (λ all. IsNonDecreasing (numbers all.items)) }
         ensures same { self.new ≡ record self.old { table = self.new.table } }
     {
         let mut rest = Vec::with_capacity(self.alloc, self.table.len())?;

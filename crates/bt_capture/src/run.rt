@@ -4,8 +4,8 @@ ghost use Rattle.std.specs.Map.{lookup};
 ghost use Rattle.bt_io.specs.Seen.{TargetSeen};
 ghost use Rattle.bt_packet.specs.declared.utp.Utp.{Utp};
 ghost use Rattle.bt_utp.specs.States.{AreCounted};
-ghost use Rattle.bt_capture.specs.Ends.{IsEnded};
-ghost use Rattle.bt_capture.specs.Readings.{Reading};
+ghost use Rattle.bt_capture.specs.Ends.{IsEnded, IsWhy};
+ghost use Rattle.bt_capture.specs.Readings.{Reading, Waits};
 ghost use Rattle.bt_capture.specs.Tables.{Held, same_pair};
 ghost use Rattle.bt_capture.specs.Sees.{HasSeenAll, HasSeenMore, HasSeenTurn, IsNoRead};
 ghost use Rattle.bt_capture.specs.Tellings.{IsEmpty};
@@ -59,6 +59,8 @@ fn step(run: &mut Run, packets: &mut Packets) -> Result<bool, CaptureFault>
     ensures after { (o : Origin) (left : Option (List ℕ)) (now : TargetSeen) → IsTelling o left now run.old.table run.old packets.old
         → IsAfter o left now run.new.table run.new packets.new result }
     ensures few { result ≡ Ok false → length packets.new.held < 1048604 }
+    ensures waits { result ≡ Ok false → Waits packets.new }
+    ensures why { IfErr result (λ f. IsWhy f packets.new) }
     ensures fault { IfErr result IsNoRead }
 {
     let number = packets.packets().saturating_add(1);
@@ -82,6 +84,8 @@ fn read_more<R: Source, W: Target>(
     requires { length packets.old.held < 1048604 }
     ensures after { (o : Origin) → IsTelling o (R.seen reader.old).left (W.seen writer.old) run.old.table run.old packets.old
         → IsAfter o (R.seen reader.new).left (W.seen writer.new) run.new.table run.new packets.new result }
+    ensures waits { Waits packets.old → result ≡ Ok false → Waits packets.new }
+    ensures why { Waits packets.old → IfErr result (λ f. IsWhy f packets.new) }
     ensures seen { HasSeenMore result (R.seen reader.old) (R.seen reader.new) }
 {
     match write(run, writer) {
@@ -101,6 +105,7 @@ fn ended(packets: &Packets) -> Result<FileEnd, CaptureFault>
     ensures after { (o : Origin) (left : Option (List ℕ)) (now : TargetSeen) (es : List (Pair × Held)) (run : Run) → IsTelling o left now es run packets.now
         → IsAfter o left now es run packets.now result }
     ensures ended { IfOk result (λ e. IsEnded packets.now (Ok e)) }
+    ensures why { Waits packets.now → IfErr result (λ f. IsWhy f packets.now) }
     ensures fault { IfErr result IsNoRead }
 {
     match packets.ended() {
@@ -119,6 +124,8 @@ fn turn<R: Source, W: Target>(
     ensures after { (o : Origin) → IsTelling o (R.seen reader.old).left (W.seen writer.old) run.old.table run.old packets.old
         → IsAfter o (R.seen reader.new).left (W.seen writer.new) run.new.table run.new packets.new result }
     ensures ended { IfOk result (λ end. IfSome end (λ e. IsEnded packets.new (Ok e))) }
+    ensures waits { IfOk result (λ end. IfSome end (λ e. Waits packets.new)) }
+    ensures why { IfErr result (λ f. IsWhy f packets.new) }
     ensures seen { HasSeenTurn result (R.seen reader.old) (R.seen reader.new) }
 {
     match step(run, packets) {
@@ -148,6 +155,8 @@ fn read_all<R: Source, W: Target>(
     ensures after { (o : Origin) → IsTelling o (R.seen reader.old).left (W.seen writer.old) run.old.table run.old packets.old
         → IsAfter o (R.seen reader.new).left (W.seen writer.new) run.new.table run.new packets.new result }
     ensures ended { IfOk result (λ e. IsEnded packets.new (Ok e)) }
+    ensures waits { IfOk result (λ e. Waits packets.new) }
+    ensures why { IfErr result (λ f. IsWhy f packets.new) }
     ensures seen { HasSeenAll result (R.seen reader.old) (R.seen reader.new) }
 {
     for _turn in 0..u64::MAX {
@@ -223,7 +232,8 @@ fn is_cut(end: FileEnd) -> bool
 /// Returns what the capture had, once all is told.
 fn end_of(run: &Run, packets: &Packets, end: FileEnd) -> CaptureEnd
     ensures { (o : Origin) (left : Option (List ℕ)) (before now : TargetSeen) (i : IsTellingIn AtEnd o left before [] run.now packets.now)
-        → IsEmpty run.now.teller → IsEnded packets.now (Ok end) → Adds (utp_lines run.now.teller.form i.packets) before now done → IsEndOf o left now result }
+        → IsEmpty run.now.teller → IsEnded packets.now (Ok end) → Waits packets.now → Adds (utp_lines run.now.teller.form i.packets) before now done
+        → IsEndOf o left now result }
 {
     CaptureEnd {
         packets: packets.packets(),
@@ -244,7 +254,7 @@ fn end_whole<W: Target>(
     writer: &mut W,
 ) -> Result<CaptureEnd, CaptureFault>
     ensures told { (o : Origin) (left : Option (List ℕ)) → IsTelling o left (W.seen writer.old) run.old.table run.old packets.now → IsEnded packets.now (Ok end)
-        → IsTold o left (W.seen writer.new) result }
+        → Waits packets.now → IsTold o left (W.seen writer.new) result }
     ensures fault { IfErr result IsOfTelling }
 {
     match finish(run, writer) {
@@ -264,7 +274,7 @@ fn end_unread<W: Target>(
 ) -> Result<CaptureEnd, CaptureFault>
     requires { IsOfReading fault }
     ensures told { (o : Origin) (left : Option (List ℕ)) (r : Reading) → IsTelling o left (W.seen writer.old) run.old.table run.old r
-        → IsTold o left (W.seen writer.new) result }
+        → IsWhy fault r → IsTold o left (W.seen writer.new) result }
     ensures fault { IfErr result (λ f. (f ≡ fault) ⊎ IsOfTelling f) }
     ensures never { IfOk result (λ end. ⊥) }
 {

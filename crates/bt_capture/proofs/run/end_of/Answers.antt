@@ -4,7 +4,7 @@ use Rattle.bt_capture.proofs.Outcomes.{all_over, whole_written, texts_written, s
 use Rattle.bt_capture.proofs.run.end_of.Goals as goal
 
 pub returns : goal.returns
-returns c o left before now i empty ended added =
+returns c o left before now i empty ended waits added =
     let run = c.args.run.now in
     let r = c.args.packets.now in
     let known = i.follows.known in
@@ -15,10 +15,12 @@ returns c o left before now i empty ended added =
       packets = i.packets;
       r = r;
       read = i.read;
+      waits = waits;
       file_end = c.args.end;
       ended = ended;
       cut = c.is_cut.ensures;
       count = c.packets.ensures ∙ i.read.reading.count;
+      skipped = i.skipped;
       fs = fs;
       over = all_over o left before run r i;
       text = written;

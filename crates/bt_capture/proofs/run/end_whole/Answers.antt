@@ -5,13 +5,14 @@ use Rattle.bt_capture.proofs.Outcomes.{told_fault, not_added}
 use Rattle.bt_capture.proofs.run.end_whole.Goals as goal
 
 pub returns-in-Ok-write_utp-clause-told : goal.returns-in-Ok-write_utp-clause-told
-returns-in-Ok-write_utp-clause-told g c o left i ended =
+returns-in-Ok-write_utp-clause-told g c o left i ended waits =
     let told = c.in-Ok.ensures.after o left c.args.packets.now i in
     c.end_of.ensures o left (g.W.Target.seen c.finish.new.writer) (g.W.Target.seen c.write_utp.new.writer) told c.in-Ok.ensures.empty ended
+    waits
     (c.in-Ok-write_utp.ensures.added (datagrams told.packets) told.utp)
 
 pub returns-in-Err-write_utp-clause-told : goal.returns-in-Err-write_utp-clause-told
-returns-in-Err-write_utp-clause-told g c o left i ended =
+returns-in-Err-write_utp-clause-told g c o left i ended waits =
     let told = c.in-Ok.ensures.after o left c.args.packets.now i in
     let before = g.W.Target.seen c.finish.new.writer in
     let now = g.W.Target.seen c.write_utp.new.writer in
@@ -19,6 +20,6 @@ returns-in-Err-write_utp-clause-told g c o left i ended =
     (c.in-Err-write_utp.ensures.added (datagrams told.packets) told.utp)
 
 pub returns-in-Err-clause-told : goal.returns-in-Err-clause-told
-returns-in-Err-clause-told g c o left i ended =
+returns-in-Err-clause-told g c o left i ended waits =
     told_fault AtEnd c.in-Err.fault o left (g.W.Target.seen c.finish.new.writer) [] c.finish.new.run c.args.packets.now c.in-Err.ensures.fault
     (c.in-Err.ensures.after o left c.args.packets.now i)

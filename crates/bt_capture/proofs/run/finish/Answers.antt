@@ -42,7 +42,7 @@ returns-in-Err-clause-after g c o left r i =
     let P : List (Pair × Held) → Type 0 = λ l. IsTellingIn AtEnd o left now l c.loop-connection.run r in
     let Q : List (Pair × Held) → Type 0 = λ l. IsTellingIn AtEnd o left (g.W.Target.seen c.args.writer.now) l c.rest.new.self r in
     let told = told_rest o left (g.W.Target.seen c.args.writer.now) c.args.run.now c.rest.new.self c.in-Ok.rest.items r
-    c.in-Ok.ensures.all c.in-Ok.ensures.same i in
+    c.in-Ok.ensures.all c.in-Ok.ensures.sorted c.in-Ok.ensures.same i in
     let given = subst Q (sym c.into_iter-connection-iterator.ensures.into_iter_gives.0) told in
     fault_any AtEnd _ o left (g.W.Target.seen c.tell_last.new.writer) rest [] c.tell_last.new.run r c.in-Err.ensures.fault
     (c.in-Err.ensures.after o left e.0 rest r (apart_first e rest apart) (subst P c.in-Some.ensures.steps.0 (c.loop-connection.invariant.told o left r given)))
@@ -51,7 +51,7 @@ pub returns-clause-after : goal.returns-clause-after
 returns-clause-after g c o left r i =
     let Q : List (Pair × Held) → Type 0 = λ l. IsTellingIn AtEnd o left (g.W.Target.seen c.args.writer.now) l c.rest.new.self r in
     let told = told_rest o left (g.W.Target.seen c.args.writer.now) c.args.run.now c.rest.new.self c.in-Ok.rest.items r
-    c.in-Ok.ensures.all c.in-Ok.ensures.same i in
+    c.in-Ok.ensures.all c.in-Ok.ensures.sorted c.in-Ok.ensures.same i in
     let given = subst Q (sym c.into_iter-connection-iterator.ensures.into_iter_gives.0) told in
     let P : List (Pair × Held) → Type 0 = λ l. IsTellingIn AtEnd o left (g.W.Target.seen c.loop-connection.writer) l c.loop-connection.run r in
     let rest = c.loop-connection.connection-iterator in

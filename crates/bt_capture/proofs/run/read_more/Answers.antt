@@ -1,9 +1,10 @@
-use Rattle.std.proofs.Common.{List, sym, subst}
+use Rattle.std.proofs.Common.{◌∙◌, List, sym, subst}
 use Rattle.bt_capture.specs.Following.{During}
+use Rattle.bt_capture.specs.Readings.{Waits}
 use Rattle.bt_capture.specs.Runs.{IsTelling}
 use Rattle.bt_capture.specs.Tables.{Held}
 use Rattle.bt_capture.specs.declared.pair.Pair.{Pair}
-use Rattle.bt_capture.proofs.Outcomes.{read_bytes, read_kept, told_read, partly}
+use Rattle.bt_capture.proofs.Outcomes.{read_bytes, read_kept, told_read, partly, waits_on, fault_of_telling}
 use Rattle.bt_capture.proofs.run.read_more.Goals as goal
 
 pub returns-in-Ok-read-clause-after : goal.returns-in-Ok-read-clause-after
@@ -40,3 +41,14 @@ returns-in-Err-Memory-clause-after g c o i =
     let e = c.in-Err-Memory.ensures.err in
     partly o left now c.args.run.now.table run c.read.new.self (told_read o before left now c.args.run.now.table run r c.read.new.self
     (λ packets h. read_kept o before left packets r c.read.new.self e.0 e.1 h) (c.in-Ok.ensures.after During o before c.args.run.now.table r i))
+
+pub returns-in-Ok-eq0-clause-waits : goal.returns-in-Ok-eq0-clause-waits
+returns-in-Ok-eq0-clause-waits g c w is =
+    let e = c.in-Ok-eq0.ensures.read in
+    waits_on c.args.packets.now c.read.new.self e.0 (e.1 ∙ c.in-Ok-eq0.field-0-test) e.2 w
+
+pub returns-in-Err-Failed-clause-why : goal.returns-in-Err-Failed-clause-why
+returns-in-Err-Failed-clause-why g c w = subst (λ r. Waits r) (sym c.in-Err-Failed.ensures.err.0) w
+
+pub returns-in-Err-clause-why : goal.returns-in-Err-clause-why
+returns-in-Err-clause-why g c w = fault_of_telling c.in-Err.fault c.args.packets.now c.in-Err.ensures.fault

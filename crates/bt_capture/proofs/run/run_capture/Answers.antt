@@ -8,7 +8,7 @@ returns-in-Ok-new g c =
     record {
       told = c.tell_all.ensures.told o
           (begins o c.in-Ok.run' c.in-Ok-new.packets c.in-Ok.ensures.terms c.in-Ok.ensures.form c.in-Ok.ensures.start (c.in-Ok.ensures.follows o.target)
-          c.in-Ok.ensures.utp c.in-Ok-new.ensures.nothing);
+          c.in-Ok.ensures.utp c.in-Ok.ensures.skipped c.in-Ok-new.ensures.nothing);
       seen = c.tell_all.ensures.seen;
     }
 

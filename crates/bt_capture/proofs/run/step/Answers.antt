@@ -1,7 +1,25 @@
 use Rattle.std.proofs.Common.{rules, ◌∙◌, [], ◌∷◌, ◌++◌}
 use Rattle.bt_pcap.specs.Steps.{captured}
-use Rattle.bt_capture.proofs.Outcomes.{read_packet, read_quiet, hands_none, hands_some, hands_fault, told_read, next_number, given_up}
+use Rattle.bt_capture.proofs.Outcomes.{read_packet, read_quiet, hands_none, hands_some, hands_fault, hands_more, hands_broken}
+use Rattle.bt_capture.proofs.Outcomes.{told_read, next_number, given_up}
 use Rattle.bt_capture.proofs.run.step.Goals as goal
+
+pub returns-in-Ok-clause-after : goal.returns-in-Ok-clause-after
+returns-in-Ok-clause-after c o left now i =
+    let p = captured c.in-Ok-Some.packet in
+    let number = next_number i.packets i.read.all c.args.packets.now c.packets.result c.saturating_add-number.result i.read.reading c.packets.ensures
+    c.saturating_add-number.ensures in
+    let goes = hands_some c.args.packets.now _ c.take.result c.in-Ok-Some.packet (search rules) c.take.follows.holds-at-none.0 in
+    record {
+      packets = i.packets ++ p ∷ [];
+      read = read_packet o left i.packets (p ∷ []) c.args.packets.now _ goes i.read;
+      terms = c.take-in-Ok-Some.ensures.terms ∙ i.terms;
+      form = c.take-in-Ok-Some.ensures.form ∙ i.form;
+      time = c.take-in-Ok-Some.ensures.start i.packets i.time;
+      follows = c.in-Ok.ensures.goes o.target now i.packets number i.time i.follows;
+      utp = c.in-Ok.ensures.utp i.packets i.utp;
+      skipped = c.take-in-Ok-Some.ensures.skipped i.packets i.skipped;
+    }
 
 pub returns-in-Err-take-clause-after : goal.returns-in-Err-take-clause-after
 returns-in-Err-take-clause-after c o left now i =
@@ -22,3 +40,9 @@ pub returns-in-Err-clause-after : goal.returns-in-Err-clause-after
 returns-in-Err-clause-after c o left now i =
     let goes = hands_fault c.args.packets.now _ c.take.result c.in-Err.fault (search rules) c.take.follows.holds-at-none.0 in
     told_read o left left now c.args.run.now.table c.args.run.now c.args.packets.now _ (λ packets h. read_quiet o left packets c.args.packets.now _ goes h) i
+
+pub returns-in-Ok-None-clause-waits : goal.returns-in-Ok-None-clause-waits
+returns-in-Ok-None-clause-waits c e = hands_more c.args.packets.now _ c.take.result (search rules) c.take.follows.holds-at-none.0
+
+pub returns-in-Err-clause-why : goal.returns-in-Err-clause-why
+returns-in-Err-clause-why c = hands_broken c.args.packets.now _ c.take.result c.in-Err.fault (search rules) c.take.follows.holds-at-none.0

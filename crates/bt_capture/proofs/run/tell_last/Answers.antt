@@ -18,6 +18,7 @@ returns-in-Ok-clause-after g c o left p es r absent i =
       follows = c.in-Ok.ensures.goes AtEnd o.target now (arrivals i.packets) p es Final absent (record { may_be = tt; parted = refl; why = λ a b t. tt }) refl
           i.follows;
       utp = subst (AreCounted (datagrams i.packets)) (sym c.in-Ok.ensures.utp) i.utp;
+      skipped = c.in-Ok.ensures.skipped ∙ i.skipped;
     })
 
 pub returns-in-Err-clause-after : goal.returns-in-Err-clause-after

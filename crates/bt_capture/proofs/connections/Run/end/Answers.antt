@@ -7,7 +7,8 @@ use Rattle.bt_capture.specs.declared.connections.Run.{Run}
 use Rattle.bt_capture.specs.declared.pair.Pair.{Pair}
 use Rattle.bt_capture.proofs.Bounds.{bounded_same, taken_out}
 use Rattle.bt_capture.proofs.Entries.{lookup_gone, lookup_kept}
-use Rattle.bt_capture.proofs.Reported.{follows_same, follows_out}
+use Rattle.bt_capture.proofs.Reported.{follows_same}
+use Rattle.bt_capture.proofs.Steps.{follows_out}
 use Rattle.bt_capture.proofs.connections.Run.end.Goals as goal
 
 pub returns-in-Some-clause-goes : goal.returns-in-Some-clause-goes

@@ -6,7 +6,8 @@ use Rattle.bt_capture.specs.Following.{Crowded, During, Follows, Goes}
 use Rattle.bt_capture.specs.Tables.{Held, IsApart}
 use Rattle.bt_capture.specs.declared.pair.Pair.{Pair}
 use Rattle.bt_capture.proofs.Entries.{apart_moved, apart_first}
-use Rattle.bt_capture.proofs.Reported.{follows_same, follows_moved}
+use Rattle.bt_capture.proofs.Reported.{follows_same}
+use Rattle.bt_capture.proofs.Steps.{follows_moved}
 use Rattle.bt_capture.proofs.connections.Run.end_oldest.Goals as goal
 
 pub returns-in-Some-clause-goes : goal.returns-in-Some-clause-goes

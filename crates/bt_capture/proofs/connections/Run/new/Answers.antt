@@ -1,5 +1,5 @@
 use Rattle.std.proofs.Common.{rules, refl}
-use Rattle.bt_capture.proofs.Reported.{follows_nothing}
+use Rattle.bt_capture.proofs.Steps.{follows_nothing}
 use Rattle.bt_capture.proofs.connections.Run.new.Goals as goal
 
 pub returns-clause-follows : goal.returns-clause-follows

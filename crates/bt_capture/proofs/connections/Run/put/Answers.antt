@@ -4,7 +4,8 @@ use Rattle.bt_capture.specs.declared.connection.Connection.{Connection}
 use Rattle.bt_capture.specs.declared.pair.Pair.{Pair}
 use Rattle.bt_capture.proofs.Bounds.{one_more}
 use Rattle.bt_capture.proofs.Parts.{on_ok}
-use Rattle.bt_capture.proofs.Reported.{follows_same, follows_moved, stops_of}
+use Rattle.bt_capture.proofs.Reported.{follows_same, stops_of}
+use Rattle.bt_capture.proofs.Steps.{follows_moved}
 use Rattle.bt_capture.proofs.connections.Run.put.Goals as goal
 
 pub returns-in-Ok-clause-goes : goal.returns-in-Ok-clause-goes

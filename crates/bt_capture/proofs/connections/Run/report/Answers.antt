@@ -1,5 +1,5 @@
 use Rattle.std.proofs.Common.{rules, ◌≡◌, ◌∙◌, ℕ, List, [], ◌++◌, append-nil, Bool, Option, Some, is_some, unwrap_or, inl, inr, refl}
-use Rattle.std.proofs.Common.{sym, ap, subst, true, false, OnOk}
+use Rattle.std.proofs.Common.{sym, ap, subst, true, false, not, ◌&&◌, OnOk}
 use Rattle.bt_talk.specs.declared.rows.Heading.{Heading}
 use Rattle.bt_talk.specs.declared.rows.Showing.{Showing}
 use Rattle.bt_talk.specs.Pasts.{Past}
@@ -21,16 +21,18 @@ use Rattle.bt_capture.proofs.Sending.{handed_all, handed_none}
 use Rattle.bt_capture.proofs.Shown.{has_first}
 use Rattle.bt_capture.specs.Tellings.{SaysAfter}
 use Rattle.bt_capture.proofs.Reported.{silent, lost_one, not_lost, reported}
+use Rattle.bt_capture.proofs.Taking.{has_some, silent_is}
 use Rattle.bt_capture.proofs.connections.Run.report.Goals as goal
 
-pub returns-then-not-deref-clause-goes : goal.returns-then-not-deref-clause-goes
-returns-then-not-deref-clause-goes c ph start now came p es cause absent may left i =
-    let none : c.args.connection.value.has_payload ≡ false = search rules in
-    silent start now came p c.args.connection es c.args.self.now cause may absent none i
+pub returns-then-is_silent-clause-goes : goal.returns-then-is_silent-clause-goes
+returns-then-is_silent-clause-goes c ph start now came p es cause absent may left i =
+    let connection = c.args.connection.value in
+    let both = silent_is connection.has_payload (is_lost connection.talk) (search rules) in
+    silent start now came p c.args.connection es c.args.self.now cause may absent both.0 both.1 i
 
 pub returns-in-Ok-clause-goes : goal.returns-in-Ok-clause-goes
 returns-in-Ok-clause-goes c ph start now came p es cause absent may left i =
-    let some : c.args.connection.value.has_payload ≡ true = search rules in
+    let silent_not : (not c.args.connection.value.has_payload && not (is_lost c.args.connection.value.talk)) ≡ false = search rules in
     let old : c.deref_mut.result.now ≡ c.args.connection.value = search rules in
     let new : c.deref-in-Ok.result.now.talk ≡ c.end_opening.new.self = search rules in
     let talk = c.end_opening.new.self in
@@ -45,6 +47,8 @@ returns-in-Ok-clause-goes c ph start now came p es cause absent may left i =
       over = c.in-Ok.ensures.over;
     } in
     let there : is_lost c.deref_mut.result.now.talk ≡ false = not_lost _ _ _ c.in-Ok.ensures.stays in
+    let is_there : is_lost c.args.connection.value.talk ≡ false = subst (λ (x : Connection). is_lost x.talk ≡ false) old there in
+    let some = has_some c.args.connection.value.has_payload (is_lost c.args.connection.value.talk) silent_not is_there in
     let showing = showing_by c.args.self.now.teller.form in
     let P : Type 0 = HasRows showing c.end_opening.new.room in
     let Z : Connection → Type 0 = λ x. (a b : Past) → IsTalk a b x.talk → P in
@@ -83,7 +87,7 @@ returns-in-Ok-clause-goes c ph start now came p es cause absent may left i =
     let wanted : wanted_in c.turn_to.new.self ≡ wanted_by form connection.number = search rules in
     reported c.report.result start now came p c.args.connection es c.args.self.now _ cause c.args.left may left absent some refl refl refl
     c.report.ensures.form refl
-    (subst (λ (x : Connection). is_lost x.talk ≡ false) old there) talk (subst Q old ends) P (subst Z old shown)
+    is_there talk (subst Q old ends) P (subst Z old shown)
     c.report.ensures.same more
     c.report.ensures.text c.report.ensures.part (λ w. handed_none form number room (ap (λ n. wanted_by form n) same ∙ w))
     (λ a b side before t w sent.
@@ -95,12 +99,12 @@ returns-in-Ok-clause-goes c ph start now came p es cause absent may left i =
 
 pub returns-clause-goes : goal.returns-clause-goes
 returns-clause-goes c ph start now came p es cause absent may left i =
-    let some : c.args.connection.value.has_payload ≡ true = search rules in
-    lost_one start now came p c.args.connection es c.args.self.now _ absent some refl refl refl c.saturating_add-self.ensures refl i
+    lost_one start now came p c.args.connection es c.args.self.now _ absent refl refl refl c.saturating_add-self.ensures refl i
 
-pub returns-then-not-deref-clause-sent : goal.returns-then-not-deref-clause-sent
-returns-then-not-deref-clause-sent c terms taken side sent some =
-    let none : c.args.connection.value.has_payload ≡ false = search rules in
+pub returns-then-is_silent-clause-sent : goal.returns-then-is_silent-clause-sent
+returns-then-is_silent-clause-sent c terms taken side sent some =
+    let connection = c.args.connection.value in
+    let none = (silent_is connection.has_payload (is_lost connection.talk) (search rules)).0 in
     cc
 
 pub returns-clause-sent : goal.returns-clause-sent

@@ -1,9 +1,10 @@
 use Rattle.std.proofs.Common.{rules, ◌∙◌, List, [], ◌∷◌, ◌++◌, append_assoc, append-nil, ap, sym, subst}
 use Rattle.std.specs.List.Sorted.{IsPermutation}
-use Rattle.std.proofs.lemmas.List.Sorted.{IsPermutation-append_comm, IsPermutation-append_right, IsPermutation-trans}
+use Rattle.std.proofs.lemmas.List.Sorted.{IsNonDecreasingBy-from_sort_by_key, IsPermutation-append_comm, IsPermutation-append_right, IsPermutation-trans}
 use Rattle.bt_capture.specs.Tables.{Held}
 use Rattle.bt_capture.specs.declared.pair.Pair.{Pair}
 use Rattle.bt_capture.proofs.Entries.{apart_moved}
+use Rattle.bt_capture.proofs.Order.{ascend}
 use Rattle.bt_capture.proofs.connections.Run.rest.Goals as goal
 
 pub table-preserved : goal.table-preserved
@@ -32,3 +33,8 @@ returns-clause-all c =
 
 pub returns-clause-apart : goal.returns-clause-apart
 returns-clause-apart c = apart_moved c.args.self.now.table c.sort_by_key.new.self.items (returns-clause-all c) c.len.ensures.apart
+
+pub returns-clause-sorted : goal.returns-clause-sorted
+returns-clause-sorted c =
+    ascend c.sort_by_key.new.self.items
+    (IsNonDecreasingBy-from_sort_by_key (λ e. e.1.value.number) _ c.in_ok-sort_by_key.ensures.sorted (λ a r q k. search rules))

@@ -2,7 +2,7 @@ use Rattle.std.proofs.Common.{◌∙◌, refl}
 use Rattle.bt_capture.proofs.connections.Run.shrink.Goals as goal
 
 pub oldest-init : goal.oldest-init
-oldest-init c = record { told = λ start now came i. i; terms = refl; form = refl; start = refl; utp = refl; counted = λ i. i }
+oldest-init c = record { told = λ start now came i. i; terms = refl; form = refl; start = refl; utp = refl; skipped = refl; counted = λ i. i }
 
 pub oldest-preserved : goal.oldest-preserved
 oldest-preserved c = record {
@@ -11,6 +11,7 @@ oldest-preserved c = record {
   form = c.in-Ok.ensures.form ∙ c.oldest.invariant.form;
   start = c.in-Ok.ensures.start ∙ c.oldest.invariant.start;
   utp = c.in-Ok.ensures.utp ∙ c.oldest.invariant.utp;
+  skipped = c.in-Ok.ensures.skipped ∙ c.oldest.invariant.skipped;
   counted = λ i. c.in-Ok.ensures.counted (c.oldest.invariant.counted i);
 }
 

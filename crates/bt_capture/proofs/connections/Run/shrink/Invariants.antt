@@ -16,5 +16,6 @@ invariant-oldest l = record {
   form : l.self.teller.form ≡ l.initial.self.teller.form;
   start : l.self.start ≡ l.initial.self.start;
   utp : l.self.utp ≡ l.initial.self.utp;
+  skipped : l.self.skipped ≡ l.initial.self.skipped;
   counted : IsCounted l.initial.self → IsCounted l.self;
 }

@@ -1,12 +1,14 @@
 use Rattle.std.proofs.Common.{◌∙◌, ap, refl, sym, subst, List, [], ◌∷◌, ◌++◌}
+use Rattle.bt_io.specs.Counts.{counted}
 use Rattle.bt_pcap.specs.Formats.{Captured}
 use Rattle.bt_pcap.specs.Steps.{captured}
-use Rattle.bt_capture.specs.Arrivals.{Arrival, arrivals, arrivals_in}
+use Rattle.bt_capture.specs.Arrivals.{Arrival, arrivals, arrivals_in, is_no_segment, is_skipped}
 use Rattle.bt_utp.specs.States.{AreCounted}
 use Rattle.bt_capture.specs.FlowTexts.{datagrams, datagrams_in}
 use Rattle.bt_capture.specs.Following.{Follows, Stops}
 use Rattle.bt_capture.proofs.FlowLines.{datagrams_more, ok_any}
-use Rattle.bt_capture.proofs.Reported.{started, arrivals_more}
+use Rattle.bt_capture.proofs.Steps.{started, arrivals_more}
+use Rattle.bt_capture.proofs.Skipping.{skipped_more}
 use Rattle.bt_capture.proofs.connections.Run.take.Goals as goal
 
 pub returns-in-Ok-clause-goes : goal.returns-in-Ok-clause-goes
@@ -36,3 +38,15 @@ returns-in-Ok-clause-utp c =
     let same = λ (packets : List Captured). ap (λ s. datagrams packets ++ datagrams_in s) c.sight_of.ensures ∙ sym (datagrams_more packets p) in
     ok_any c.end_quiet.result (λ packets are. subst (λ u. AreCounted (datagrams (packets ++ p ∷ [])) u) (sym c.end_quiet.ensures.utp)
     (subst (λ l. AreCounted l c.take_sight.new.self.utp) (same packets) (c.in-Ok.ensures.utp (datagrams packets) are)))
+
+pub returns-in-Ok-clause-skipped : goal.returns-in-Ok-clause-skipped
+returns-in-Ok-clause-skipped c packets e =
+    let p = captured c.args.packet.now in
+    c.end_quiet.ensures.skipped ∙ c.take_sight.ensures.skipped ∙ ap (λ s. counted (is_no_segment s) c.args.self.now.skipped) c.sight_of.ensures
+    ∙ ap (counted (is_skipped p)) e ∙ sym (skipped_more packets p)
+
+pub returns-in-Err-clause-skipped : goal.returns-in-Err-clause-skipped
+returns-in-Err-clause-skipped c packets e =
+    let p = captured c.args.packet.now in
+    c.take_sight.ensures.skipped ∙ ap (λ s. counted (is_no_segment s) c.args.self.now.skipped) c.sight_of.ensures
+    ∙ ap (counted (is_skipped p)) e ∙ sym (skipped_more packets p)

@@ -11,7 +11,8 @@ use Rattle.bt_capture.specs.Tables.{Held}
 use Rattle.bt_capture.specs.declared.connection.Connection.{Connection}
 use Rattle.bt_capture.specs.declared.connections.Run.{Run}
 use Rattle.bt_capture.specs.declared.pair.Pair.{Pair}
-use Rattle.bt_capture.proofs.Reported.{holds_stop, follows_table, follows_took, stops_more}
+use Rattle.bt_capture.proofs.Reported.{follows_took, stops_more}
+use Rattle.bt_capture.proofs.Steps.{holds_stop, follows_table}
 use Rattle.bt_capture.proofs.Sending.{handed_none}
 use Rattle.bt_capture.proofs.connections.Run.take_segment.Goals as goal
 

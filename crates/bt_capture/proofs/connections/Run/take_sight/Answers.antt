@@ -1,9 +1,10 @@
-use Rattle.std.proofs.Common.{sym, subst, ap, ◌++◌, List, OnOk, append-nil}
+use Rattle.std.proofs.Common.{◌≡◌, sym, subst, ap, ◌++◌, List, OnOk, append-nil}
+use Rattle.bt_io.specs.Counts.{counted}
 use Rattle.bt_packet.specs.declared.utp.Utp.{Utp}
 use Rattle.bt_utp.specs.States.{AreCounted}
 use Rattle.bt_capture.specs.FlowTexts.{datagrams_in}
 use Rattle.bt_capture.proofs.FlowLines.{ok_any}
-use Rattle.bt_capture.specs.Arrivals.{Arrival, arrivals_in}
+use Rattle.bt_capture.specs.Arrivals.{Arrival, arrivals_in, is_no_segment}
 use Rattle.bt_capture.specs.declared.connections.Run.{Run}
 use Rattle.bt_capture.specs.Following.{Follows, Goes, Stops}
 use Rattle.bt_capture.proofs.Reported.{follows_same, stops_of}
@@ -46,3 +47,23 @@ returns-in-Other-clause-goes c start now came i =
     (ap (λ r. r.teller) same) (ap (λ r. r.begun) same) i in
     subst P (sym c.in-Other.is)
     (subst Q (sym (append-nil came)) (subst (λ t. Follows start now came t new) (sym (ap (λ (r : Run). r.table) same)) follows))
+
+pub returns-in-Segment-clause-skipped : goal.returns-in-Segment-clause-skipped
+returns-in-Segment-clause-skipped c =
+    let P : Sight → Type 0 = λ s. c.take_segment.new.self.skipped ≡ counted (is_no_segment (seen s)) c.args.self.now.skipped in
+    subst P (sym c.in-Segment.is) c.take_segment.ensures.skipped
+
+pub returns-in-Ok-clause-skipped : goal.returns-in-Ok-clause-skipped
+returns-in-Ok-clause-skipped c =
+    let P : Sight → Type 0 = λ s. c.skip.new.self.skipped ≡ counted (is_no_segment (seen s)) c.args.self.now.skipped in
+    subst P (sym c.in-Utp.is) (ap (λ (r : Run). r.skipped) c.skip.ensures)
+
+pub returns-in-Err-clause-skipped : goal.returns-in-Err-clause-skipped
+returns-in-Err-clause-skipped c =
+    let P : Sight → Type 0 = λ s. c.skip.new.self.skipped ≡ counted (is_no_segment (seen s)) c.args.self.now.skipped in
+    subst P (sym c.in-Utp.is) (ap (λ (r : Run). r.skipped) c.skip.ensures)
+
+pub returns-in-Other-clause-skipped : goal.returns-in-Other-clause-skipped
+returns-in-Other-clause-skipped c =
+    let P : Sight → Type 0 = λ s. c.skip-in-Other.new.self.skipped ≡ counted (is_no_segment (seen s)) c.args.self.now.skipped in
+    subst P (sym c.in-Other.is) (ap (λ (r : Run). r.skipped) c.skip-in-Other.ensures)

@@ -1,0 +1,186 @@
+-- A connection of which no byte of a stream was captured has no items.
+use Rattle.bt_talk.specs.declared.terms.Terms.{Terms}
+use Rattle.std.proofs.Common.{◌≡◌, ◌∙◌, ◌==◌, ℕ, Bool, true, false, not, ◌&&◌, ◌||◌, List, [], ◌∷◌, ◌++◌, length, drop, Option, Some, None}
+use Rattle.std.proofs.Common.{refl, sym, ap, subst, arith, inl, inr, unwrap_or}
+use Rattle.std.specs.List.{list_any}
+use Rattle.std.proofs.Math.Seq.{drop-nil}
+use Rattle.std.proofs.lemmas.Bool.{cases_Bool}
+use Rattle.std.proofs.lemmas.Bool.Decides.{nat_tests}
+use Rattle.bt_flow.specs.Counts.{counts}
+use Rattle.bt_flow.specs.Flows.{IsStreamFor, with_segment}
+use Rattle.bt_flow.specs.declared.flow.Flow.{Flow}
+use Rattle.bt_flow.specs.declared.stream.Stream.{Stream}
+use Rattle.bt_intro.specs.Hellos.{IsFirstHello}
+use Rattle.bt_packet.specs.declared.tcp.Segment.{Segment}
+use Rattle.bt_remarks.specs.declared.events.Side.{Side}
+use Rattle.bt_remarks.specs.declared.events.Side.TheVariants.{A, B}
+use Rattle.bt_remarks.specs.Said.{Told, is_same, other}
+use Rattle.bt_tcp.specs.Heard.{Heard}
+use Rattle.bt_talk.specs.declared.direction.Direction.{Direction}
+use Rattle.bt_talk.specs.declared.rows.Heading.{Heading}
+use Rattle.bt_talk.specs.declared.stage.Stage.{Stage}
+use Rattle.bt_talk.specs.declared.stage.Stage.TheVariants.{Opening, Open, Stranger}
+use Rattle.bt_talk.specs.declared.talk.Talk.{Talk}
+use Rattle.bt_talk.specs.Pasts.{Past, HasSentBy, IsAckedBy, no_past}
+use Rattle.bt_talk.specs.Rows.{Shown}
+use Rattle.bt_talk.specs.Sent.{IsSent, sent_of}
+use Rattle.bt_talk.specs.Shown.{AreItemRows, AreTurnRows, Turn, items_by, told_by}
+use Rattle.bt_talk.specs.Stages.{AreItemsIn, IsDirection}
+use Rattle.bt_talk.specs.Talks.{AreShownIn, IsTalk, of_side, is_in_opening}
+use Rattle.bt_wire.specs.Handshakes.{protocol}
+use Rattle.bt_wire.specs.declared.item.Item.{Item}
+use Rattle.bt_capture.specs.Arrivals.{Arrival, has_data}
+use Rattle.bt_capture.specs.Connections.{HasTaken, IsMade}
+
+-- ---- no byte came
+
+abbrev IsBare : Past → Type 0
+IsBare p = p.segs ≡ []
+
+none_counts : (at size : ℕ) → (size == 0) ≡ true → counts at size ≡ false
+none_counts at size e = let z : size ≡ 0 = grind (arith, nat_tests) in rw z refl
+
+bare_sent : (reset : Bool) (s : Segment) (opening : Bool) (p : Past) (flow : Flow) (p' : Past) (flow' : Flow)
+    → (not reset && not (length s.payload.now == 0)) ≡ false → HasSentBy reset s opening p flow p' flow' → IsBare p → IsBare p'
+bare_sent true s opening p flow p' flow' none i bare = ap (λ (q : Past). q.segs) i.0 ∙ bare
+bare_sent false s opening p flow p' flow' none i bare =
+    let empty : (length s.payload.now == 0) ≡ true = elim (cases_Bool (length s.payload.now == 0)) [
+      | inl t ↦ t
+      | inr f ↦ absurd (let e : true ≡ false = rw f at none in cc)
+    ] in
+    elim i.added [
+      | inl a ↦
+          let at = a.0 in
+          let no : counts at (length s.payload.now) ≡ false = none_counts at (length s.payload.now) empty in
+          let same : with_segment p.segs at s.payload.now ≡ p.segs = rw no refl in
+          a.2 ∙ same ∙ bare
+      | inr o ↦ o.3 ∙ bare
+    ]
+
+bare_acked : (reset : Bool) (acked : Option ℕ) (opens : Bool) (p p' : Past) → IsAckedBy reset acked opens p p' → IsBare p → IsBare p'
+bare_acked true acked opens p p' i bare = ap (λ (q : Past). q.segs) i ∙ bare
+bare_acked false None opens p p' i bare = ap (λ (q : Past). q.segs) i ∙ bare
+bare_acked false (Some n) opens p p' i bare = ap (λ (q : Past). q.segs) i.1 ∙ bare
+
+both_bare : (side : Side) (a b : Past) → IsBare (of_side side a b) → IsBare (of_side (other side) a b) → IsBare a × IsBare b
+both_bare A a b i j = (i, j)
+both_bare B a b i j = (j, i)
+
+each_bare : (side : Side) (a b : Past) → IsBare a → IsBare b → IsBare (of_side side a b)
+each_bare A a b i j = i
+each_bare B a b i j = j
+
+not_any : (x : Bool) (rest : Bool) → (x || rest) ≡ false → (x ≡ false) × (rest ≡ false)
+not_any true rest e = absurd (let f : true ≡ false = e in cc)
+not_any false rest e = (refl, e)
+
+bare_taken : (first : Bool) (xs : List Arrival) (a b : Past) (t : Talk) (a' b' : Past) (t' : Talk) → list_any has_data xs ≡ false
+    → HasTaken first xs a b t a' b' t' → IsBare a → IsBare b → IsBare a' × IsBare b'
+bare_taken first [] a b t a' b' t' none i j k = (ap (λ (p : Past). p.segs) i.0 ∙ j, ap (λ (p : Past). p.segs) i.1 ∙ k)
+bare_taken first (x ∷ xs) a b t a' b' t' none i j k =
+    let s = i.1 in
+    let took = i.4 in
+    let both = not_any (has_data x) (list_any has_data xs) none in
+    let own : (not s.flags.rst && not (length s.payload.now == 0)) ≡ false =
+    ap (λ g. not g.flags.rst && not (length g.payload == 0)) i.2 ∙ both.0 in
+    let sent = bare_sent s.flags.rst s (is_in_opening t) _ _ _ _ own took.sent (each_bare took.side a b j k) in
+    let acked = bare_acked s.flags.rst s.acked s.flags.syn _ _ took.acked (each_bare (other took.side) a b j k) in
+    let now = both_bare took.side took.a' took.b' sent acked in
+    bare_taken false xs took.a' took.b' i.3 a' b' t' both.1 i.5 now.0 now.1
+
+nothing_out : (heard : List Heard) (out : List ℕ) (o : Option Stream) → IsStreamFor heard [] out o → out ≡ []
+nothing_out heard out None i = i.2
+nothing_out heard [] (Some s) i = refl
+nothing_out heard (x ∷ xs) (Some s) i = absurd (let e : None ≡ Some x = i.1.front 0 (omega arith) in cc)
+
+bare_out : (p : Past) (flow : Flow) → IsStreamFor p.heard p.segs p.out flow.stream → IsBare p → p.out ≡ []
+bare_out p flow i bare = nothing_out p.heard p.out flow.stream (subst (λ l. IsStreamFor p.heard l p.out flow.stream) bare i)
+
+-- No byte of either side was put together.
+pub nothing_came : (terms : Terms) (taken : List Arrival) (t : Talk) → list_any has_data taken ≡ false → (m : IsMade terms taken [] t)
+    → (m.a.out ≡ []) × (m.b.out ≡ [])
+nothing_came terms taken t none m =
+    let bare = bare_taken true taken no_past no_past m.made.begin m.a m.b t none m.made.has_taken refl refl in
+    (bare_out m.a t.a.flow m.made.is.a_is.flow.stream bare.0, bare_out m.b t.b.flow m.made.is.b_is.flow.stream bare.1)
+
+-- ---- so there are no items
+
+nothing_left : (xs ys : List ℕ) → xs ++ ys ≡ [] → xs ≡ []
+nothing_left [] ys e = refl
+nothing_left (x ∷ xs) ys e = cc
+
+not_empty : (before after : List ℕ) → [] ≡ before ++ (protocol ++ after) → ⊥
+not_empty [] after e = cc
+not_empty (x ∷ xs) after e = cc
+
+no_hello : (front : List ℕ) (k : ℕ) → front ≡ [] → IsFirstHello front k → ⊥
+no_hello front k none i = not_empty i.here.before i.here.after (sym none ∙ i.here.parts)
+
+no_items : (stage : Stage) (p : Past) (xs : List (ℕ × Item)) → p.front ≡ [] → AreItemsIn stage p xs → xs ≡ []
+no_items (Opening front) p xs none i = i
+no_items (Open judged) p xs none i = absurd (no_hello p.front i.start none i.first)
+no_items Stranger p xs none i = i
+
+front_none : (terms : Terms) (p q : Past) (d : Direction) → IsDirection terms p q d → p.out ≡ [] → p.front ≡ []
+front_none terms p q d i none = nothing_left p.front i.later (sym i.front ∙ none)
+
+none_left : {X : Type 0} (xs ys : List X) → xs ++ ys ≡ [] → (xs ≡ []) × (ys ≡ [])
+none_left [] ys e = (refl, e)
+none_left (x ∷ xs) ys e = cc
+
+by_side : (P : Side → Type 0) → P A → P B → (s : Side) → P s
+by_side P i j A = i
+by_side P i j B = j
+
+same_side : (s : Side) → is_same s s ≡ true
+same_side A = refl
+same_side B = refl
+
+-- no item of the turn, and none before
+turn_none : (t : Turn) (earlier : List Turn) (side : Side) → t.side ≡ side → items_by side (t ∷ earlier) ≡ [] → (items_by side earlier ≡ []) × (t.items ≡ [])
+turn_none t earlier side is none =
+    let e : is_same t.side side ≡ true = subst (λ s. is_same s side ≡ true) (sym is) (same_side side) in
+    none_left (items_by side earlier) t.items (rw e at none)
+
+turn_other : (t : Turn) (earlier : List Turn) (side : Side) → is_same t.side side ≡ false → items_by side (t ∷ earlier) ≡ [] → items_by side earlier ≡ []
+turn_other t earlier side e none = rw e at none
+
+no_item_rows : (h : Heading) (t : Turn) (events : List Told) (rows : List Shown) → t.items ≡ []
+    → AreItemRows h t.when t.side t.known t.items events rows → rows ≡ []
+no_item_rows h t events rows none i = subst (λ l. AreItemRows h t.when t.side t.known l events rows) none i
+
+turns_none : (t : Turn) (earlier : List Turn) (side : Side) → t.side ≡ side → ((s : Side) → items_by s (t ∷ earlier) ≡ [])
+    → ((s : Side) → items_by s earlier ≡ []) × (t.items ≡ [])
+turns_none t earlier A is none =
+    let own = turn_none t earlier A is (none A) in
+    let apart : is_same t.side B ≡ false = subst (λ s. is_same s B ≡ false) (sym is) refl in
+    (by_side (λ s. items_by s earlier ≡ []) own.0 (turn_other t earlier B apart (none B)), own.1)
+turns_none t earlier B is none =
+    let own = turn_none t earlier B is (none B) in
+    let apart : is_same t.side A ≡ false = subst (λ s. is_same s A ≡ false) (sym is) refl in
+    (by_side (λ s. items_by s earlier ≡ []) (turn_other t earlier A apart (none A)) own.0, own.1)
+
+no_rows : (h : Heading) (turns : List Turn) (rows : List Shown) → ((s : Side) → items_by s turns ≡ []) → AreTurnRows h turns rows → rows ≡ []
+no_rows h [] rows none i = i
+no_rows h (t ∷ earlier) rows none i =
+    let none_of = turns_none t earlier t.side refl none in
+    i.2 ∙ ap (λ l. l ++ i.1) (no_rows h earlier i.0 none_of.0 i.3) ∙ no_item_rows h t (told_by earlier) i.1 none_of.1 i.4
+
+-- Nothing was shown.
+pub nothing_shown : (opening : Bool) (h : Heading) (a b : Past) (t : Talk) (rows : List Shown) → IsTalk a b t → a.out ≡ [] → b.out ≡ []
+    → AreShownIn opening h a b t rows → rows ≡ []
+nothing_shown true h a b t rows is none_a none_b i = i
+nothing_shown false h a b t rows is none_a none_b i =
+    let of_a = no_items t.a.stage a (i.heard.items A) (front_none t.terms a b t.a is.a_is none_a) i.heard.a_items in
+    let of_b = no_items t.b.stage b (i.heard.items B) (front_none t.terms b a t.b is.b_is none_b) i.heard.b_items in
+    no_rows h i.turns rows (by_side (λ s. items_by s i.turns ≡ []) (sym (i.items_are A) ∙ of_a) (sym (i.items_are B) ∙ of_b)) i.are
+
+nothing_of : (opening : Bool) (start : Option ℕ) (out : List ℕ) → out ≡ [] → sent_of opening start out ≡ []
+nothing_of true start out none = refl
+nothing_of false start out none = ap (drop (unwrap_or start 0)) none ∙ drop-nil (unwrap_or start 0)
+
+-- Nothing was handed out.
+pub nothing_sent : (opening : Bool) (side : Side) (a b : Past) (bytes : List ℕ) → a.out ≡ [] → b.out ≡ [] → IsSent opening (of_side side a b) bytes
+    → bytes ≡ []
+nothing_sent opening A a b bytes none_a none_b i = i.is ∙ nothing_of opening i.start a.out none_a
+nothing_sent opening B a b bytes none_a none_b i = i.is ∙ nothing_of opening i.start b.out none_b

@@ -1,0 +1,241 @@
+-- The first packet, and connections that are taken out, moved and given up.
+use Rattle.bt_talk.specs.declared.terms.Terms.{Terms}
+use Rattle.std.proofs.Common.{◌≡◌, ◌∙◌, ℕ, ◌+◌, ◌-◌, ◌^◌, min, Bool, true, false, List, [], ◌∷◌, ◌++◌, length, append-nil, append_assoc}
+use Rattle.std.proofs.Common.{Some, unwrap_or, refl, sym, ap, subst, arith, inl, inr}
+use Rattle.std.specs.List.{All, list_any}
+use Rattle.std.specs.List.Sorted.{IsPermutation}
+use Rattle.std.specs.Map.{lookup, remove_entry}
+use Rattle.std.specs.Option.{option_or}
+use Rattle.std.proofs.lemmas.Bool.{cases_Bool}
+use Rattle.std.proofs.lemmas.List.Elements.{All-cons, All-head, All-nil, All-tail}
+use Rattle.std.proofs.lemmas.List.Sorted.{length_permutation}
+use Rattle.bt_io.specs.Seen.{TargetSeen}
+use Rattle.bt_pcap.specs.Formats.{Captured}
+use Rattle.bt_capture.specs.Arrivals.{Arrival, arrivals, arrivals_of, arrivals_after, has_data, pair_of, first_time}
+use Rattle.bt_capture.specs.Following.{Cause, IsRowing, Rows}
+use Rattle.bt_capture.specs.Following.{Finished, Fate, Reported, Silent, Lost, IsFinished, IsFate, IsShared}
+use Rattle.bt_capture.specs.Following.{IsStreaming, Follows, Stops, Holds, Shares, Streams}
+use Rattle.bt_capture.specs.Following.{reports_of, taken_between, told_by}
+use Rattle.bt_capture.specs.Forms.{is_stream}
+use Rattle.bt_capture.specs.Tables.{Held, IsApart, same_pair}
+use Rattle.bt_capture.specs.Tellings.{Tells, TellsOn}
+use Rattle.bt_capture.specs.declared.connections.Run.{Run}
+use Rattle.bt_capture.specs.declared.pair.Pair.{Pair}
+use Rattle.bt_capture.specs.declared.telling.Teller.{Teller}
+use Rattle.bt_capture.proofs.Entries.{apart_moved, apart_none, apart_put, apart_without, lookup_back, lookup_gone, lookup_moved}
+use Rattle.bt_capture.proofs.Entries.{same_is, same_self}
+use Rattle.bt_capture.proofs.Rowing.{rows_moved, rows_nothing, rows_same, rows_started}
+use Rattle.bt_capture.proofs.Parting.{parts_nothing}
+use Rattle.bt_capture.proofs.Shares.{moved}
+use Rattle.bt_capture.proofs.SoFar.{held_so_far, so_far_on, so_far_same}
+use Rattle.bt_capture.proofs.Streaming.{streaming_moved, streaming_nothing, streaming_out}
+use Rattle.bt_capture.proofs.Streaming.{streaming_same, streaming_started}
+use Rattle.bt_capture.specs.Following.{AreBegun, is_final}
+use Rattle.bt_capture.proofs.Order.{order_moved, order_nothing, order_same}
+use Rattle.bt_capture.proofs.Reported.{told_same, shares_same, known_same, follows_same, more_shared}
+
+-- ---- the first packet
+
+parts_none : {X : Type 0} (xs ys : List X) → xs ++ ys ≡ [] → (xs ≡ []) × (ys ≡ [])
+parts_none [] ys e = (refl, e)
+parts_none (x ∷ xs) ys e = cc
+
+none_taken : (fs : List Finished) → ((k : Pair) → taken_between k fs ≡ []) → All (λ f. f.taken ≡ []) fs
+none_taken [] none = All-nil (λ f. f.taken ≡ [])
+none_taken (f ∷ fs) none =
+    let rest : (k : Pair) → taken_between k fs ≡ [] = λ k. elim (cases_Bool (same_pair k f.pair)) [
+      | inl t ↦ (parts_none f.taken (taken_between k fs) (rw t at (none k))).1
+      | inr e ↦ rw e at (none k)
+    ] in
+    All-cons (λ g. g.taken ≡ []) f fs (parts_none f.taken (taken_between f.pair fs) (rw (same_self f.pair) at (none f.pair))).0 (none_taken fs rest)
+
+not_both : (b : Bool) → b ≡ false → b ≡ true → ⊥
+not_both b e f = cc
+
+fate_any : (terms : Terms) (from from' number : ℕ) (taken : List Arrival) (cause : Cause) (end : Fate) → taken ≡ []
+    → IsFate terms from number taken cause end → IsFate terms from' number taken cause end
+fate_any terms from from' number taken cause (Reported r) e i =
+    absurd (not_both (list_any has_data taken) (subst (λ l. list_any has_data l ≡ false) (sym e) refl) i.0)
+fate_any terms from from' number taken cause Silent e i = i
+fate_any terms from from' number taken cause Lost e i = i
+
+all_any : (terms : Terms) (from from' : ℕ) (fs : List Finished) → All (λ f. f.taken ≡ []) fs → All (IsFinished terms from) fs
+    → All (IsFinished terms from') fs
+all_any terms from from' [] none i = All-nil (IsFinished terms from')
+all_any terms from from' (f ∷ fs) none i =
+    let is = All-head (IsFinished terms from) f fs i in
+    All-cons (IsFinished terms from') f fs
+    (fate_any terms from from' f.number f.taken f.cause f.fate (All-head (λ g. g.taken ≡ []) f fs none) is.0, is.1)
+    (all_any terms from from' fs (All-tail (λ g. g.taken ≡ []) f fs none) (All-tail (IsFinished terms from) f fs i))
+
+shares_none : (k : Pair) (fs : List Finished) (rest : List Arrival) → IsShared k [] fs rest → taken_between k fs ≡ []
+shares_none k fs rest e = (parts_none (taken_between k fs) rest (sym e)).0
+
+pub started : (start now : TargetSeen) (packets : List Captured) (old new : Run) (time : ℕ) → old.start ≡ first_time packets
+    → new.start ≡ option_or old.start (Some time) → new.terms ≡ old.terms → new.lost ≡ old.lost → new.teller ≡ old.teller → new.table ≡ old.table
+    → new.begun ≡ old.begun → Follows start now (arrivals packets) old.table old → Follows start now (arrivals packets) new.table new
+started start now [] old new time is begin terms lost teller table count i =
+    let none = none_taken i.fs (λ k. shares_none k i.fs (i.shared k).taken (i.shared k).share) in
+    let form = ap (λ (t : Teller). t.form) teller in
+    let told = told_by i.written old in
+    let told' = told_by i.written new in
+    let same = told_same i.written old new teller in
+    let from = unwrap_or old.start 0 in
+    let from' = unwrap_or new.start 0 in
+    let P : List (Pair × Held) → Type 0 = λ l. Follows start now [] l new in
+    let follows : P old.table = record {
+      fs = i.fs;
+      written = i.written;
+      begun = count ∙ i.begun;
+      apart = i.apart;
+      known = record {
+        tells = subst (λ t. Tells start now t (reports_of i.fs) i.written) (sym teller) i.known.tells;
+        finished = subst (λ x. All (IsFinished x from') i.fs) (sym terms) (all_any old.terms from from' i.fs none i.known.finished);
+        lost = lost ∙ i.known.lost;
+      };
+      streams = streaming_same old.teller.form new.teller.form told told' old.terms new.terms from' from' old.begun new.begun i.fs old.table form same terms
+          refl count (streaming_started old.teller.form told old.terms from from' old.begun i.fs old.table none i.streams);
+      shared = λ k. shares_same i.written i.written [] i.fs old new k (lookup (same_pair k) old.table) terms form same (i.shared k);
+      parts = i.parts;
+      rows = rows_same old.teller.form new.teller.form i.parts told told' old.terms new.terms from' from' old.begun new.begun [] i.fs old.table form same
+          terms refl count (rows_started old.teller.form i.parts told old.terms from from' old.begun i.fs old.table none i.rows);
+      parting = i.parting;
+      order = order_same [] i.fs old.table old.begun new.begun count i.order;
+      last = i.last;
+    } in
+    subst P (sym table) follows
+started start now (p ∷ ps) old new time is begin terms lost teller table count i =
+    let e : new.start ≡ old.start = begin ∙ ap (λ o. option_or o (Some time)) is ∙ sym is in
+    subst (λ t. Follows start now (arrivals (p ∷ ps)) t new) (sym table)
+    (follows_same start now (arrivals (p ∷ ps)) old.table old new terms e lost teller count i)
+
+after_more : (n : ℕ) (packets : List Captured) (p : Captured)
+    → arrivals_after n (packets ++ p ∷ []) ≡ arrivals_after n packets ++ arrivals_of (min (n + length packets + 1) (2 ^ 64 - 1)) p
+after_more n [] p =
+    let same : n + 1 ≡ n + length {A = Captured} [] + 1 = omega arith in
+    append-nil (arrivals_of (min (n + 1) (2 ^ 64 - 1)) p) ∙ ap (λ m. arrivals_of (min m (2 ^ 64 - 1)) p) same
+after_more n (q ∷ qs) p =
+    let first = arrivals_of (min (n + 1) (2 ^ 64 - 1)) q in
+    let same : (n + 1) + length qs + 1 ≡ n + length (q ∷ qs) + 1 = omega arith in
+    ap (λ l. first ++ l) (after_more (n + 1) qs p)
+    ∙ sym (append_assoc first (arrivals_after (n + 1) qs) (arrivals_of (min ((n + 1) + length qs + 1) (2 ^ 64 - 1)) p))
+    ∙ ap (λ m. (first ++ arrivals_after (n + 1) qs) ++ arrivals_of (min m (2 ^ 64 - 1)) p) same
+
+pub arrivals_more : (packets : List Captured) (p : Captured) (number : ℕ) → number ≡ min (length packets + 1) (2 ^ 64 - 1)
+    → arrivals (packets ++ p ∷ []) ≡ arrivals packets ++ arrivals_of number p
+arrivals_more packets p number e =
+    let same : min (0 + length packets + 1) (2 ^ 64 - 1) ≡ number = omega (arith, e) in
+    after_more 0 packets p ∙ ap (λ m. arrivals packets ++ arrivals_of m p) same
+
+-- ---- a connection is taken out
+
+begun_out : (a n : ℕ) (e : Pair × Held) (es out : List (Pair × Held)) → length es ≡ length out + 1 → a ≡ min (n + length es) (2 ^ 64 - 1)
+    → a ≡ min (n + length (e ∷ out)) (2 ^ 64 - 1)
+begun_out a n e es out more h = omega (arith, h, more)
+
+length_out : (test : Pair → Bool) (es : List (Pair × Held)) (c : Held) → lookup test es ≡ Some c → length es ≡ length (remove_entry test es) + 1
+length_out test [] c found = cc
+length_out test (e ∷ es) c found = elim (cases_Bool (test e.0)) [
+  | inl t ↦ rw t (omega arith)
+  | inr f ↦ let rest = length_out test es c (rw f at found) in rw f (omega (arith, rest))
+]
+
+pub follows_out : (start now : TargetSeen) (came : List Arrival) (p : Pair) (c : Held) (es out : List (Pair × Held)) (run : Run)
+    → lookup (same_pair p) es ≡ Some c → out ≡ remove_entry (same_pair p) es → Follows start now came es run → Follows start now came ((p, c) ∷ out) run
+follows_out start now came p c es out run found is i =
+    let form = run.teller.form in
+    let told = told_by i.written run in
+    let gone = remove_entry (same_pair p) es in
+    let longer = length_out (same_pair p) es c found ∙ ap (λ (l : List (Pair × Held)). length l + 1) (sym is) in
+    record {
+      fs = i.fs;
+      written = i.written;
+      known = i.known;
+      begun = begun_out run.begun (length i.fs) (p, c) es out longer i.begun;
+      apart = subst (λ (l : List (Pair × Held)). IsApart ((p, c) ∷ l)) (sym is) (apart_put (p, c) gone (lookup_gone p es i.apart) (apart_without p es i.apart));
+      streams = subst (λ l. Streams i.written i.fs ((p, c) ∷ l) run) (sym is)
+          (streaming_out form told run.terms (unwrap_or run.start 0) run.begun i.fs (same_pair p) p c es found i.streams);
+      shared = subst (λ l. (k : Pair) → Shares i.written came i.fs run k (lookup (same_pair k) ((p, c) ∷ l))) (sym is)
+          (moved form run.terms came i.fs told es ((p, c) ∷ gone) (lookup_back p c es found) i.shared);
+      parts = i.parts;
+      rows = subst (λ l. Rows i.parts i.written came i.fs ((p, c) ∷ l) run) (sym is)
+          (rows_moved form run.terms (unwrap_or run.start 0) i.parts told run.begun came i.fs es ((p, c) ∷ gone) (lookup_back p c es found) i.rows);
+      parting = i.parting;
+      order = subst (λ l. AreBegun came i.fs ((p, c) ∷ l) run.begun) (sym is)
+          (order_moved came i.fs es ((p, c) ∷ gone) run.begun (lookup_back p c es found) i.order);
+      last = i.last;
+    }
+
+-- They are in another order.
+pub follows_moved : (start now : TargetSeen) (came : List Arrival) (es gs : List (Pair × Held)) (run : Run) → IsPermutation es gs
+    → Follows start now came es run → Follows start now came gs run
+follows_moved start now came es gs run moves i =
+    let form = run.teller.form in
+    let told = told_by i.written run in
+    record {
+      fs = i.fs;
+      written = i.written;
+      known = i.known;
+      begun = i.begun ∙ ap (λ n. min (length i.fs + n) (2 ^ 64 - 1)) (sym (length_permutation es gs moves));
+      apart = apart_moved es gs moves i.apart;
+      streams = streaming_moved form told run.terms (unwrap_or run.start 0) run.begun i.fs es gs moves i.streams;
+      shared = moved form run.terms came i.fs told es gs (lookup_moved es gs moves i.apart) i.shared;
+      parts = i.parts;
+      rows = rows_moved form run.terms (unwrap_or run.start 0) i.parts told run.begun came i.fs es gs (lookup_moved es gs moves i.apart) i.rows;
+      parting = i.parting;
+      order = order_moved came i.fs es gs run.begun (lookup_moved es gs moves i.apart) i.order;
+      last = i.last;
+    }
+
+-- The connection of the segment x is given up.
+pub holds_stop : (start now : TargetSeen) (came : List Arrival) (x : Arrival) (p : Pair) (c : Held) (es : List (Pair × Held)) (old new : Run)
+    → pair_of x ≡ p → new.terms ≡ old.terms → new.start ≡ old.start → new.lost ≡ old.lost → new.teller.form ≡ old.teller.form
+    → TellsOn old.teller new.teller → (is_stream old.teller.form ≡ true → new.teller.text.items ≡ old.teller.text.items)
+    → Holds start now came x p c es old → Stops start now (came ++ x ∷ []) new
+holds_stop start now came x p c es old new ends terms begin lost form tells kept i =
+    let shown = old.teller.form in
+    let told = told_by i.written old in
+    let told' = told_by i.written new in
+    let from = unwrap_or old.start 0 in
+    let is : is_stream shown ≡ true → told' ≡ told = λ stream. ap (λ (l : List ℕ). i.written ++ l) (kept stream) in
+    let so_far = held_so_far shown told old.terms from old.begun came x i.fs p c es i.taken ends i.absent i.apart i.streams i.share i.sends i.others in
+    record {
+      fs = i.fs;
+      written = i.written;
+      known = known_same start now i.fs i.written i.written old new terms begin lost (tells start now (reports_of i.fs) i.written i.known.tells) i.known;
+      so_far = so_far_same shown new.teller.form told' told' old.terms new.terms from (unwrap_or new.start 0) (came ++ x ∷ []) i.fs form refl terms
+          (ap (λ o. unwrap_or o 0) begin) (so_far_on shown told told' old.terms from (came ++ x ∷ []) i.fs is so_far);
+      shared = λ k.
+          let rest : (rest : List Arrival) × IsShared k came i.fs rest = elim (cases_Bool (same_pair k p)) [
+            | inl t ↦ subst (λ q. (rest : List Arrival) × IsShared q came i.fs rest) (sym (same_is k p t)) (i.taken, i.share)
+            | inr e ↦ let s = i.others k e in (s.taken, s.share)
+          ] in
+          more_shared k came (x ∷ []) i.fs rest.0 rest.1;
+    }
+
+pub follows_table : (start now : TargetSeen) (came : List Arrival) (p : Pair) (c : Held) (es gs : List (Pair × Held)) (run : Run) → gs ≡ es
+    → Follows start now came ((p, c) ∷ es) run → Follows start now came ((p, c) ∷ gs) run
+follows_table start now came p c es gs run e i = subst (λ l. Follows start now came ((p, c) ∷ l) run) (sym e) i
+
+pub follows_nothing : (start : TargetSeen) (run : Run) → Tells start start run.teller [] [] → run.teller.text.items ≡ [] → run.lost ≡ 0 → run.begun ≡ 0
+    → run.table ≡ [] → Follows start start [] run.table run
+follows_nothing start run tells empty lost count none =
+    let from = unwrap_or run.start 0 in
+    let P : List (Pair × Held) → Type 0 = λ l. Follows start start [] l run in
+    let Q : ℕ → Type 0 = λ n. IsStreaming run.teller.form (told_by [] run) run.terms from n [] [] in
+    let follows : P [] = record {
+      fs = [];
+      written = [];
+      begun = count;
+      apart = apart_none;
+      known = record { tells = tells; finished = All-nil (IsFinished run.terms from); lost = lost };
+      streams = subst Q (sym count) (streaming_nothing run.teller.form (told_by [] run) run.terms from empty);
+      shared = λ k. record { taken = []; is = refl; share = refl };
+      parts = [];
+      rows = subst (λ n. IsRowing run.teller.form [] (told_by [] run) run.terms from n [] [] []) (sym count)
+          (rows_nothing run.teller.form (told_by [] run) run.terms from empty);
+      parting = parts_nothing;
+      order = order_nothing [] run.begun refl count;
+      last = All-nil (λ (f : Finished). is_final f.cause ≡ false);
+    } in
+    subst P (sym none) follows
