@@ -7,6 +7,7 @@ use Rattle.bt_remarks.specs.Said.{Told, is_same}
 use Rattle.bt_wire.specs.declared.item.Item.{Item}
 use Rattle.bt_talk.specs.declared.closing.When.{When}
 use Rattle.bt_talk.specs.declared.direction.Direction.{Direction}
+use Rattle.bt_talk.specs.declared.replay.Mark.{Mark}
 use Rattle.bt_talk.specs.declared.rows.Heading.{Heading}
 use Rattle.bt_talk.specs.declared.rows.Rows.{Rows}
 use Rattle.bt_talk.specs.declared.stage.Stage.{Stage}
@@ -97,9 +98,9 @@ shows_alike_more h h' a b t u r r' q q' before i e f g s = (
 -- ---- the opening
 
 -- There were no rows before it ended.
-pub shows_opened : (a b : Past) (t : Talk) (r r' : Rows) (before : List Shown) → before ≡ [] → HasOpened a b t.a.stage t.b.stage t.watch r r'
-    → ShowsMore false r.heading r r' a b t before
-shows_opened a b t r r' before none o =
+pub shows_opened : (marks : List Mark) (a b : Past) (t : Talk) (r r' : Rows) (before : List Shown) → before ≡ []
+    → HasOpened marks a b t.a.stage t.b.stage t.watch r r' → ShowsMore false r.heading r r' a b t before
+shows_opened marks a b t r r' before none o =
     let P : List Shown → Type 0 = λ l. AreShown r.heading a b t (l ++ filter is_item o.rows) in (
       o.rows,
       o.appends,

@@ -13,6 +13,7 @@ use Rattle.bt_talk.specs.declared.closing.When.{When}
 use Rattle.bt_talk.specs.declared.closing.Closing.{Closing}
 use Rattle.bt_talk.specs.declared.direction.Direction.{Direction}
 use Rattle.bt_talk.specs.declared.ends.Ends.{Ends}
+use Rattle.bt_talk.specs.declared.replay.Mark.{Mark}
 use Rattle.bt_talk.specs.declared.rows.Heading.{Heading}
 use Rattle.bt_talk.specs.declared.rows.Rows.{Rows}
 use Rattle.bt_talk.specs.declared.stage.Stage.{Stage}
@@ -26,9 +27,10 @@ use Rattle.bt_talk.specs.Rows.{Shown, is_item}
 use Rattle.bt_talk.specs.Shown.{AreTurnRows}
 use Rattle.bt_talk.specs.Shows.{Appends}
 use Rattle.bt_talk.specs.Stages.{IsDirection, IsHeard, is_opening}
-use Rattle.bt_talk.specs.Talks.{IsTalk, Takes, IsSender, Says, Shows, HasSettled, direction_of, is_in_opening, flow_of, cut_of, of_side}
+use Rattle.bt_talk.specs.Talks.{IsTalk, Takes, IsSender, Says, Shows, HasSettled, direction_of, is_in_opening, flow_of, cut_of, marks_of, of_side}
 use Rattle.bt_talk.specs.Watching.{IsWatched}
 use Rattle.bt_talk.proofs.Closes.{closes_same}
+use Rattle.bt_talk.proofs.Marked.{after_same, closed_same, marked_same}
 use Rattle.bt_talk.proofs.Saying.{says_same, stages_same}
 use Rattle.bt_talk.proofs.Shown.{appends_more, appends_same, rows_same}
 use Rattle.bt_talk.proofs.Talks.{end_same, flow_same, sent_same, both_same}
@@ -58,6 +60,11 @@ alike_back t u i = record {
   a_notes = sym i.a_notes;
   b_notes = sym i.b_notes;
 }
+
+-- They have the same marks, and the same sides have closed.
+pub record AreMarked (t u : Talk) : Type 0 where
+  pub marks : marks_of u ≡ marks_of t
+  pub courses : u.courses ≡ t.courses
 
 -- What rows need was noted, and rows were appended.
 pub after_steps : (t u v x : Talk) → u ≡ record t { courses = u.courses } → v ≡ record u { marks = v.marks }
@@ -111,8 +118,9 @@ says_alike s side a b a' b' t t' u u' i k x =
     (λ events items w. watched_alike events items u t (alike_back t u i) w) (λ events items w. watched_alike events items t' u' k w) x
 
 -- A segment was taken.
-abbrev pub takes_alike : (s : Segment) (when : When) (a b : Past) (t t' u u' : Talk) → Alike t u → Alike t' u' → Takes s when a b t t' → Takes s when a b u u'
-takes_alike s when a b t t' u u' i k x =
+abbrev pub takes_alike : (s : Segment) (when : When) (a b : Past) (t t' u u' : Talk) → Alike t u → Alike t' u' → AreMarked t u → AreMarked t' u'
+    → Takes s when a b t t' → Takes s when a b u u'
+takes_alike s when a b t t' u u' i k m n x =
     let flow = λ (side : Side). flow_same side t u i.a i.b in
     let flow' = λ (side : Side). flow_same side t' u' k.a k.b in
     record {
@@ -139,6 +147,10 @@ takes_alike s when a b t t' u u' i k x =
       stream = ap (λ (f : Flow). f.stream) (flow' (other x.side)) ∙ x.stream ∙ ap (λ (f : Flow). f.stream) (sym (flow (other x.side)));
       noted = ap (λ (f : Flow). f.noted) (flow' (other x.side)) ∙ x.noted ∙ ap (λ (f : Flow). f.noted) (sym (flow (other x.side)));
       said = λ o. says_alike s x.side a b x.a' x.b' t t' u u' i k (x.said (sym (opening_alike t u i) ∙ o));
+      marks = x.marks;
+      marked = λ o. marked_same s when x.side x.a' x.b' t t' u u' x.marks m.courses flow' (x.marked (sym (opening_alike t u i) ∙ o));
+      kept = λ o. n.marks ∙ x.kept (sym (opening_alike t' u' k) ∙ o) ∙ ap (λ (l : List Mark). l ++ x.marks) (sym m.marks);
+      shut = λ side. closed_same t' u' side n.courses ∙ x.shut side ∙ after_same s x.side x.side t u side refl (sym m.courses);
     }
 
 -- ---- rows
@@ -167,9 +179,9 @@ shows_alike s when when' t t' u u' r r' q q' i k e f g x = record {
 }
 
 -- Rows show the items of the opening.
-pub opened_alike : (p q : Past) (s s' : Stage) (w v : Watch) (r r' l l' : Rows) → v.matcher ≡ w.matcher → v.a ≡ w.a → v.b ≡ w.b → l ≡ r → l' ≡ r'
-    → HasOpened p q s s' w l l' → HasOpened p q s s' v r r'
-opened_alike p q s s' w v r r' l l' e f g m n h = record {
+pub opened_alike : (marks : List Mark) (p q : Past) (s s' : Stage) (w v : Watch) (r r' l l' : Rows) → v.matcher ≡ w.matcher → v.a ≡ w.a → v.b ≡ w.b
+    → l ≡ r → l' ≡ r' → HasOpened marks p q s s' w l l' → HasOpened marks p q s s' v r r'
+opened_alike marks p q s s' w v r r' l l' e f g m n h = record {
   heard = record {
     events = h.heard.events;
     items = h.heard.items;
@@ -183,12 +195,13 @@ opened_alike p q s s' w v r r' l l' e f g m n h = record {
   rows = h.rows;
   appends = appends_same h.rows l l' r r' (sym m) (sym n) h.appends;
   shown = subst (λ (z : Rows). AreTurnRows z.heading h.turns (filter is_item h.rows)) m h.shown;
+  opened_by = h.opened_by;
 }
 
 -- No row was appended before.
-pub opened_after : (p q : Past) (s s' : Stage) (w : Watch) (r m m' r' : Rows) → Appends [] r m → m' ≡ m → HasOpened p q s s' w m' r'
-    → HasOpened p q s s' w r r'
-opened_after p q s s' w r m m' r' i e h = record {
+pub opened_after : (marks : List Mark) (p q : Past) (s s' : Stage) (w : Watch) (r m m' r' : Rows) → Appends [] r m → m' ≡ m
+    → HasOpened marks p q s s' w m' r' → HasOpened marks p q s s' w r r'
+opened_after marks p q s s' w r m m' r' i e h = record {
   heard = h.heard;
   turns = h.turns;
   told = h.told;
@@ -196,20 +209,24 @@ opened_after p q s s' w r m m' r' i e h = record {
   rows = h.rows;
   appends = appends_more [] h.rows r m r' i (appends_same h.rows m' r' m r' (sym e) refl h.appends);
   shown = subst (λ (z : Heading). AreTurnRows z h.turns (filter is_item h.rows)) (ap (λ (z : Rows). z.heading) e ∙ i.heading) h.shown;
+  opened_by = h.opened_by;
 }
 
-stages_opened : (p q : Past) (s s' z z' : Stage) (w : Watch) (r r' : Rows) → z ≡ s → z' ≡ s' → HasOpened p q s s' w r r' → HasOpened p q z z' w r r'
-stages_opened p q s s' z z' w r r' e f h =
-    subst (λ (k : Stage). HasOpened p q k z' w r r') (sym e) (subst (λ (k : Stage). HasOpened p q s k w r r') (sym f) h)
+stages_opened : (marks : List Mark) (p q : Past) (s s' z z' : Stage) (w : Watch) (r r' : Rows) → z ≡ s → z' ≡ s' → HasOpened marks p q s s' w r r'
+    → HasOpened marks p q z z' w r r'
+stages_opened marks p q s s' z z' w r r' e f h =
+    subst (λ (k : Stage). HasOpened marks p q k z' w r r') (sym e) (subst (λ (k : Stage). HasOpened marks p q s k w r r') (sym f) h)
 
-pub settled_alike : (s : Segment) (when : When) (a b : Past) (t t' u u' : Talk) (r r' l l' : Rows) (i : Alike u t) (k : Alike u' t') → l ≡ r → l' ≡ r'
-    → (took : Takes s when a b u u') → HasSettled s when a b u u' took l l' → HasSettled s when a b t t' (takes_alike s when a b u u' t t' i k took) r r'
-settled_alike s when a b t t' u u' r r' l l' i k e f took h = record {
+pub settled_alike : (s : Segment) (when : When) (a b : Past) (t t' u u' : Talk) (r r' l l' : Rows) (i : Alike u t) (k : Alike u' t') (m : AreMarked u t)
+    (n : AreMarked u' t') → l ≡ r → l' ≡ r' → (took : Takes s when a b u u') → HasSettled s when a b u u' took l l'
+    → HasSettled s when a b t t' (takes_alike s when a b u u' t t' i k m n took) r r'
+settled_alike s when a b t t' u u' r r' l l' i k m n e f took h = record {
   quiet = λ o. appends_same [] l l' r r' (sym e) (sym f) (h.quiet (sym (opening_alike u' t' k) ∙ o));
-  opened = λ o. stages_opened took.a' took.b' u'.a.stage u'.b.stage t'.a.stage t'.b.stage t'.watch r r' (ap (λ (d : Direction). d.stage) k.a)
-      (ap (λ (d : Direction). d.stage) k.b)
-      (opened_alike took.a' took.b' u'.a.stage u'.b.stage u'.watch t'.watch r r' l l' k.matcher k.a_notes k.b_notes e f
-      (h.opened (sym (opening_alike u' t' k) ∙ o)));
+  opened = λ o. subst (λ (x : List Mark). HasOpened (x ++ took.marks) took.a' took.b' t'.a.stage t'.b.stage t'.watch r r') (sym m.marks)
+      (stages_opened (marks_of u ++ took.marks) took.a' took.b' u'.a.stage u'.b.stage t'.a.stage t'.b.stage t'.watch r r'
+      (ap (λ (d : Direction). d.stage) k.a) (ap (λ (d : Direction). d.stage) k.b)
+      (opened_alike (marks_of u ++ took.marks) took.a' took.b' u'.a.stage u'.b.stage u'.watch t'.watch r r' l l' k.matcher k.a_notes k.b_notes e f
+      (h.opened (sym (opening_alike u' t' k) ∙ o))));
 }
 
 -- The watch has other rows.

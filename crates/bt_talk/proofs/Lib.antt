@@ -7,8 +7,11 @@ pub mod Shown
 pub mod Items
 pub mod Cuts
 pub mod Replays
+pub mod Marks
 pub mod Talks
+pub mod Marked
 pub mod Saying
+pub mod Others
 pub mod Sent
 pub mod Closes
 pub mod AskedItems

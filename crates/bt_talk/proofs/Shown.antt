@@ -1,5 +1,5 @@
 -- Rows show further items.
-use Rattle.std.proofs.Common.{◌≡◌, ◌∙◌, ℕ, Bool, true, List, [], ◌∷◌, ◌++◌, append-nil, append_assoc, Option, Some, None}
+use Rattle.std.proofs.Common.{◌≡◌, ◌∙◌, ℕ, Bool, true, false, List, [], ◌∷◌, ◌++◌, append-nil, append_assoc, Option, Some, None}
 use Rattle.std.proofs.Common.{◌-◌, Result, Ok, Err, OnErr, refl, sym, ap, subst, if◌then◌else◌}
 use Rattle.std.specs.List.{filter}
 use Rattle.std.proofs.lemmas.Grind.{flat_map-append}
@@ -23,8 +23,9 @@ use Rattle.bt_talk.specs.Courses.{refusal_rows, close_rows, gap_rows, rows_at, n
 use Rattle.bt_talk.specs.Inside.{inside_rows}
 use Rattle.bt_talk.specs.Rows.{Shown, row_at, shown_text, shown_texts, is_item}
 use Rattle.bt_talk.specs.Shows.{Appends}
-use Rattle.bt_talk.specs.Shown.{AreItemRows, GoesShown, AreTurnRows, IsSeen, ShowsOthers}
-use Rattle.bt_talk.specs.Watching.{IsWatched, Watches, told_of, tell, said_by, with_items}
+use Rattle.bt_talk.specs.Replays.{IsTurn, with_more}
+use Rattle.bt_talk.specs.Shown.{AreItemRows, GoesShown, AreTurnRows, IsSeen, ShowsOthers, Turn, told_by, items_by}
+use Rattle.bt_talk.specs.Watching.{AreNoted, IsWatched, Watches, notes_of, told_of, tell, said_by, with_items}
 use Rattle.bt_talk.proofs.Watching.{watched_more, watched_same, turned, nothing_watched}
 
 -- ---- rows are appended
@@ -119,60 +120,100 @@ all_items h when side known (x ∷ xs) events (r ∷ rs) i =
     let one : is_item r ≡ true = ap is_item i.0.is in
     (rw one refl) ∙ ap (λ (l : List Shown). r ∷ l) (all_items h when side known xs (told_of side known x ∷ events) rs i.1)
 
--- Further items were judged, of the side whose turn it is.
-pub seen_more : (since : Rows) (more : List (ℕ × Item)) (events : List Told) (items : Side → List (ℕ × Item)) (w w' : Watch) → Took Watches w more w'
-    → IsSeen since events items w → IsSeen since (tell w.side w.known more events) (with_items w.side more items) w'
-seen_more since more events items w w' took i =
+-- Items follow others.
+tell_more : (side : Side) (known : Bool) (xs ys : List (ℕ × Item)) (events : List Told)
+    → tell side known (xs ++ ys) events ≡ tell side known ys (tell side known xs events)
+tell_more side known [] ys events = refl
+tell_more side known (x ∷ xs) ys events = tell_more side known xs ys (told_of side known x ∷ events)
+
+item_rows_more : (h : Heading) (when : When) (side : Side) (known : Bool) (xs ys : List (ℕ × Item)) (events : List Told) (rows mine : List Shown)
+    → AreItemRows h when side known xs events rows → AreItemRows h when side known ys (tell side known xs events) mine
+    → AreItemRows h when side known (xs ++ ys) events (rows ++ mine)
+item_rows_more h when side known [] ys events rows mine i k =
+    subst (λ (l : List Shown). AreItemRows h when side known ys events (l ++ mine)) (sym i) k
+item_rows_more h when side known (x ∷ xs) ys events [] mine i k = absurd i
+item_rows_more h when side known (x ∷ xs) ys events (r ∷ rs) mine i k =
+    (i.0, item_rows_more h when side known xs ys (told_of side known x ∷ events) rs mine i.1 k)
+
+watched_by : (events events' : List Told) (items items' : Side → List (ℕ × Item)) (w : Watch) → events' ≡ events → ((s : Side) → items' s ≡ items s)
+    → IsWatched events items w → IsWatched events' items' w
+watched_by events events' items items' w e f i = record {
+  matched = subst (λ (l : List Told). IsMatched l w.matcher) (sym e) i.matched;
+  notes = λ s. subst (λ (l : List Told). AreNoted s l (items' s) (notes_of s w)) (sym e)
+      (subst (λ (l : List (ℕ × Item)). AreNoted s events l (notes_of s w)) (sym (f s)) (i.notes s));
+}
+
+none_more : (b : Bool) (xs : List (ℕ × Item)) → (if b then xs ++ [] else xs) ≡ xs
+none_more true xs = append-nil xs
+none_more false xs = refl
+
+some_more : (b : Bool) (xs ys zs : List (ℕ × Item))
+    → (if b then xs ++ (ys ++ zs) else xs) ≡ (if b then (if b then xs ++ ys else xs) ++ zs else (if b then xs ++ ys else xs))
+some_more true xs ys zs = sym (append_assoc xs ys zs)
+some_more false xs ys zs = refl
+
+-- A turn begins, in which nothing was judged.
+pub seen_begin : (since : Rows) (side : Side) (known : Bool) (when : When) (turns : List Turn) (w : Watch) → IsSeen since turns w
+    → IsSeen since (record { side = side; known = known; when = when; items = [] } ∷ turns) w
+seen_begin since side known when turns w i = record {
+  watched = watched_by (told_by turns) (told_by turns) (λ s. items_by s turns) _ w refl (λ s. none_more (is_same side s) (items_by s turns)) i.watched;
+  rows = i.rows;
+  appends = i.appends;
+  shown = (filter is_item i.rows, [], sym (append-nil (filter is_item i.rows)), i.shown, refl);
+}
+
+-- Further items were judged in a turn.
+pub seen_more : (since : Rows) (before : List Turn) (t : Turn) (more : List (ℕ × Item)) (w w' : Watch) → IsTurn t w → Took Watches w more w'
+    → IsSeen since (t ∷ before) w → IsSeen since (with_more t more ∷ before) w'
+seen_more since before t more w w' turn took i =
+    let events = told_by (t ∷ before) in
     let rs = rows_more more events w w' took i.watched.matched in
-    let mine = subst (λ (h : Heading). AreItemRows h w.when w.side w.known more events rs.0) i.appends.heading rs.1 in
+    let mine = rows_same since.heading w.rows.heading t.when w.when t.side w.side t.known w.known more events rs.0 i.appends.heading turn.when turn.side
+    turn.known rs.1 in
+    let watched = watched_more more events (λ s. items_by s (t ∷ before)) w w' took i.watched in
+    let mine_watched = subst (λ (b : Bool). IsWatched (tell t.side b more events) (with_items t.side more (λ s. items_by s (t ∷ before))) w') turn.known
+    (subst (λ (s : Side). IsWatched (tell s w.known more events) (with_items s more (λ s. items_by s (t ∷ before))) w') turn.side watched) in
     record {
-      watched = watched_more more events items w w' took i.watched;
-      turns = record { side = w.side; known = w.known; when = w.when; items = more } ∷ i.turns;
-      told = ap (tell w.side w.known more) i.told;
-      items_are = λ s. ap (λ (l : List (ℕ × Item)). if is_same w.side s then l ++ more else l) (i.items_are s);
+      watched = watched_by _ _ _ _ w' (tell_more t.side t.known t.items more (told_by before))
+          (λ s. some_more (is_same t.side s) (items_by s before) t.items more) mine_watched;
       rows = i.rows ++ rs.0;
       appends = appends_more i.rows rs.0 since w.rows w'.rows i.appends rs.2;
       shown = (
-        filter is_item i.rows,
-        rs.0,
+        i.shown.0,
+        i.shown.1 ++ rs.0,
         filter-append is_item i.rows rs.0
-            ∙ ap (λ (l : List Shown). filter is_item i.rows ++ l) (all_items since.heading w.when w.side w.known more events rs.0 mine),
-        i.shown,
-        subst (λ (l : List Told). AreItemRows since.heading w.when w.side w.known more l rs.0) i.told mine,
+            ∙ ap (λ (l : List Shown). filter is_item i.rows ++ l) (all_items since.heading t.when t.side t.known more events rs.0 mine)
+            ∙ ap (λ (l : List Shown). l ++ rs.0) i.shown.2 ∙ append_assoc i.shown.0 i.shown.1 rs.0,
+        i.shown.3,
+        item_rows_more since.heading t.when t.side t.known t.items more (told_by before) i.shown.1 rs.0 i.shown.4 mine,
       );
     }
 
 -- Rows of something else were appended, or none.
-pub seen_others : (since : Rows) (others : List Shown) (events : List Told) (items : Side → List (ℕ × Item)) (w v : Watch) → v.matcher ≡ w.matcher
-    → v.a ≡ w.a → v.b ≡ w.b → filter is_item others ≡ [] → Appends others w.rows v.rows → IsSeen since events items w → IsSeen since events items v
-seen_others since others events items w v e f g none appends i = record {
-  watched = watched_same events items w v e f g i.watched;
-  turns = i.turns;
-  told = i.told;
-  items_are = i.items_are;
+pub seen_others : (since : Rows) (others : List Shown) (turns : List Turn) (w v : Watch) → v.matcher ≡ w.matcher → v.a ≡ w.a → v.b ≡ w.b
+    → filter is_item others ≡ [] → Appends others w.rows v.rows → IsSeen since turns w → IsSeen since turns v
+seen_others since others turns w v e f g none appends i = record {
+  watched = watched_same (told_by turns) (λ s. items_by s turns) w v e f g i.watched;
   rows = i.rows ++ others;
   appends = appends_more i.rows others since w.rows v.rows i.appends appends;
-  shown = subst (λ (l : List Shown). AreTurnRows since.heading i.turns l)
+  shown = subst (λ (l : List Shown). AreTurnRows since.heading turns l)
       (sym (filter-append is_item i.rows others ∙ ap (λ (l : List Shown). filter is_item i.rows ++ l) none ∙ append-nil (filter is_item i.rows))) i.shown;
 }
 
-pub seen_turned : (since : Rows) (side : Side) (known : Bool) (when : When) (events : List Told) (items : Side → List (ℕ × Item)) (w v : Watch)
-    → v ≡ record w { side = side; known = known; when = when } → IsSeen since events items w → IsSeen since events items v
-seen_turned since side known when events items w v e i =
+pub seen_turned : (since : Rows) (side : Side) (known : Bool) (when : When) (turns : List Turn) (w v : Watch)
+    → v ≡ record w { side = side; known = known; when = when } → IsSeen since turns w → IsSeen since turns v
+seen_turned since side known when turns w v e i =
     let to : Watch = record w { side = side; known = known; when = when } in
-    subst (λ (k : Watch). IsSeen since events items k) (sym e) (seen_others since [] events items w to refl refl refl refl (appends_none w.rows) i)
+    subst (λ (k : Watch). IsSeen since turns k) (sym e) (seen_others since [] turns w to refl refl refl refl (appends_none w.rows) i)
 
-both_none : (items : Side → List (ℕ × Item)) → items A ≡ [] → items B ≡ [] → (s : Side) → items s ≡ []
-both_none items e f A = e
-both_none items e f B = f
+both_none : (items : Side → List (ℕ × Item)) → items A ≡ [] → items B ≡ [] → (s : Side) → [] ≡ items s
+both_none items e f A = sym e
+both_none items e f B = sym f
 
 pub seen_none : (events : List Told) (items : Side → List (ℕ × Item)) (w : Watch) → events ≡ [] → items A ≡ [] → items B ≡ [] → IsWatched events items w
-    → IsSeen w.rows events items w
+    → IsSeen w.rows [] w
 seen_none events items w e f g i = record {
-  watched = i;
-  turns = [];
-  told = e;
-  items_are = both_none items f g;
+  watched = watched_by events [] items (λ _. []) w (sym e) (both_none items f g) i;
   rows = [];
   appends = appends_none w.rows;
   shown = refl;
@@ -194,19 +235,19 @@ no_events (x ∷ xs) e f = absurd (one_said (said_by A xs) (said_by B xs) (x.mar
 
 -- ---- rows of other things
 
-others_by : (h : Heading) (when : When) (side : Side) (before now : Option Refusal) → filter is_item (refusal_rows h when side before now) ≡ []
+pub others_by : (h : Heading) (when : When) (side : Side) (before now : Option Refusal) → filter is_item (refusal_rows h when side before now) ≡ []
 others_by h when side None None = refl
 others_by h when side None (Some r) = refl
 others_by h when side (Some r) now = refl
 
-closes_by : (h : Heading) (when : When) (side : Side) (offset : ℕ) (closed : Option Means) → filter is_item (close_rows h when side offset closed) ≡ []
+pub closes_by : (h : Heading) (when : When) (side : Side) (offset : ℕ) (closed : Option Means) → filter is_item (close_rows h when side offset closed) ≡ []
 closes_by h when side offset None = refl
 closes_by h when side offset (Some by) = refl
 
-pub shows_none : (w : Watch) → ShowsOthers w w
+abbrev pub shows_none : (w : Watch) → ShowsOthers w w
 shows_none w = record { others = []; no_item = refl; appends = appends_none w.rows }
 
-pub shows_others : (w w' : Watch) (h : Heading) (when : When) (side : Side) (before now : Option Refusal) (offset : ℕ) (closed : Option Means)
+abbrev pub shows_others : (w w' : Watch) (h : Heading) (when : When) (side : Side) (before now : Option Refusal) (offset : ℕ) (closed : Option Means)
     → Appends (refusal_rows h when side before now ++ close_rows h when side offset closed) w.rows w'.rows → ShowsOthers w w'
 shows_others w w' h when side before now offset closed i = record {
   others = refusal_rows h when side before now ++ close_rows h when side offset closed;

@@ -80,6 +80,10 @@ pub end_same : (a b : Past) (n n' : ℕ) (over over' : Bool) → n ≡ n' → ov
 end_same a b n n' over over' e f i =
     subst (λ (k : ℕ). IsEnd a b k over') e (subst (λ (o : Bool). IsEnd a b n o) f i)
 
+pub direction_same : (side : Side) (t t' : Talk) → t'.a ≡ t.a → t'.b ≡ t.b → direction_of side t' ≡ direction_of side t
+direction_same A t t' e f = e
+direction_same B t t' e f = f
+
 pub flow_same : (side : Side) (t t' : Talk) → t'.a ≡ t.a → t'.b ≡ t.b → flow_of side t' ≡ flow_of side t
 flow_same A t t' e f = ap (λ (d : Direction). d.flow) e
 flow_same B t t' e f = ap (λ (d : Direction). d.flow) f

@@ -12,6 +12,7 @@ pub mod Watching
 pub mod Shown
 pub mod Cuts
 pub mod Stages
+pub mod Marks
 pub mod Replays
 pub mod Ends
 pub mod Closing

@@ -1,6 +1,7 @@
 -- How far the bytes of the opening are judged, at its end.
 use Rattle.bt_talk.specs.declared.terms.Terms.{Terms}
-use Rattle.std.specs.Prelude.{◌≡◌, ℕ, Bool, true, false, List, [], ◌++◌, drop, take, Option, Some, None, Box}
+use Rattle.std.specs.Prelude.{◌≡◌, ◌≤◌, ℕ, ◌+◌, ◌-◌, ◌^◌, min, max, nat_le, Bool, true, false, List, [], ◌∷◌, ◌++◌, drop, take, length}
+use Rattle.std.specs.Prelude.{Option, Some, None, Box}
 use Rattle.std.specs.declared.alloc.Global.{Global}
 use Rattle.std.specs.List.{filter}
 use Rattle.bt_intro.specs.declared.settling.Receiver.{Receiver}
@@ -9,15 +10,15 @@ use Rattle.bt_intro.specs.Hearing.{IsHeardOf}
 use Rattle.bt_judge.specs.Judges.{AreJudged}
 use Rattle.bt_remarks.specs.declared.events.Side.{Side}
 use Rattle.bt_remarks.specs.declared.events.Side.TheVariants.{A, B}
-use Rattle.bt_remarks.specs.Said.{Told}
 use Rattle.bt_wire.specs.declared.item.Item.{Item}
-use Rattle.bt_remarks.specs.Said.{other}
 use Rattle.bt_talk.specs.declared.direction.Direction.{Direction}
 use Rattle.bt_talk.specs.declared.replay.Close.{Close}
 use Rattle.bt_talk.specs.declared.replay.Close.TheVariants.{Passed, Ahead}
+use Rattle.bt_talk.specs.declared.replay.Mark.{Mark}
 use Rattle.bt_talk.specs.declared.replay.Opened.{Opened}
 use Rattle.bt_talk.specs.declared.replay.Replay.{Replay}
 use Rattle.bt_talk.specs.Cuts.{IsCutBy, IsCutNow, cut_length}
+use Rattle.bt_talk.specs.Marks.{AreOpenedBy, AreTurnsOf, IsKnownTo, IsLatest, reach_of, upto}
 use Rattle.bt_talk.specs.Stages.{IsStage, AreItemsIn, IsHeard, receiver_in}
 use Rattle.bt_talk.specs.declared.stage.Stage.{Stage}
 use Rattle.bt_talk.specs.declared.stage.Judged.{Judged}
@@ -28,11 +29,9 @@ use Rattle.bt_talk.specs.Rows.{Shown, is_item}
 use Rattle.bt_talk.specs.Shows.{Appends}
 use Rattle.bt_talk.specs.Shown.{IsSeen, Turn, told_by, items_by, AreTurnRows}
 
--- What the side sent from its handshake on is judged up to what is left, and has these items so far.
-pub record IsJudgedTo (p : Past) (xs : List (ℕ × Item)) (left : List ℕ) (j : Judged) : Type 0 where
-  pub start : ℕ
+-- Of what the side sent from its handshake on these bytes are taken, and these are left; those that were taken are judged, and have these items.
+pub record IsJudgedTo (p : Past) (start : ℕ) (taken : List ℕ) (xs : List (ℕ × Item)) (left : List ℕ) (j : Judged) : Type 0 where
   pub first : IsFirstHello p.front start
-  pub taken : List ℕ
   pub whole : drop start p.out ≡ taken ++ left
   pub bep : List (ℕ × Item)
   pub judged : AreJudged j.receiver.own taken xs bep j.judge
@@ -41,15 +40,11 @@ pub record IsJudgedTo (p : Past) (xs : List (ℕ × Item)) (left : List ℕ) (j 
 abbrev pub Held : Type 0
 Held = Box Judged Global
 
-abbrev pub IsReplayBy : Past → Option Receiver → List (ℕ × Item) → List ℕ → Option Held → Type 0
-IsReplayBy p receiver xs left None = (receiver ≡ None) × (xs ≡ [])
-IsReplayBy p receiver xs left (Some j) = (receiver ≡ Some j.value.receiver) × IsJudgedTo p xs left j.value
+abbrev pub IsReplayBy : Past → Option Receiver → ℕ → List ℕ → List (ℕ × Item) → List ℕ → Option Held → Type 0
+IsReplayBy p receiver start taken xs left None = (receiver ≡ None) × (xs ≡ [])
+IsReplayBy p receiver start taken xs left (Some j) = (receiver ≡ Some j.value.receiver) × IsJudgedTo p start taken xs left j.value
 
 -- ---- up to the close
-
--- the first bytes that the side sent
-abbrev pub upto : ℕ → Past → Past
-upto n p = record p { out = take n p.out }
 
 abbrev pub close_length : Close → Option ℕ
 close_length (Passed cut) = cut_length cut
@@ -58,6 +53,11 @@ close_length (Ahead n after) = Some n
 abbrev pub is_passed : Close → Bool
 is_passed (Passed cut) = true
 is_passed (Ahead n after) = false
+
+-- The close is awaited, and comes up to this length.
+abbrev pub closes_to : ℕ → Close → Bool
+closes_to n (Passed cut) = false
+closes_to n (Ahead m after) = nat_le m n
 
 -- The bytes from a place on are these up to the close, and others.
 abbrev pub IsParted : ℕ → List ℕ → List ℕ → Close → Type 0
@@ -69,48 +69,95 @@ abbrev pub IsFollowed : Past → ℕ → List ℕ → Type 0
 IsFollowed p n after = (start : ℕ) → IsFirstHello p.front start → drop start p.out ≡ drop start (take n p.out) ++ after
 
 -- The connection was closed after so many bytes of the side: up to there its bytes are judged first, or the last of them is known.
-abbrev pub IsReplayOf : Past → Option Receiver → Option ℕ → List (ℕ × Item) → List ℕ → Option Held → Close → Type 0
-IsReplayOf p receiver cut xs left judged (Passed None) = (cut ≡ None) × IsReplayBy p receiver xs left judged
-IsReplayOf p receiver cut xs left judged (Passed (Some c)) =
-    (cut ≡ Some c.length) × IsReplayBy p receiver xs left judged × IsCutBy receiver p.front (take c.length p.out) c.last
-IsReplayOf p receiver cut xs left judged (Ahead n after) =
-    (cut ≡ Some n) × IsReplayBy (upto n p) receiver xs left judged × IsFollowed p n after.now
+abbrev pub IsReplayOf : Past → Option Receiver → Option ℕ → ℕ → List ℕ → List (ℕ × Item) → List ℕ → Option Held → Close → Type 0
+IsReplayOf p receiver cut start taken xs left judged (Passed None) = (cut ≡ None) × IsReplayBy p receiver start taken xs left judged
+IsReplayOf p receiver cut start taken xs left judged (Passed (Some c)) =
+    (cut ≡ Some c.length) × IsReplayBy p receiver start taken xs left judged × IsCutBy receiver p.front (take c.length p.out) c.last
+IsReplayOf p receiver cut start taken xs left judged (Ahead n after) =
+    (cut ≡ Some n) × IsReplayBy (upto n p) receiver start taken xs left judged × IsFollowed p n after.now
 
--- These items of a side's opening are judged by its receiver, if there is one.
-abbrev pub IsReplay : Past → Option Receiver → Option ℕ → List (ℕ × Item) → Replay → Type 0
-IsReplay p receiver cut xs r = IsReplayOf p receiver cut xs r.rest.now r.judged r.close
+-- So many bytes are taken of all that are there from a place on, or all of them.
+abbrev pub IsReachedIn : ℕ → ℕ → ℕ → ℕ → Type 0
+IsReachedIn start n taken left = taken ≡ min (n - start) (taken + left)
 
--- Further items of a side were judged, and none of the other one.
-pub record IsReplayed (since : Rows) (side : Side) (p : Past) (receiver : Option Receiver) (cut : Option ℕ) (items : Side → List (ℕ × Item)) (r : Replay)
-    (w : Watch) : Type 0 where
-  pub events : List Told
-  pub now : Side → List (ℕ × Item)
-  pub others : now (other side) ≡ items (other side)
-  pub is : IsReplay p receiver cut (now side) r
-  pub turn : w.side ≡ side
-  pub seen : IsSeen since events now w
+-- The bytes from a place on are taken as far as the side's first n bytes reach, and no further than the close that is awaited.
+abbrev pub IsReached : ℕ → ℕ → List ℕ → List ℕ → Close → Type 0
+IsReached start n taken left (Passed cut) = IsReachedIn start n (length taken) (length left)
+IsReached start n taken left (Ahead m after) =
+    (n ≤ m) × IsReachedIn start n (length taken) (length left) × IsReachedIn start m (length taken + length left) (length after.now)
 
-abbrev pub Replays : Side → Replay → Watch → Replay → Watch → Type 0
-Replays side r w r' w' = (since : Rows) (p : Past) (receiver : Option Receiver) (cut : Option ℕ) (events : List Told) (items : Side → List (ℕ × Item))
-    → IsReplay p receiver cut (items side) r → IsSeen since events items w → IsReplayed since side p receiver cut items r' w'
+-- These items of a side's opening are judged by its receiver, if there is one, as far as its first n bytes reach.
+pub record IsReplay (p : Past) (receiver : Option Receiver) (cut : Option ℕ) (n : ℕ) (xs : List (ℕ × Item)) (r : Replay) : Type 0 where
+  pub start : ℕ
+  pub taken : List ℕ
+  pub is : IsReplayOf p receiver cut start taken xs r.rest.now r.judged r.close
+  pub place : r.at ≡ min (start + length taken) (2 ^ 64 - 1)
+  pub reached : IsReached start n taken r.rest.now r.close
+
+-- ---- one turn
+
+-- It is this turn.
+pub record IsTurn (t : Turn) (w : Watch) : Type 0 where
+  pub side : w.side ≡ t.side
+  pub known : w.known ≡ t.known
+  pub when : w.when ≡ t.when
+
+-- In this turn items of its side were judged, as far as the side's first n bytes reach.
+pub record IsReplayed (since : Rows) (p : Past) (receiver : Option Receiver) (cut : Option ℕ) (n : ℕ) (before : List Turn) (t : Turn) (r : Replay) (w : Watch)
+    : Type 0 where
+  pub is : IsReplay p receiver cut n (items_by t.side before ++ t.items) r
+  pub turn : IsTurn t w
+  pub seen : IsSeen since (t ∷ before) w
+
+-- the turn with further items
+abbrev pub with_more : Turn → List (ℕ × Item) → Turn
+with_more t more = record t { items = t.items ++ more }
+
+-- Further items were judged in a turn. How far the side's first bytes reach then is as is said.
+abbrev pub Replays : (ℕ → ℕ → Type 0) → Replay → Watch → Replay → Watch → Type 0
+Replays Reaches r w r' w' = (since : Rows) (p : Past) (receiver : Option Receiver) (cut : Option ℕ) (n : ℕ) (before : List Turn) (t : Turn)
+    → IsReplayed since p receiver cut n before t r w
+    → (m : ℕ) × Reaches n m × (more : List (ℕ × Item)) × IsReplayed since p receiver cut m before (with_more t more) r' w'
+
+-- They reach the close, if it is awaited.
+abbrev pub PassesAt : Close → ℕ → ℕ → Type 0
+PassesAt (Passed cut) n m = m ≡ n
+PassesAt (Ahead k after) n m = (n ≤ k) × (m ≡ k)
+
+-- They reach no further than these, or else as far as before.
+abbrev pub PassesTo : ℕ → ℕ → ℕ → Type 0
+PassesTo k n m = max k m ≡ max k n
 
 -- ---- both sides
+
+-- A mark has its turn: of its side, judged by the receiver x, its items; the other side's stream is judged by y, as far as its first k bytes reach.
+pub record GoesTo (since : Rows) (m : Mark) (p q : Past) (x y : Option Receiver) (cut : Option ℕ) (n k : ℕ) (before : List Turn) (r : Replay) (w : Watch)
+    : Type 0 where
+  pub turn : Turn
+  pub side : turn.side ≡ m.side
+  pub when : turn.when ≡ m.when
+  pub known : IsKnownTo y k q m.is_whole turn.known
+  pub is : IsReplay p x cut (max m.length n) (items_by m.side (turn ∷ before)) r
+  pub seen : IsSeen since (turn ∷ before) w
+  pub now : w.when ≡ m.when
 
 -- by whom a side's stream is judged, and after how many bytes the connection was closed
 pub record Aim : Type 0 where
   pub receiver : Option Receiver
   pub cut : Option ℕ
 
--- The openings of both sides are judged as far as these items.
-pub record AreReplayed (since : Rows) (p q : Past) (x y : Aim) (a b : Replay) (w : Watch) : Type 0 where
-  pub events : List Told
-  pub items : Side → List (ℕ × Item)
-  pub a_is : IsReplay p x.receiver x.cut (items A) a
-  pub b_is : IsReplay q y.receiver y.cut (items B) b
-  pub seen : IsSeen since events items w
+-- These marks have their turns; the newest stands first.
+pub record AreReplayed (since : Rows) (p q : Past) (x y : Aim) (marks : List Mark) (a b : Replay) (w : Watch) : Type 0 where
+  pub turns : List Turn
+  pub are : AreTurnsOf p q x.receiver y.receiver marks turns
+  pub a_is : IsReplay p x.receiver x.cut (reach_of A marks) (items_by A turns) a
+  pub b_is : IsReplay q y.receiver y.cut (reach_of B marks) (items_by B turns) b
+  pub seen : IsSeen since turns w
+  pub latest : IsLatest marks w.when
 
-abbrev pub AreReplays : Replay → Replay → Watch → Replay → Replay → Watch → Type 0
-AreReplays a b w a' b' w' = (since : Rows) (p q : Past) (x y : Aim) → AreReplayed since p q x y a b w → AreReplayed since p q x y a' b' w'
+abbrev pub AreReplays : List Mark → Replay → Replay → Watch → Replay → Replay → Watch → Type 0
+AreReplays more a b w a' b' w' = (since : Rows) (p q : Past) (x y : Aim) (marks : List Mark)
+    → AreReplayed since p q x y marks a b w → AreReplayed since p q x y (more ++ marks) a' b' w'
 
 -- ---- after the opening
 
@@ -126,17 +173,22 @@ pub record IsOpenedBy (d : Direction) (o : Opened) (d' : Direction) : Type 0 whe
   pub stage : d'.stage ≡ o.stage
   pub cut : d'.cut ≡ o.cut
 
-pub record IsFinished (since : Rows) (terms : Terms) (p q : Past) (cut : Option ℕ) (side : Side) (items : Side → List (ℕ × Item)) (o : Opened) (w : Watch)
-    : Type 0 where
-  pub events : List Told
-  pub now : Side → List (ℕ × Item)
-  pub others : now (other side) ≡ items (other side)
+-- What is left of a side was judged in a turn, in which nothing counts as known.
+pub record IsFinished (since : Rows) (terms : Terms) (p q : Past) (receiver : Option Receiver) (cut : Option ℕ) (side : Side) (before : List Turn) (o : Opened)
+    (w w' : Watch) : Type 0 where
+  pub turn : Turn
+  pub side_is : turn.side ≡ side
+  pub known : turn.known ≡ false
+  pub when : turn.when ≡ w.when
+  pub now : w'.when ≡ w.when
   pub is : IsOpened terms p q cut o
-  pub items_are : AreItemsIn o.stage p (now side)
-  pub seen : IsSeen since events now w
+  pub by : receiver_in o.stage ≡ receiver
+  pub items_are : AreItemsIn o.stage p (items_by side (turn ∷ before))
+  pub seen : IsSeen since (turn ∷ before) w'
 
--- The opening ended. These are the items and the events of both sides, and rows show each item, in order; some rows show none.
-pub record HasOpened (p q : Past) (s s' : Stage) (w : Watch) (r r' : Rows) : Type 0 where
+-- The opening ended. These are the items and the events of both sides, in the turns that the marks make, and rows show each item, in order; some rows show
+-- none.
+pub record HasOpened (marks : List Mark) (p q : Past) (s s' : Stage) (w : Watch) (r r' : Rows) : Type 0 where
   pub heard : IsHeard p q s s' w
   pub turns : List Turn
   pub told : heard.events ≡ told_by turns
@@ -144,3 +196,4 @@ pub record HasOpened (p q : Past) (s s' : Stage) (w : Watch) (r r' : Rows) : Typ
   pub rows : List Shown
   pub appends : Appends rows r r'
   pub shown : AreTurnRows r.heading turns (filter is_item rows)
+  pub opened_by : AreOpenedBy marks p q s s' turns

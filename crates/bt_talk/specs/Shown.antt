@@ -65,12 +65,9 @@ AreTurnRows h (t ∷ earlier) rows =
     (before : List Shown) × (mine : List Shown) × (rows ≡ before ++ mine) × AreTurnRows h earlier before
     × AreItemRows h t.when t.side t.known t.items (told_by earlier) mine
 
--- These are the events, and the items of both sides. Since there were the rows r, rows show each item, and some rows show none.
-pub record IsSeen (r : Rows) (events : List Told) (items : Side → List (ℕ × Item)) (w : Watch) : Type 0 where
-  pub watched : IsWatched events items w
-  pub turns : List Turn
-  pub told : events ≡ told_by turns
-  pub items_are : (side : Side) → items side ≡ items_by side turns
+-- These turns came. Since there were the rows r, rows show each item, and some rows show none.
+pub record IsSeen (r : Rows) (turns : List Turn) (w : Watch) : Type 0 where
+  pub watched : IsWatched (told_by turns) (λ side. items_by side turns) w
   pub rows : List Shown
   pub appends : Appends rows r w.rows
   pub shown : AreTurnRows r.heading turns (filter is_item rows)

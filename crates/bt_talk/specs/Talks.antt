@@ -1,34 +1,41 @@
 -- A connection: what was captured of both sides, and how a segment adds to it.
 use Rattle.bt_talk.specs.declared.terms.Terms.{Terms}
-use Rattle.std.specs.Prelude.{◌≡◌, ℕ, ◌+◌, ◌-◌, min, ◌^◌, Bool, true, false, not, ◌||◌, nat_le, List, [], ◌++◌, length, Option, unwrap_or, ◌↔◌}
+use Rattle.std.specs.Prelude.{◌≡◌, ℕ, ◌+◌, ◌-◌, min, ◌^◌, Bool, true, false, not, ◌||◌, nat_le, List, [], ◌∷◌, ◌++◌, length, ◌↔◌}
+use Rattle.std.specs.Prelude.{Option, Some, None, is_some, unwrap_or, if◌then◌else◌}
 use Rattle.std.specs.List.{filter}
 use Rattle.bt_remarks.specs.declared.events.Side.{Side}
 use Rattle.bt_remarks.specs.declared.events.Side.TheVariants.{A, B}
-use Rattle.bt_remarks.specs.Said.{Told, other}
+use Rattle.bt_remarks.specs.Said.{Told, other, is_same}
 use Rattle.bt_packet.specs.declared.tcp.Segment.{Segment}
 use Rattle.bt_flow.specs.declared.flow.Flow.{Flow}
-use Rattle.bt_flow.specs.Flows.{AreGapsOf}
+use Rattle.bt_flow.specs.Flows.{AreGapsOf, HasHole, high_in}
 use Rattle.bt_intro.specs.Hellos.{IsStartOf}
 use Rattle.bt_intro.specs.Settling.{IsSideOf, is_settled}
 use Rattle.bt_tcp.specs.declared.covered.Gaps.{Gaps}
+use Rattle.bt_told.specs.declared.report.Means.{Means}
 use Rattle.bt_talk.specs.declared.direction.Direction.{Direction}
+use Rattle.bt_talk.specs.declared.replay.Mark.{Mark}
 use Rattle.bt_talk.specs.declared.rows.Heading.{Heading}
 use Rattle.bt_talk.specs.declared.rows.Rows.{Rows}
 use Rattle.bt_talk.specs.declared.talk.Talk.{Talk}
+use Rattle.bt_talk.specs.declared.watch.Watch.{Watch}
 use Rattle.bt_talk.specs.Pasts.{Past, HasSent, IsAcked}
 use Rattle.bt_talk.specs.declared.ends.Ends.{Ends}
 use Rattle.bt_talk.specs.declared.closing.Closing.{Closing}
 use Rattle.bt_talk.specs.declared.closing.When.{When}
 use Rattle.bt_wire.specs.declared.item.Item.{Item}
+use Rattle.bt_wire.specs.declared.item.Refusal.{Refusal}
 use Rattle.bt_talk.specs.Watching.{IsWatched, tell, with_items}
 use Rattle.bt_talk.specs.Rows.{Shown, is_item}
 use Rattle.bt_talk.specs.Shows.{Appends}
 use Rattle.bt_talk.specs.Shown.{AreTurnRows, GoesShown, IsShown, Turn, items_by, told_by}
 use Rattle.bt_talk.specs.Closing.{Closes}
-use Rattle.bt_talk.specs.Courses.{end_of, gap_rows}
+use Rattle.bt_talk.specs.Courses.{close_rows, closes_by, course_of, end_of, gap_rows, refusal_rows}
 use Rattle.bt_talk.specs.Cuts.{cut_length, cut_after}
+use Rattle.bt_talk.specs.Marks.{AreOpenedBy}
 use Rattle.bt_talk.specs.Replays.{HasOpened}
-use Rattle.bt_talk.specs.Stages.{AreItemsIn, IsDirection, IsHeard, IsKnown, is_opening}
+use Rattle.bt_talk.specs.Sent.{SendsOn}
+use Rattle.bt_talk.specs.Stages.{AreItemsIn, IsDirection, IsHeard, IsKnown, IsRefusedIn, is_opening}
 
 abbrev pub direction_of : Side → Talk → Direction
 direction_of A t = t.a
@@ -66,6 +73,18 @@ closing_of t = t.closing
 -- how many segments came in the opening, up to 2 ^ 32 - 1
 abbrev pub segments_of : Talk → ℕ
 segments_of t = t.segments
+
+-- what is kept of both sides' items
+abbrev pub watch_of : Talk → Watch
+watch_of t = t.watch
+
+-- the marks of the opening, of which the oldest stands first
+abbrev pub marks_of : Talk → List Mark
+marks_of t = t.marks.items
+
+-- The side has sent a FIN or a RST.
+abbrev pub has_closed : Side → Talk → Bool
+has_closed side t = (course_of side t.courses).is_closed
 
 -- Memory ran out.
 abbrev pub is_lost : Talk → Bool
@@ -142,11 +161,67 @@ pub record Shows (s : Segment) (when : When) (t t' : Talk) (r r' : Rows) : Type 
   pub follow : (events : List Told) (before : Side → List (ℕ × Item)) → IsWatched events before t.watch
       → (rows : List Shown) × IsShown r.heading when side known items events before t'.watch rows × Appends (rows ++ others) r r'
 
--- The rows show what the segment says.
+-- A side has begun a handshake, or none has.
+abbrev pub HasBegun : Past → Past → Bool → Type 0
+HasBegun a b begun = (x : Option ℕ) × (y : Option ℕ) × IsStartOf a.front x × IsStartOf b.front y × (begun ≡ (is_some x || is_some y))
+
+-- So far a side's captured bytes reach, from its handshake on, or from its first byte if it has begun none.
+abbrev pub IsReachOf : Side → Past → Past → Talk → ℕ → Type 0
+IsReachOf side a b t offset =
+    (start : Option ℕ) × IsStartOf (of_side side a b).front start × (offset ≡ high_in (of_side side a b).heard (flow_of side t).stream - unwrap_or start 0)
+
+abbrev pub AreOthersBy : Bool → Heading → When → Side → Option Refusal → Option Means → Past → Past → Talk → List Shown → Type 0
+AreOthersBy false h when side before closed a b t others = others ≡ []
+AreOthersBy true h when side before closed a b t others =
+    (now : Option Refusal) × (offset : ℕ) × IsRefusedIn (direction_of side t).stage (of_side side a b) now × IsReachOf side a b t offset
+    × (others ≡ refusal_rows h when side before now ++ close_rows h when side offset closed)
+
+-- The rows of what a side did with a packet besides items, if one of the sides has begun a handshake: a refusal that stands since then, and a close.
+abbrev pub AreOthers : Heading → When → Side → Option Refusal → Option Means → Past → Past → Talk → List Shown → Type 0
+AreOthers h when side before closed a b t others = (begun : Bool) × HasBegun a b begun × AreOthersBy begun h when side before closed a b t others
+
+-- The rows show what the segment says, and then a refusal and a close of its side.
 pub record ShowsSaid (s : Segment) (when : When) (side : Side) (a b a' b' : Past) (t t' : Talk) (r r' : Rows) (says : Says s side a b a' b' t t')
     (shows : Shows s when t t' r r') : Type 0 where
   pub known : shows.known ≡ says.known
   pub items : shows.items ≡ says.items
+  pub before : Option Refusal
+  pub before_is : IsRefusedIn (direction_of side t).stage (of_side side a b) before
+  pub others : AreOthers r.heading when side before (closes_by s.flags (has_closed side t)) a' b' t' shows.others
+
+-- ---- the marks of the opening
+
+-- A segment of this side came, after which this was captured of both: the mark has how much of the side's stream was put together then, whether no byte that
+-- the other side had sent was missing, how far the side's captured bytes reached, and how it closed, if it hadn't closed before.
+pub record IsMark (when : When) (side : Side) (closed : Option Means) (a b : Past) (t : Talk) (m : Mark) : Type 0 where
+  pub side_is : m.side ≡ side
+  pub when_is : m.when ≡ when
+  pub length_is : m.length ≡ length (of_side side a b).out
+  pub hole : Bool
+  pub hole_is : HasHole (of_side (other side) a b).heard (of_side (other side) a b).out (flow_of (other side) t).stream hole
+  pub whole : m.is_whole ≡ not hole
+  pub high : m.high ≡ high_in (of_side side a b).heard (flow_of side t).stream
+  pub closed_is : m.closed ≡ closed
+
+-- The segment has no data, and its side doesn't close with it.
+abbrev pub is_plain : List ℕ → Option Means → Bool
+is_plain [] None = true
+is_plain [] (Some by) = false
+is_plain (x ∷ xs) closed = false
+
+abbrev pub IsMarkedBy : Bool → When → Side → Option Means → Past → Past → Talk → List Mark → Type 0
+IsMarkedBy true when side closed a b t marks = marks ≡ []
+IsMarkedBy false when side closed a b t marks = (m : Mark) × (marks ≡ m ∷ []) × IsMark when side closed a b t m
+
+-- What a segment of this side adds to the marks of the opening: its mark, or nothing if it is plain. Before it the connection was t, and after it t', of which
+-- this was captured.
+abbrev pub IsMarked : Segment → When → Side → Past → Past → Talk → Talk → List Mark → Type 0
+IsMarked s when side a' b' t t' marks =
+    let closed = closes_by s.flags (has_closed side t) in IsMarkedBy (is_plain s.payload.now closed) when side closed a' b' t' marks
+
+-- The side has closed, also with this segment.
+abbrev pub closed_after : Segment → Side → Talk → Side → Bool
+closed_after s side t k = if is_same side k then has_closed k t || (s.flags.fin || s.flags.rst) else has_closed k t
 
 -- One side sent a segment.
 pub record Exchanges (s : Segment) (a b : Past) (t t' : Talk) : Type 0 where
@@ -187,18 +262,40 @@ pub record Takes (s : Segment) (when : When) (a b : Past) (t t' : Talk) : Type 0
   pub stream : (flow_of (other side) t').stream ≡ (flow_of (other side) t).stream
   pub noted : (flow_of (other side) t').noted ≡ (flow_of (other side) t).noted
   pub said : is_in_opening t ≡ false → Says s side a b a' b' t t'
+  pub marks : List Mark
+  pub marked : is_in_opening t ≡ true → IsMarked s when side a' b' t t' marks
+  pub kept : is_in_opening t' ≡ true → marks_of t' ≡ marks_of t ++ marks
+  pub shut : (k : Side) → has_closed k t' ≡ closed_after s side t k
+
+-- These turns came, the newest first: their items are those that are judged of both sides. In the opening there are none.
+pub record HasHeard (turns : List Turn) (a b : Past) (t : Talk) : Type 0 where
+  pub items : (side : Side) → AreItemsOf side a b t (items_by side turns)
+  pub watched : IsWatched (told_by turns) (λ side. items_by side turns) t.watch
+  pub quiet : is_in_opening t ≡ true → turns ≡ []
+
+-- These are the turns of an opening with these marks, which is over.
+abbrev pub AreOpened : List Mark → Past → Past → Talk → List Turn → Type 0
+AreOpened marks a b t turns = AreOpenedBy marks a b t.a.stage t.b.stage turns
 
 -- ---- rows of the opening, and of gaps
 
 -- While the opening isn't over no row is appended.
 pub record Opens (a b : Past) (t t' : Talk) : Type 0 where
   pub quiet : is_in_opening t' ≡ true → Appends [] t.watch.rows t'.watch.rows
-  pub opened : is_in_opening t' ≡ false → HasOpened a b t'.a.stage t'.b.stage t'.watch t.watch.rows t'.watch.rows
+  pub opened : is_in_opening t' ≡ false → HasOpened (marks_of t) a b t'.a.stage t'.b.stage t'.watch t.watch.rows t'.watch.rows
 
 -- The connection took a segment in the opening. Rows are appended when that ends.
 pub record HasSettled (s : Segment) (when : When) (a b : Past) (t t' : Talk) (took : Takes s when a b t t') (r r' : Rows) : Type 0 where
   pub quiet : is_in_opening t' ≡ true → Appends [] r r'
-  pub opened : is_in_opening t' ≡ false → HasOpened took.a' took.b' t'.a.stage t'.b.stage t'.watch r r'
+  pub opened : is_in_opening t' ≡ false → HasOpened (marks_of t ++ took.marks) took.a' took.b' t'.a.stage t'.b.stage t'.watch r r'
+
+-- The connection took a segment. These are the rows of it, and the bytes of the side whose stream is wanted.
+pub record TakesAll (s : Segment) (when : When) (a b : Past) (t t' : Talk) (r r' : Rows) (wanted : Option Side) (sent : List ℕ) : Type 0 where
+  pub took : Takes s when a b t t'
+  pub settled : is_in_opening t ≡ true → HasSettled s when a b t t' took r r'
+  pub shows : is_in_opening t ≡ false → Shows s when t t' r r'
+  pub says : (o : is_in_opening t ≡ false) → ShowsSaid s when took.side a b took.a' took.b' t t' r r' (took.said o) (shows o)
+  pub sends : (side : Side) → wanted ≡ Some side → SendsOn (is_in_opening t) (of_side side a b) (is_in_opening t') (of_side side took.a' took.b') sent
 
 -- These rows show the items of both sides, as far as their streams are judged: a row for each item, those of a side in its order. It has the
 -- remarks on the item after those of the rows before it.

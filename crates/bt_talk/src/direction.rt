@@ -232,7 +232,7 @@ impl Direction {
     ) -> Result<Replay<'_>, AllocError>
         requires { IfSome receiver (λ r. (1 ≤ r.own.limit) × (r.own.limit ≤ 1048576)) }
         ensures { IfOk result (λ replay. (terms : Terms) (p other : Past) → is_opening self.now.stage ≡ true → IsDirection terms p other self.now
-            → IsReceiver terms p other receiver → IsReplay p receiver (cut_length self.now.cut) [] replay) }
+            → IsReceiver terms p other receiver → IsReplay p receiver (cut_length self.now.cut) 0 [] replay) }
     {
         match &self.stage {
             Stage::Opening(front) => {

@@ -1,20 +1,21 @@
 //! The bytes of the opening, which are judged at its end in the order of the packets.
 ghost use Rattle.bt_talk.specs.declared.terms.Terms.{Terms};
-ghost use Rattle.std.specs.Prelude.{◌≡◌, ◌<◌, ◌≤◌, ◌++◌, ℕ, List, [], true, false, drop, length, IfOk, OnOk, IfSome, Option};
+ghost use Rattle.std.specs.Prelude.{◌≡◌, ◌<◌, ◌≤◌, ◌++◌, ◌∷◌, ℕ, List, [], true, false, drop, length, max, reverse, IfOk, OnOk, IfSome, Option};
 ghost use Rattle.bt_intro.specs.declared.settling.Receiver.{Receiver};
 ghost use Rattle.bt_intro.specs.Hellos.{IsStartOf};
 ghost use Rattle.bt_feed.specs.Pumps.{Took};
 ghost use Rattle.bt_remarks.specs.declared.events.Side.{Side};
-ghost use Rattle.bt_remarks.specs.Said.{Told};
+ghost use Rattle.bt_remarks.specs.Said.{other};
 ghost use Rattle.bt_wire.specs.declared.item.Item.{Item};
 ghost use Rattle.bt_talk.specs.Cuts.{IsCutBy, cut_length};
 ghost use Rattle.bt_talk.specs.Pasts.{Past};
 ghost use Rattle.bt_talk.specs.Receivers.{IsReceiver};
-ghost use Rattle.bt_talk.specs.Stages.{AreItemsIn, is_opening};
-ghost use Rattle.bt_talk.specs.Replays.{Aim, IsReplay, IsReplayBy, IsReplayOf, IsParted, IsOpened, IsFinished};
-ghost use Rattle.bt_talk.specs.Replays.{HasOpened, Replays, AreReplayed, AreReplays, close_length, is_passed};
+ghost use Rattle.bt_talk.specs.Marks.{IsKnownTo, upto};
+ghost use Rattle.bt_talk.specs.Stages.{AreItemsIn, is_opening, receiver_in};
+ghost use Rattle.bt_talk.specs.Replays.{Aim, IsReplay, IsReplayBy, IsReplayOf, IsParted, IsOpened, IsFinished, GoesTo, PassesAt, PassesTo};
+ghost use Rattle.bt_talk.specs.Replays.{HasOpened, Replays, AreReplayed, AreReplays, close_length, closes_to, is_passed};
 ghost use Rattle.bt_talk.specs.declared.rows.Rows.{Rows};
-ghost use Rattle.bt_talk.specs.Shown.{IsSeen, ShowsOthers};
+ghost use Rattle.bt_talk.specs.Shown.{IsSeen, ShowsOthers, Turn, items_by};
 ghost use Rattle.bt_talk.specs.Watching.{IsLast, Watches};
 
 use crate::closing::When;
@@ -90,8 +91,8 @@ pub(crate) struct Opened {
 
 /// Returns the last of a stream up to here, if it is judged; `item` is its last item.
 fn last_of(judged: &Option<Box<Judged>>, item: &Option<Said>) -> Last
-    ensures { (p : Past) (receiver : Option Receiver) (xs : List (ℕ × Item)) → IsReplayBy p receiver xs [] judged.now → IsLast xs item.now
-        → IsCutBy receiver p.front p.out result }
+    ensures { (p : Past) (receiver : Option Receiver) (start : ℕ) (taken : List ℕ) (xs : List (ℕ × Item))
+        → IsReplayBy p receiver start taken xs [] judged.now → IsLast xs item.now → IsCutBy receiver p.front p.out result }
 {
     match judged {
         Some(judged) => judged.last(item),
@@ -105,9 +106,9 @@ fn judge_more(
     bytes: &[u8],
     watch: &mut Watch,
 ) -> Result<(), AllocError>
-    ensures { OnOk result ((p : Past) (receiver : Option Receiver) (xs : List (ℕ × Item)) (left : List ℕ)
-        → IsReplayBy p receiver xs (bytes.now ++ left) judged.old
-        → (more : List (ℕ × Item)) × IsReplayBy p receiver (xs ++ more) left judged.new × Took Watches watch.old more watch.new) }
+    ensures { OnOk result ((p : Past) (receiver : Option Receiver) (start : ℕ) (taken : List ℕ) (xs : List (ℕ × Item)) (left : List ℕ)
+        → IsReplayBy p receiver start taken xs (bytes.now ++ left) judged.old
+        → (more : List (ℕ × Item)) × IsReplayBy p receiver start (taken ++ bytes.now) (xs ++ more) left judged.new × Took Watches watch.old more watch.new) }
 {
     match judged {
         Some(judged) => {
@@ -121,7 +122,7 @@ fn judge_more(
 impl<'a> Replay<'a> {
     /// Returns that of a side without a handshake.
     pub(crate) fn none(start: Option<usize>, cut: Option<Cut>) -> Replay<'a>
-        ensures { (p : Past) → IsReplay p None (cut_length cut) [] result }
+        ensures { (p : Past) → IsReplay p None (cut_length cut) 0 [] result }
     {
         Replay {
             start,
@@ -145,7 +146,7 @@ impl<'a> Replay<'a> {
     ) -> Result<Replay<'a>, AllocError>
         requires { IfSome receiver (λ r. (1 ≤ r.own.limit) × (r.own.limit ≤ 1048576)) }
         ensures { IfOk result (λ replay. (terms : Terms) (p q : Past) → front.now ≡ p.out → p.front ≡ p.out → IsStartOf p.front start
-            → IsReceiver terms p q receiver → IsReplay p receiver (cut_length cut.now) [] replay) }
+            → IsReceiver terms p q receiver → IsReplay p receiver (cut_length cut.now) 0 [] replay) }
     {
         let Some(receiver) = receiver else {
             return Ok(Replay::none(start, *cut));
@@ -169,7 +170,10 @@ impl<'a> Replay<'a> {
     }
 
     /// Tells whether the stream is judged, and isn't refused.
-    fn is_known(&self) -> bool {
+    fn is_known(&self) -> bool
+        ensures { (p : Past) (receiver : Option Receiver) (cut : Option ℕ) (n : ℕ) (xs : List (ℕ × Item)) → IsReplay p receiver cut n xs self.now
+            → IsKnownTo receiver n p true result }
+    {
         match &self.judged {
             Some(judged) => judged.is_known(),
             None => false,
@@ -211,8 +215,9 @@ impl<'a> Replay<'a> {
 
     /// Judges the bytes up to this length of the side's stream, or all that are left.
     fn judge_to(&mut self, upto: u64, watch: &mut Watch) -> Result<(), AllocError>
-        ensures { OnOk result ((p : Past) (receiver : Option Receiver) (cut : Option ℕ) (xs : List (ℕ × Item)) → IsReplay p receiver cut xs self.old
-            → (more : List (ℕ × Item)) × IsReplay p receiver cut (xs ++ more) self.new × Took Watches watch.old more watch.new) }
+        ensures { OnOk result ((p : Past) (receiver : Option Receiver) (cut : Option ℕ) (n : ℕ) (xs : List (ℕ × Item)) → closes_to upto self.old.close ≡ false
+            → IsReplay p receiver cut n xs self.old
+            → (more : List (ℕ × Item)) × IsReplay p receiver cut (max upto n) (xs ++ more) self.new × Took Watches watch.old more watch.new) }
     {
         let count = (upto.saturating_sub(self.at) as usize).min(self.rest.len());
         let (bytes, rest) = self.rest.split_at(count);
@@ -223,7 +228,9 @@ impl<'a> Replay<'a> {
     }
 
     /// Tells whether the close is awaited, and before this length of the side's stream.
-    fn closes_by(&self, upto: u64) -> bool {
+    fn closes_by(&self, upto: u64) -> bool
+        ensures { result ≡ closes_to upto self.now.close }
+    {
         match self.close {
             Close::Passed(_) => false,
             Close::Ahead(count, _) => count <= upto,
@@ -233,7 +240,7 @@ impl<'a> Replay<'a> {
     /// Judges the bytes up to the close, if it is awaited.
     fn pass_close(&mut self, watch: &mut Watch) -> Result<(), AllocError>
         ensures passed { OnOk result (is_passed self.new.close ≡ true) }
-        ensures goes_on { OnOk result ((side : Side) → watch.old.side ≡ side → Replays side self.old watch.old self.new watch.new) }
+        ensures goes_on { OnOk result (Replays (PassesAt self.old.close) self.old watch.old self.new watch.new) }
     {
         let Close::Ahead(count, after) = self.close else {
             return Ok(());
@@ -251,7 +258,8 @@ impl<'a> Replay<'a> {
 
     /// Judges the bytes up to the close, if it comes before this length of the side's stream.
     fn pass_to(&mut self, upto: u64, watch: &mut Watch) -> Result<(), AllocError>
-        ensures { OnOk result ((side : Side) → watch.old.side ≡ side → Replays side self.old watch.old self.new watch.new) }
+        ensures short { OnOk result (closes_to upto self.new.close ≡ false) }
+        ensures goes_on { OnOk result (Replays (PassesTo upto) self.old watch.old self.new watch.new) }
     {
         if !self.closes_by(upto) {
             return Ok(());
@@ -274,8 +282,9 @@ fn cut_in(close: Close) -> Option<Cut>
 /// Returns what is done with the bytes that follow, once all are judged.
 fn after_opening(judged: Option<Box<Judged>>, close: Close) -> Opened
     ensures open { is_opening result.stage ≡ false }
-    ensures opened { (terms : Terms) (p q : Past) (receiver : Option Receiver) (cut : Option ℕ) (xs : List (ℕ × Item)) → IsReceiver terms p q receiver
-        → IsReplayOf p receiver cut xs [] judged close.entry → is_passed close.entry ≡ true → IsOpened terms p q cut result × AreItemsIn result.stage p xs }
+    ensures opened { (terms : Terms) (p q : Past) (receiver : Option Receiver) (cut : Option ℕ) (start : ℕ) (taken : List ℕ) (xs : List (ℕ × Item))
+        → IsReceiver terms p q receiver → IsReplayOf p receiver cut start taken xs [] judged close.entry → is_passed close.entry ≡ true
+        → IsOpened terms p q cut result × AreItemsIn result.stage p xs × (receiver_in result.stage ≡ receiver) }
 {
     let cut = cut_in(close);
     match judged {
@@ -293,9 +302,9 @@ fn after_opening(judged: Option<Box<Judged>>, close: Close) -> Opened
 /// Judges the bytes that are left, and returns what is done with those that follow.
 fn finish(mut replay: Replay, side: Side, watch: &mut Watch) -> Result<Opened, AllocError>
     ensures open { IfOk result (λ opened. is_opening opened.stage ≡ false) }
-    ensures opened { IfOk result (λ opened. (since : Rows) (terms : Terms) (p q : Past) (receiver : Option Receiver) (cut : Option ℕ) (events : List Told)
-        (items : Side → List (ℕ × Item)) → IsReceiver terms p q receiver → IsReplay p receiver cut (items side) replay.entry
-        → IsSeen since events items watch.old → IsFinished since terms p q cut side items opened watch.new) }
+    ensures opened { IfOk result (λ opened. (since : Rows) (terms : Terms) (p q : Past) (receiver : Option Receiver) (cut : Option ℕ) (n : ℕ)
+        (before : List Turn) → IsReceiver terms p q receiver → IsReplay p receiver cut n (items_by side before) replay.entry
+        → IsSeen since before watch.old → IsFinished since terms p q receiver cut side before opened watch.old watch.new) }
 {
     watch.turn_to(side, false);
     replay.pass_close(watch)?;
@@ -311,10 +320,14 @@ fn go_to(
     mark: &Mark,
     watch: &mut Watch,
 ) -> Result<(), AllocError>
-    ensures { OnOk result (Replays mark.now.side mine.old watch.old mine.new watch.new) }
+    ensures { OnOk result ((since : Rows) (p q : Past) (x y : Aim) (n k : ℕ) (before : List Turn)
+        → IsReplay p x.receiver x.cut n (items_by mark.now.side before) mine.old
+        → IsReplay q y.receiver y.cut k (items_by (other mark.now.side) before) theirs.now → IsSeen since before watch.old
+        → GoesTo since mark.now p q x.receiver y.receiver x.cut n k before mine.new watch.new) }
 {
     let before = mine.refusal();
-    watch.turn_to(mark.side, mark.is_whole && theirs.is_known());
+    let is_known = theirs.is_known();
+    watch.turn_to(mark.side, mark.is_whole && is_known);
     watch.come_to(mark.when);
     mine.pass_to(mark.length, watch)?;
     mine.judge_to(mark.length, watch)?;
@@ -324,7 +337,7 @@ fn go_to(
 
 /// Judges what a segment made ready.
 fn step(mark: &Mark, a: &mut Replay, b: &mut Replay, watch: &mut Watch) -> Result<(), AllocError>
-    ensures { OnOk result (AreReplays a.old b.old watch.old a.new b.new watch.new) }
+    ensures { OnOk result (AreReplays (mark.now ∷ []) a.old b.old watch.old a.new b.new watch.new) }
 {
     match mark.side {
         Side::A => {
@@ -345,7 +358,7 @@ fn go_through(
     b: &mut Replay,
     watch: &mut Watch,
 ) -> Result<(), AllocError>
-    ensures { OnOk result (AreReplays a.old b.old watch.old a.new b.new watch.new) }
+    ensures { OnOk result (AreReplays (reverse marks.now) a.old b.old watch.old a.new b.new watch.new) }
 {
     for mark in marks {
         step(mark, a, b, watch)?;
@@ -365,9 +378,9 @@ pub(crate) fn judge_both(
 ) -> Result<(Opened, Opened), AllocError>
     ensures open { IfOk result (λ both. (is_opening both.0.stage ≡ false) × (is_opening both.1.stage ≡ false)) }
     ensures judged { IfOk result (λ both. (since : Rows) (terms : Terms) (p q : Past) (x y : Aim) → IsReceiver terms p q x.receiver
-        → IsReceiver terms q p y.receiver → AreReplayed since p q x y a.entry b.entry watch.old
+        → IsReceiver terms q p y.receiver → AreReplayed since p q x y [] a.entry b.entry watch.old
         → IsOpened terms p q x.cut both.0 × IsOpened terms q p y.cut both.1
-        × HasOpened p q both.0.stage both.1.stage watch.new since watch.new.rows) }
+        × HasOpened marks.now p q both.0.stage both.1.stage watch.new since watch.new.rows) }
 {
     go_through(marks, &mut a, &mut b, watch)?;
     let of_a = finish(a, Side::A, watch)?;

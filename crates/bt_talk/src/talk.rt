@@ -5,8 +5,10 @@ ghost use Rattle.bt_talk.specs.Pasts.{Past, no_past, IsAcked, given_of as given_
 ghost use Rattle.bt_talk.specs.Sent.{IsReady, is_wanted};
 ghost use Rattle.bt_remarks.specs.declared.events.Side.{Side};
 ghost use Rattle.bt_remarks.specs.declared.events.Side.TheVariants.{A, B};
+ghost use Rattle.std.specs.Prelude.{◌++◌};
+ghost use Rattle.bt_talk.specs.declared.replay.Mark.{Mark};
 ghost use Rattle.bt_talk.specs.Stages.{IsDirection, IsKnown, SpeaksAs, is_opening};
-ghost use Rattle.bt_talk.specs.Talks.{is_over as is_over_by, IsEnd, Turns};
+ghost use Rattle.bt_talk.specs.Talks.{is_over as is_over_by, is_plain as is_plain_by, IsEnd, Turns};
 
 use crate::closing::{Closed, Closing, When, is_end};
 use crate::course::Courses;
@@ -16,6 +18,7 @@ use crate::replay::{Mark, Opened, judge_both};
 use crate::room::Room;
 use crate::stage::receiver_between;
 use crate::terms::Terms;
+use crate::unanswered::other;
 use crate::watch::Watch;
 use bt_flow::Given;
 use bt_intro::is_settled;
@@ -108,6 +111,13 @@ fn is_over(a: &Direction, b: &Direction, segments: u32) -> bool
     is_long(is_settled(&a.intro, &b.intro), bytes, segments)
 }
 
+/// Tells whether a segment has no data, and doesn't close its side.
+fn is_plain(segment: &Segment, closed: Option<Means>) -> bool
+    ensures { result ≡ is_plain_by segment.now.payload.now closed }
+{
+    segment.payload.is_empty() && closed.is_none()
+}
+
 /// One captured connection.
 ///
 /// Its *opening* is over when both sides have described themselves. Up to there their bytes are kept; then each side's receiver is
@@ -133,9 +143,10 @@ impl Talk {
     ghost use Rattle.std.specs.Option.{option_or};
     ghost use Rattle.bt_talk.specs.Closing.{Closes, still_open};
     ghost use Rattle.bt_talk.specs.Ends.{ends_by};
-    ghost use Rattle.bt_talk.specs.Talks.{IsTalk, Shows, ShowsSaid, Opens, HasSettled, Exchanges, Takes, Settles, ends_of};
+    ghost use Rattle.bt_talk.specs.Talks.{IsTalk, Shows, ShowsSaid, Opens, HasSettled, Exchanges, Takes, TakesAll, Settles, ends_of};
     ghost use Rattle.bt_talk.specs.Talks.{terms_of, closing_of, IsSender, is_in_opening, is_lost, flow_of, cut_of, direction_of, of_side};
-    ghost use Rattle.bt_talk.specs.Talks.{began_with, segments_of, AreShown, AreShownIn, ShowsMore};
+    ghost use Rattle.bt_talk.specs.Talks.{began_with, segments_of, watch_of, AreShown, AreShownIn, ShowsMore};
+    ghost use Rattle.bt_talk.specs.Talks.{AreOthers, HasBegun, IsReachOf, marks_of, has_closed, closed_after, IsMark, IsMarkedBy};
     ghost use Rattle.bt_talk.specs.Cuts.{cut_after};
     ghost use Rattle.bt_talk.specs.Courses.{closes_by, course_of};
     ghost use Rattle.bt_talk.specs.Replays.{IsOpened, HasOpened};
@@ -144,6 +155,7 @@ impl Talk {
     ghost use Rattle.bt_talk.specs.Rows.{Shown};
     ghost use Rattle.bt_talk.specs.Shown.{ShowsOthers};
     ghost use Rattle.bt_talk.specs.Shows.{Appends, HasNone};
+    ghost use Rattle.bt_talk.specs.Watching.{IsWatched};
 
     /// Returns the connection that begins with a segment, of which nothing was taken yet.
     ///
@@ -156,7 +168,10 @@ impl Talk {
         ensures closing { closing_of result ≡ still_open }
         ensures began { began_with result ≡ None }
         ensures segments { segments_of result ≡ 0 }
+        ensures watched { IsWatched [] (λ _. []) (watch_of result) }
         ensures there { is_lost result ≡ false }
+        ensures marks { marks_of result ≡ [] }
+        ensures not_shut { (k : Side) → has_closed k result ≡ false }
     {
         Talk {
             alloc,
@@ -189,6 +204,7 @@ impl Talk {
         ensures closing { self.new.closing ≡ self.old.closing }
         ensures segments { self.new.segments ≡ self.old.segments }
         ensures is_lost { self.new.is_lost ≡ self.old.is_lost }
+        ensures marks { self.new.marks ≡ self.old.marks }
         ensures room { room.new ≡ record room.old { out = room.new.out } }
     {
         match self.ends.sender(segment) {
@@ -223,6 +239,7 @@ impl Talk {
     fn go_on(&mut self, side: Side, length: u64, segment: &Segment, when: When) -> Option<Means>
         ensures closes { result ≡ closes_by segment.now.flags (course_of side self.old.courses).is_closed }
         ensures first { self.new.courses.first ≡ option_or self.old.courses.first (Some when) }
+        ensures shut { (k : Side) → has_closed k self.new ≡ closed_after segment.now side self.old k }
         ensures rest { self.new ≡ record self.old { courses = self.new.courses } }
     {
         let has_data = !segment.flags.rst && !segment.payload.is_empty();
@@ -232,17 +249,15 @@ impl Talk {
     }
 
     /// Returns how far a side's stream is put together now.
-    fn mark(&self, side: Side, closed: Option<Means>) -> Mark {
-        let (mine, theirs) = match side {
-            Side::A => (&self.a, &self.b),
-            Side::B => (&self.b, &self.a),
-        };
+    fn mark(&self, side: Side, closed: Option<Means>) -> Mark
+        ensures { (a b : Past) → IsTalk a b self.now → IsMark self.now.watch.when side closed a b self.now result }
+    {
         Mark {
             side,
-            length: mine.flow.next(),
-            is_whole: !theirs.flow.has_hole(),
+            length: self.length(side),
+            is_whole: !self.has_hole(other(side)),
             when: self.watch.when,
-            high: mine.flow.high(),
+            high: self.high(side),
             closed,
         }
     }
@@ -254,10 +269,12 @@ impl Talk {
         segment: &Segment,
         closed: Option<Means>,
     ) -> Result<(), AllocError>
-        ensures { self.new ≡ record self.old { marks = self.new.marks } }
+        ensures rest { self.new ≡ record self.old { marks = self.new.marks } }
+        ensures marked { OnOk result ((a b : Past) → IsTalk a b self.old → (marks : List Mark) × (is_in_opening self.old ≡ true
+            → IsMarkedBy (is_plain_by segment.now.payload.now closed) self.old.watch.when side closed a b self.old marks)
+            × (marks_of self.new ≡ marks_of self.old ++ marks)) }
     {
-        let is_plain = segment.payload.is_empty() && closed.is_none();
-        if is_plain || !self.a.is_opening() {
+        if is_plain(segment, closed) || !self.a.is_opening() {
             return Ok(());
         }
         let mark = self.mark(side, closed);
@@ -266,12 +283,18 @@ impl Talk {
     }
 
     /// Tells whether a side has begun a handshake.
-    pub(crate) fn is_torrent(&self) -> bool {
-        self.a.intro.start().is_some() || self.b.intro.start().is_some()
+    pub(crate) fn is_torrent(&self) -> bool
+        ensures { (a b : Past) → IsTalk a b self.now → HasBegun a b result }
+    {
+        let a = self.start(Side::A);
+        let b = self.start(Side::B);
+        a.is_some() || b.is_some()
     }
 
     /// Returns how far a side's captured bytes reach, from its handshake on.
-    fn reach(&self, side: Side) -> u64 {
+    fn reach(&self, side: Side) -> u64
+        ensures { (a b : Past) → IsTalk a b self.now → IsReachOf side a b self.now result }
+    {
         let start = self.start(side).unwrap_or(0);
         self.high(side).saturating_sub(start as u64)
     }
@@ -283,7 +306,9 @@ impl Talk {
         before: Option<Refusal>,
         closed: Option<Means>,
     ) -> Result<(), AllocError>
-        ensures others { OnOk result (ShowsOthers self.old.watch self.new.watch) }
+        ensures others { OnOk result ((o : ShowsOthers self.old.watch self.new.watch)
+            × ((a b : Past) → IsTalk a b self.old → is_in_opening self.old ≡ false
+            → AreOthers self.old.watch.rows.heading self.old.watch.when side before closed a b self.old o.others)) }
         ensures opening { is_in_opening self.old ≡ true → self.new ≡ self.old }
         ensures rest { self.new ≡ record self.old { watch = record self.old.watch { rows = self.new.watch.rows } } }
     {
@@ -304,7 +329,7 @@ impl Talk {
         ensures open { IfOk result (λ both. (is_opening both.0.stage ≡ false) × (is_opening both.1.stage ≡ false)) }
         ensures judged { IfOk result (λ both. (a b : Past) → IsTalk a b self.old → is_in_opening self.old ≡ true
             → IsOpened self.old.terms a b (cut_of A self.old) both.0 × IsOpened self.old.terms b a (cut_of B self.old) both.1
-            × HasOpened a b both.0.stage both.1.stage self.new.watch self.old.watch.rows self.new.watch.rows) }
+            × HasOpened (marks_of self.old) a b both.0.stage both.1.stage self.new.watch self.old.watch.rows self.new.watch.rows) }
         ensures rest { self.new ≡ record self.old { watch = self.new.watch } }
     {
         let of_a = receiver_between(&self.b.intro, &self.a.intro, &self.terms);
@@ -335,7 +360,7 @@ impl Talk {
         ensures open { OnOk result (is_in_opening self.new ≡ false) }
         ensures kept { OnOk result ((a b : Past) → IsTalk a b self.old → IsTalk a b self.new) }
         ensures opened { OnOk result ((a b : Past) → IsTalk a b self.old → is_in_opening self.old ≡ true
-            → HasOpened a b self.new.a.stage self.new.b.stage self.new.watch self.old.watch.rows self.new.watch.rows) }
+            → HasOpened (marks_of self.old) a b self.new.a.stage self.new.b.stage self.new.watch self.old.watch.rows self.new.watch.rows) }
         ensures open_already { OnOk result (is_in_opening self.old ≡ false → self.new ≡ self.old) }
         ensures cuts { OnOk result ((a b : Past) (side : Side) → IsTalk a b self.old → cut_of side self.new ≡ cut_of side self.old) }
         ensures flows { OnOk result ((side : Side) → flow_of side self.new ≡ flow_of side self.old) }
@@ -366,6 +391,7 @@ impl Talk {
         ensures settles { OnOk result ((a b : Past) → IsTalk a b self.old → Settles a b self.old self.new) }
         ensures watch { OnOk result (is_in_opening self.old ≡ false → self.new.watch ≡ self.old.watch) }
         ensures opened { OnOk result ((a b : Past) → IsTalk a b self.old → is_in_opening self.old ≡ true → Opens a b self.old self.new) }
+        ensures marks { OnOk result (is_in_opening self.new ≡ true → self.new.marks ≡ self.old.marks) }
         ensures after { OnOk result (is_in_opening self.old ≡ false → is_in_opening self.new ≡ false) }
         ensures stages { OnOk result (is_in_opening self.old ≡ false → (self.new.a.stage ≡ self.old.a.stage) × (self.new.b.stage ≡ self.old.b.stage)) }
         ensures cuts { OnOk result ((a b : Past) (side : Side) → IsTalk a b self.old → cut_of side self.new ≡ cut_of side self.old) }
@@ -406,6 +432,7 @@ impl Talk {
         ensures courses { self.new.courses ≡ self.old.courses }
         ensures segments { self.new.segments ≡ self.old.segments }
         ensures is_lost { self.new.is_lost ≡ self.old.is_lost }
+        ensures marks { self.new.marks ≡ self.old.marks }
     {
         if self.closing.closes_first(flags) {
             self.a.close(self.watch.a.last());
@@ -442,7 +469,7 @@ impl Talk {
         when: When,
         room: &mut Room,
     ) -> Result<(), AllocError>
-        ensures taken { OnOk result ((a b : Past) → IsTalk a b self.old → (took : Takes segment.now when a b self.old self.new)
+        ensures taken { OnOk result ((a b : Past) → self.old.watch.when ≡ when → IsTalk a b self.old → (took : Takes segment.now when a b self.old self.new)
             × (is_in_opening self.old ≡ true → HasSettled segment.now when a b self.old self.new took self.old.watch.rows self.new.watch.rows)
             × (room.old.out.items ≡ [] → (side : Side) → room.old.wanted ≡ Some side
             → SendsOn (is_in_opening self.old) (of_side side a b) (is_in_opening self.new) (of_side side took.a' took.b') room.new.out.items)
@@ -487,6 +514,8 @@ impl Talk {
     /// The room has no rows then.
     pub fn take(&mut self, segment: &Segment, when: When, room: &mut Room) -> Result<(), AllocError>
         ensures taken { OnOk result ((a b : Past) → IsTalk a b self.old → Takes segment.now when a b self.old self.new) }
+        ensures all { OnOk result ((a b : Past) → IsTalk a b self.old
+            → TakesAll segment.now when a b self.old self.new (rows_in room.old) (rows_in room.new) (wanted_in room.old) (sent_in room.new)) }
         ensures order { OnOk result ((a b : Past) → IsTalk a b self.old → is_in_opening self.old ≡ false
             → Shows segment.now when self.old self.new (rows_in room.old) (rows_in room.new)) }
         ensures says { OnOk result ((a b : Past) → IsTalk a b self.old → (o : is_in_opening self.old ≡ false)
@@ -546,10 +575,12 @@ impl Talk {
         ensures cuts { OnOk result ((a b : Past) (side : Side) → IsTalk a b self.old → cut_of side self.new ≡ cut_of side self.old) }
         ensures flows { OnOk result ((side : Side) → flow_of side self.new ≡ flow_of side self.old) }
         ensures over { OnOk result (is_in_opening self.new ≡ false) }
+        ensures watch { OnOk result (is_in_opening self.old ≡ false → watch_of self.new ≡ watch_of self.old) }
+        ensures directions { OnOk result (is_in_opening self.old ≡ false → (side : Side) → direction_of side self.new ≡ direction_of side self.old) }
         ensures closing { closing_of self.new ≡ closing_of self.old }
         ensures began { began_with self.new ≡ began_with self.old }
         ensures opened { OnOk result ((a b : Past) → IsTalk a b self.old → is_in_opening self.old ≡ true
-            → HasOpened a b self.new.a.stage self.new.b.stage self.new.watch (rows_in room.old) (rows_in room.new)) }
+            → HasOpened (marks_of self.old) a b self.new.a.stage self.new.b.stage self.new.watch (rows_in room.old) (rows_in room.new)) }
         ensures open_already { OnOk result (is_in_opening self.old ≡ false → rows_in room.new ≡ rows_in room.old) }
         ensures rows { OnOk result ((a b : Past) → IsTalk a b self.old → (rows : List Shown) × Appends rows (rows_in room.old) (rows_in room.new)) }
         ensures none { OnErr result (HasNone (rows_in room.old) (rows_in room.new)) }

@@ -1,20 +1,43 @@
-use Rattle.std.proofs.Common.{◌∙◌, ap}
+use Rattle.std.proofs.Common.{◌≡◌, ◌∙◌, Bool, ◌++◌, ◌∷◌, ◌&&◌, [], ℕ, List, max, refl, sym, ap, subst}
+use Rattle.bt_wire.specs.declared.item.Item.{Item}
 use Rattle.bt_talk.specs.declared.watch.Watch.{Watch}
-use Rattle.bt_talk.proofs.Replays.{replayed, replayed_on, replayed_others}
-use Rattle.bt_talk.proofs.Shown.{seen_turned}
+use Rattle.bt_talk.specs.Marks.{IsKnownTo}
+use Rattle.bt_talk.specs.Replays.{IsReplay, with_more}
+use Rattle.bt_talk.specs.Shown.{Turn, items_by}
+use Rattle.bt_talk.proofs.Replays.{begin, items_mine, known_and, replayed, replayed_others}
 use Rattle.bt_talk.proofs.replay.go_to.Goals as goal
+use Rattle.bt_talk.proofs.replay.go_to.Goals.{then-mark, else-mark}
 
 pub returns : goal.returns
-returns c = λ since p receiver cut events items i h.
-    let side = c.args.mark.now.side in
-    let w = c.args.watch.now in
-    let watch = c.come_to.new.self in
-    let is = c.come_to.ensures ∙ ap (λ (k : Watch). record k { when = c.args.mark.now.when }) c.turn_to.ensures in
-    let is_side = ap (λ (k : Watch). k.side) is in
-    let x = c.in_ok-pass_to.ensures side is_side since p receiver cut events items i
-    (seen_turned since side _ c.args.mark.now.when events items w watch is h) in
-    let y = c.in_ok-judge_to.ensures p receiver cut (x.now side) x.is in
-    let z = replayed_on since side p receiver cut items c.pass_to.new.self c.judge_to.new.self c.pass_to.new.watch c.judge_to.new.watch x
-    (replayed since side p receiver cut x.events x.now y.0 c.judge_to.new.self c.pass_to.new.watch c.judge_to.new.watch
-    x.turn y.1 y.2 x.seen) in
-    replayed_others since side p receiver cut items c.judge_to.new.self c.judge_to.new.watch c.show.new.watch c.show.ensures.rest c.in_ok-show.ensures.rows z
+returns c = λ since p q x y n k before i j seen.
+    let mark = c.args.mark.now in
+    let known : Bool = c.if-mark.turn_to in
+    let theirs = c.is_known-is_known.result in
+    let is_known : known ≡ (mark.is_whole && theirs) =
+    elim c.if-mark.branch [
+      | then-mark w ↦ w.turn_to-is ∙ sym (ap (λ (b : Bool). b && theirs) w.if-mark.true)
+      | else-mark w ↦ w.turn_to-is ∙ w.if-mark.false ∙ sym (ap (λ (b : Bool). b && theirs) w.if-mark.false)
+    ] in
+    let is = c.come_to.ensures ∙ ap (λ (z : Watch). record z { when = mark.when }) c.turn_to.ensures in
+    let t0 : Turn = record { side = mark.side; known = known; when = mark.when; items = [] } in
+    let first = c.in_ok-pass_to.ensures.goes_on since p x.receiver x.cut n before t0
+    (begin since p x.receiver x.cut n before mark.side known mark.when c.args.mine.now c.args.watch.now c.come_to.new.self is i seen) in
+    let t : Turn = with_more t0 first.2 in
+    let z = c.in_ok-judge_to.ensures p x.receiver x.cut first.0 (items_by mark.side before ++ t.items) c.in_ok-pass_to.ensures.short first.3.is in
+    let reaches = max mark.length first.0 in
+    let all : Turn = with_more t z.0 in
+    let r = c.judge_to.new.self in
+    let rest = replayed since p x.receiver x.cut reaches before t z.0 r c.pass_to.new.watch c.judge_to.new.watch first.3.turn z.1 z.2 first.3.seen in
+    let shown = replayed_others since p x.receiver x.cut reaches before all r c.judge_to.new.watch c.show.new.watch c.show.ensures.rest
+    c.in_ok-show.ensures.rows rest in
+    record {
+      turn = all;
+      side = refl;
+      when = refl;
+      known = subst (λ (b : Bool). IsKnownTo y.receiver k q mark.is_whole b) (sym is_known)
+          (known_and y.receiver k q mark.is_whole theirs (c.is_known-is_known.ensures q y.receiver y.cut k _ j));
+      is = subst (λ (m : ℕ). IsReplay p x.receiver x.cut m (items_by mark.side (all ∷ before)) r) first.1
+          (subst (λ (l : List (ℕ × Item)). IsReplay p x.receiver x.cut reaches l r) (sym (items_mine all before)) shown.is);
+      seen = shown.seen;
+      now = shown.turn.when;
+    }

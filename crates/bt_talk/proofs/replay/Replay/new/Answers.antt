@@ -1,4 +1,4 @@
-use Rattle.std.proofs.Common.{◌≡◌, ◌∙◌, ℕ, List, [], Option, Some, drop, sym, ap, subst}
+use Rattle.std.proofs.Common.{◌≡◌, ◌∙◌, ℕ, List, [], Option, Some, drop, sym, ap, subst, arith}
 use Rattle.bt_intro.specs.declared.settling.Receiver.{Receiver}
 use Rattle.bt_judge.specs.Judges.{AreJudged}
 use Rattle.bt_intro.specs.Hellos.{IsStartOf, IsFirstHello}
@@ -6,12 +6,12 @@ use Rattle.bt_talk.specs.declared.stage.Judged.{Judged}
 use Rattle.bt_talk.specs.Cuts.{cut_length}
 use Rattle.bt_talk.specs.Replays.{Held, IsReplay, IsReplayOf}
 use Rattle.bt_talk.proofs.Receivers.{whole}
-use Rattle.bt_talk.proofs.Replays.{begun}
+use Rattle.bt_talk.proofs.Replays.{begun, begun_reached}
 use Rattle.bt_talk.proofs.replay.Replay.new.Goals as goal
 
 pub returns-in_default : goal.returns-in_default
 returns-in_default c = λ terms p q f all starts r.
-    subst (λ (o : Option Receiver). IsReplay p o (cut_length c.args.cut.now) [] c.none.result) (sym c.in_default.is) (c.none.ensures p)
+    subst (λ (o : Option Receiver). IsReplay p o (cut_length c.args.cut.now) 0 [] c.none.result) (sym c.in_default.is) (c.none.ensures p)
 
 pub returns : goal.returns
 returns c = λ terms p q f all starts r.
@@ -25,5 +25,13 @@ returns c = λ terms p q f all starts r.
     let rest = c.part_at.result.0.now in
     let close = c.part_at.result.1 in
     let cut = cut_length c.args.cut.now in
-    let k = begun p cut start rest held close first judged (c.part_at.ensures.parted p.out part) c.part_at.ensures.cut in
-    subst (λ (o : Option Receiver). IsReplayOf p o cut [] rest (Some held) close) (ap (λ (j : Judged). Some j.receiver) same ∙ sym c.in-Some.is) k
+    let parted = c.part_at.ensures.parted p.out part in
+    let k = begun p cut start rest held close first judged parted c.part_at.ensures.cut in
+    record {
+      start = start;
+      taken = [];
+      is = subst (λ (o : Option Receiver). IsReplayOf p o cut start [] [] rest (Some held) close)
+          (ap (λ (j : Judged). Some j.receiver) same ∙ sym c.in-Some.is) k;
+      place = omega (arith, lookup.0.0);
+      reached = begun_reached start p.out rest close parted;
+    }

@@ -1,5 +1,6 @@
+use Rattle.std.proofs.Common.{[], refl}
 use Rattle.bt_talk.proofs.Replays.{unjudged}
 use Rattle.bt_talk.proofs.replay.Replay.none.Goals as goal
 
 pub returns : goal.returns
-returns c = λ p. unjudged p c.args.cut
+returns c = λ p. record { start = 0; taken = []; is = unjudged p c.args.cut; place = refl; reached = refl }

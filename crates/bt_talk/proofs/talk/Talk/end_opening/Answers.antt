@@ -4,12 +4,12 @@ use Rattle.bt_talk.specs.declared.room.Room.{Room}
 use Rattle.bt_talk.specs.declared.talk.Talk.{Talk}
 use Rattle.bt_talk.specs.declared.watch.Watch.{Watch}
 use Rattle.bt_talk.specs.Rows.{Shown}
-use Rattle.bt_talk.specs.Talks.{AreShown, is_in_opening, of_side}
+use Rattle.bt_talk.specs.Talks.{AreShown, direction_of, is_in_opening, of_side}
 use Rattle.bt_talk.proofs.Lent.{Alike, with_watch, talk_alike, opened_alike}
 use Rattle.bt_talk.proofs.Shown.{appends_none, appends_same}
 use Rattle.bt_talk.proofs.Grows.{shown_after, shown_alike, shown_in, shows_opened}
 use Rattle.bt_talk.proofs.Sent.{sends_first, sends_nothing}
-use Rattle.bt_talk.proofs.Talks.{both_same, flow_same}
+use Rattle.bt_talk.proofs.Talks.{both_same, direction_same, flow_same}
 use Rattle.bt_talk.proofs.talk.Talk.end_opening.Goals as goal
 
 pub returns-in-Ok-clause-kept : goal.returns-in-Ok-clause-kept
@@ -50,7 +50,7 @@ returns-in-Ok-clause-opened c = λ a b t o.
     let v = c.open-opened.new.self in
     let i : Alike self u = with_watch self true c.swap_rows.new.self (ap (λ (x : Watch). x.matcher) mine) (ap (λ (x : Watch). x.a) mine)
     (ap (λ (x : Watch). x.b) mine) in
-    opened_alike a b v.a.stage v.b.stage v.watch c.swap_rows-2.new.self c.args.room.now.rows c.swap_rows-2.new.rows u.watch.rows v.watch.rows
+    opened_alike self.marks.items a b v.a.stage v.b.stage v.watch c.swap_rows-2.new.self c.args.room.now.rows c.swap_rows-2.new.rows u.watch.rows v.watch.rows
     (ap (λ (x : Watch). x.matcher) back) (ap (λ (x : Watch). x.a) back) (ap (λ (x : Watch). x.b) back) (ap (λ (x : Watch). x.rows) mine)
     (sym c.swap_rows-2.ensures.others) (c.in-Ok.ensures.opened a b (talk_alike a b self u i t) o)
 
@@ -101,7 +101,8 @@ returns-in-Ok-clause-shown c = λ a b before t sh.
     let rows' = c.swap_rows-2.new.rows in
     let head = rows.heading in
     elim (cases_Bool (is_in_opening self)) [
-      | inl o ↦ shows_opened a b w rows rows' before (shown_in (is_in_opening self) head a b self before o sh) (returns-in-Ok-clause-opened c a b t o)
+      | inl o ↦ shows_opened self.marks.items a b w rows rows' before (shown_in (is_in_opening self) head a b self before o sh)
+          (returns-in-Ok-clause-opened c a b t o)
       | inr o ↦
           let was = shown_alike head a b self u before i (shown_after (is_in_opening self) head a b self before o sh) in
           let same : v ≡ u = c.in-Ok.ensures.open_already o in
@@ -111,3 +112,9 @@ returns-in-Ok-clause-shown c = λ a b before t sh.
             subst (λ (l : List Shown). AreShown head a b w l) (sym (append-nil before)) (shown_alike head a b v w before k now),
           )
     ]
+
+pub returns-in-Ok-clause-directions : goal.returns-in-Ok-clause-directions
+returns-in-Ok-clause-directions c = λ o side.
+    let self = c.args.self.now in
+    let same = c.in-Ok.ensures.open_already o in
+    direction_same side c.open-opened.new.self _ refl refl ∙ ap (direction_of side) same ∙ direction_same side self _ refl refl

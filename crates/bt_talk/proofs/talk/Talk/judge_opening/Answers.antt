@@ -1,7 +1,7 @@
-use Rattle.std.proofs.Common.{◌∙◌, ℕ, List, sym, ap, subst}
+use Rattle.std.proofs.Common.{◌∙◌, [], List, refl, sym, ap, subst}
 use Rattle.bt_remarks.specs.declared.events.Side.TheVariants.{A, B}
-use Rattle.bt_wire.specs.declared.item.Item.{Item}
-use Rattle.bt_talk.specs.Replays.{IsReplay}
+use Rattle.bt_talk.specs.declared.replay.Mark.{Mark}
+use Rattle.bt_talk.specs.Replays.{HasOpened}
 use Rattle.bt_talk.specs.Talks.{cut_of}
 use Rattle.bt_talk.specs.Watching.{messages_of}
 use Rattle.bt_talk.proofs.Items.{opening_items}
@@ -18,12 +18,19 @@ returns-clause-judged c = λ a b t o.
     let no_a = opening_items self.a.stage a (t.said.items A) o t.said.a_items in
     let no_b = opening_items self.b.stage b (t.said.items B) (sym t.stages ∙ o) t.said.b_items in
     let none = no_events t.said.events ((t.said.watched.notes A).said ∙ ap messages_of no_a) ((t.said.watched.notes B).said ∙ ap messages_of no_b) in
-    c.in_ok-both.ensures.judged self.watch.rows self.terms a b (record { receiver = c.receiver_between-of_a.result; cut = cut_of A self })
+    let both = c.in_ok-both.both in
+    let w = c.judge_both.new.watch in
+    let j = c.in_ok-both.ensures.judged self.watch.rows self.terms a b (record { receiver = c.receiver_between-of_a.result; cut = cut_of A self })
     (record { receiver = c.receiver_between-of_b.result; cut = cut_of B self }) ra rb
     (record {
-      events = t.said.events;
-      items = t.said.items;
-      a_is = subst (λ (l : List (ℕ × Item)). IsReplay a c.receiver_between-of_a.result (cut_of A self) l c.in_ok-a.a) (sym no_a) x;
-      b_is = subst (λ (l : List (ℕ × Item)). IsReplay b c.receiver_between-of_b.result (cut_of B self) l c.in_ok-b.b) (sym no_b) y;
+      turns = [];
+      are = refl;
+      a_is = x;
+      b_is = y;
       seen = seen_none t.said.events t.said.items self.watch none no_a no_b t.said.watched;
-    })
+      latest = tt;
+    }) in (
+      j.0,
+      j.1,
+      subst (λ (l : List Mark). HasOpened l a b both.0.stage both.1.stage w self.watch.rows w.rows) c.deref.ensures.value j.2,
+    )

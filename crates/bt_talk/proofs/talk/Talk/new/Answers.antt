@@ -1,4 +1,5 @@
-use Rattle.std.proofs.Common.{◌∙◌, [], sym}
+use Rattle.std.proofs.Common.{◌∙◌, [], sym, ap}
+use Rattle.bt_talk.specs.declared.course.Course.{Course}
 use Rattle.bt_talk.specs.Pasts.{no_past}
 use Rattle.bt_talk.proofs.Items.{no_items}
 use Rattle.bt_talk.proofs.talk.Talk.new.Goals as goal
@@ -16,3 +17,9 @@ returns-clause-is c = record {
     watched = c.new-4.ensures;
   };
 }
+
+pub returns-clause-not_shut : goal.returns-clause-not_shut
+returns-clause-not_shut c = λ k. ap (λ (x : Course). x.is_closed) (c.new-5.ensures.sides k)
+
+pub returns-clause-watched : goal.returns-clause-watched
+returns-clause-watched c = c.new-4.ensures

@@ -40,8 +40,8 @@ returns-clause-opened c = λ a b t o.
     let j = c.in_ok-of_a.ensures.judged a b t o in
     let sa = c.open.ensures.opens.stage in
     let sb = c.open-2.ensures.opens.stage in
-    subst (λ (s : Stage). HasOpened a b s c.open-2.new.self.stage now.watch self.watch.rows now.watch.rows) (sym sa)
-    (subst (λ (s : Stage). HasOpened a b of_a.stage s now.watch self.watch.rows now.watch.rows) (sym sb) j.2)
+    subst (λ (s : Stage). HasOpened self.marks.items a b s c.open-2.new.self.stage now.watch self.watch.rows now.watch.rows) (sym sa)
+    (subst (λ (s : Stage). HasOpened self.marks.items a b of_a.stage s now.watch self.watch.rows now.watch.rows) (sym sb) j.2)
 
 pub returns-clause-open_already : goal.returns-clause-open_already
 returns-clause-open_already c = λ o. absurd (let e : true ≡ false = sym (sym c.is_opening.ensures ∙ c.if-not-is_opening.false) ∙ o in cc)

@@ -40,6 +40,9 @@ returns-clause-cuts c = λ a b side t.
     c.in_ok-open.ensures.cuts a b side (record { a_is = t.a_is; b_is = t.b_is; stages = t.stages; said = t.said })
     ∙ both_same side c.args.self.now _ refl refl
 
+pub returns-clause-marks : goal.returns-clause-marks
+returns-clause-marks c = λ o. absurd (let e : true ≡ false = sym o ∙ c.in_ok-open.ensures.open in cc)
+
 pub returns-then-not-is_opening-clause-opened : goal.returns-then-not-is_opening-clause-opened
 returns-then-not-is_opening-clause-opened c = λ a b t o. absurd (let e : true ≡ false = sym o ∙ sym c.is_opening.ensures ∙ c.if-not-is_opening.true in cc)
 

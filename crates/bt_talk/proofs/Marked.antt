@@ -1,0 +1,65 @@
+-- What a segment adds to the marks of an opening.
+use Rattle.std.proofs.Common.{◌≡◌, ◌∙◌, ℕ, Bool, true, false, List, Option, refl, sym, ap, subst}
+use Rattle.std.specs.Prelude.{◌||◌, if◌then◌else◌}
+use Rattle.bt_remarks.specs.declared.events.Side.{Side}
+use Rattle.bt_remarks.specs.Said.{other, is_same}
+use Rattle.bt_told.specs.declared.report.Means.{Means}
+use Rattle.bt_packet.specs.declared.tcp.Segment.{Segment}
+use Rattle.bt_flow.specs.declared.flow.Flow.{Flow}
+use Rattle.bt_flow.specs.Flows.{HasHole, high_in}
+use Rattle.bt_talk.specs.declared.closing.When.{When}
+use Rattle.bt_talk.specs.declared.course.Course.{Course}
+use Rattle.bt_talk.specs.declared.course.Courses.{Courses}
+use Rattle.bt_talk.specs.declared.replay.Mark.{Mark}
+use Rattle.bt_talk.specs.declared.talk.Talk.{Talk}
+use Rattle.bt_talk.specs.Courses.{closes_by, course_of}
+use Rattle.bt_talk.specs.Pasts.{Past}
+use Rattle.bt_talk.specs.Talks.{IsMark, IsMarked, IsMarkedBy, closed_after, flow_of, has_closed, is_plain, of_side}
+
+pub closed_by : (b : Bool) (x y : Course) → (if b then x else y).is_closed ≡ (if b then x.is_closed else y.is_closed)
+closed_by true x y = refl
+closed_by false x y = refl
+
+-- Courses are the same, and so are those who have closed.
+pub closed_same : (t u : Talk) (k : Side) → u.courses ≡ t.courses → has_closed k u ≡ has_closed k t
+closed_same t u k e = ap (λ (c : Courses). (course_of k c).is_closed) e
+
+pub after_same : (s : Segment) (side side' : Side) (t u : Talk) (k : Side) → side ≡ side' → t.courses ≡ u.courses
+    → closed_after s side t k ≡ closed_after s side' u k
+after_same s side side' t u k e f =
+    ap (λ (i : Side). closed_after s i t k) e
+    ∙ ap (λ (b : Bool). if is_same side' k then b || (s.flags.fin || s.flags.rst) else b) (closed_same u t k f)
+
+mark_same : (when : When) (side : Side) (closed : Option Means) (a b : Past) (t u : Talk) (m : Mark) → ((k : Side) → flow_of k u ≡ flow_of k t)
+    → IsMark when side closed a b t m → IsMark when side closed a b u m
+mark_same when side closed a b t u m f i = record {
+  side_is = i.side_is;
+  when_is = i.when_is;
+  length_is = i.length_is;
+  hole = i.hole;
+  hole_is = subst (λ (x : Flow). HasHole (of_side (other side) a b).heard (of_side (other side) a b).out x.stream i.hole) (sym (f (other side))) i.hole_is;
+  whole = i.whole;
+  high = i.high ∙ ap (λ (x : Flow). high_in (of_side side a b).heard x.stream) (sym (f side));
+  closed_is = i.closed_is;
+}
+
+by_flows : (plain : Bool) (when : When) (side : Side) (closed : Option Means) (a b : Past) (t u : Talk) (marks : List Mark)
+    → ((k : Side) → flow_of k u ≡ flow_of k t) → IsMarkedBy plain when side closed a b t marks → IsMarkedBy plain when side closed a b u marks
+by_flows true when side closed a b t u marks f i = i
+by_flows false when side closed a b t u marks f i = (i.0, i.1, mark_same when side closed a b t u i.0 f i.2)
+
+-- What the marks stand on is as it was.
+pub by_same : (payload : List ℕ) (when when' : When) (side side' : Side) (closed closed' : Option Means) (a b : Past) (t u : Talk) (marks : List Mark)
+    → when ≡ when' → side ≡ side' → closed ≡ closed' → ((k : Side) → flow_of k u ≡ flow_of k t)
+    → IsMarkedBy (is_plain payload closed) when side closed a b t marks → IsMarkedBy (is_plain payload closed') when' side' closed' a b u marks
+by_same payload when when' side side' closed closed' a b t u marks e f g h i =
+    subst (λ (x : When). IsMarkedBy (is_plain payload closed') x side' closed' a b u marks) e
+    (subst (λ (x : Side). IsMarkedBy (is_plain payload closed') when x closed' a b u marks) f
+    (subst (λ (x : Option Means). IsMarkedBy (is_plain payload x) when side x a b u marks) g
+    (by_flows (is_plain payload closed) when side closed a b t u marks h i)))
+
+pub marked_same : (s : Segment) (when : When) (side : Side) (a b : Past) (t t' u u' : Talk) (marks : List Mark) → u.courses ≡ t.courses
+    → ((k : Side) → flow_of k u' ≡ flow_of k t') → IsMarked s when side a b t t' marks → IsMarked s when side a b u u' marks
+marked_same s when side a b t t' u u' marks e f i =
+    by_same s.payload.now when when side side (closes_by s.flags (has_closed side t)) (closes_by s.flags (has_closed side u)) a b t' u' marks refl refl
+    (ap (closes_by s.flags) (sym (closed_same t u side e))) f i
