@@ -35,8 +35,8 @@ FIN, SYN, RST, ACK = 1, 2, 4, 16
 FAST, EXT = 0x4, 0x100000
 # How far back a repeated byte is compared, and how long a connection that has ended is without a segment until it is over.
 HISTORY, QUIET = 16384, 4_000_000_000
-# How many connections are followed at once.
-MOST = 16384
+# How many connections are followed at once, and how many of them may be without a byte besides the one whose segment came last.
+MOST, SILENT = 16384, 8192
 
 
 # ---- the model: messages
@@ -680,6 +680,25 @@ def model_differs(program):
             yield "" if is_same else "%s: --stream %s writes other bytes" % (name, words)
 
 
+def crowds_differ(program, crowd, count):
+    """What is wrong with what standard error says of this capture of so many connections, whole and before a record of an impossible length; and
+    of connections without a byte: as many as may be at once, one fewer, one more and three more."""
+    nothing = "no BitTorrent connection in %d packets; 0 of them aren't TCP\n"
+    broken = "fault: capture: a record of a pcap file has an impossible length\n"
+    said = lambda count: "capture: %d connection%s not read further: too many at once\n" % (count, " was" if count == 1 else "s were")
+    runs = [("too many", crowd, said(count - MOST), 0), ("too many before a broken record", crowd + bytes(8) + 8 * b"\xff", broken + said(count - MOST), 3)]
+    for more in (-1, 0, 1, 3):
+        ends = [(("10.0.%d.%d" % divmod(number, 256), 6881), ("10.1.0.1", 6881)) for number in range(SILENT + 1 + more)]
+        framed = [writer.frames([writer.Packet("A", SYN, 7, 0, b"", 0)], ends=it) for it in ends]
+        silent = writer.pcap((framed[0][0], [one for _, frames in framed for one in frames]))
+        runs.append(("%d silent ones" % len(ends), silent, (said(more) if more > 0 else "") + nothing % len(ends), 3))
+    for name, file, wanted, status in runs:
+        done = subprocess.run([program, "capture", "-"], input=file, capture_output=True, timeout=100)
+        found = done.stderr.decode()
+        yield "" if (found, done.returncode) == (wanted, status) else "crowded: %s: got %d\n%s\nexpected %d\n%s" % (
+            name, done.returncode, found, status, wanted)
+
+
 def left_differs(program):
     """What is wrong with how connections were left: the first two of two more than are followed at once, the second of which has ended its
     other direction, and one whose ports another takes."""
@@ -692,6 +711,7 @@ def left_differs(program):
     crowd = writer.pcap((link, frames))
     told = re.split("(?m)^connection ", run(program, crowd, "-")[0].decode())[1:]
     yield "" if len(told) == MOST + 2 else "crowded: %d connections" % len(told)
+    yield from crowds_differ(program, crowd, MOST + 2)
     unread = ("(cut: not read further)", "\n  not read further: too many connections at once\n")
     still = ("(cut by the capture's end)", "\n  still open at the capture's end\n")
     for words, wanted in ((unread, 2), (still, MOST)):

@@ -324,11 +324,18 @@ def capturing(runner):
     ample = (text, b"", 0)
     # A connection for which memory runs out isn't told; the others are, or a part of them.
     rests = [b"".join(report for at, report in enumerate(reports) if kept >> at & 1) for kept in range(1 << len(reports))]
-    for number, answer, was_made in runner.in_turn(words, packets, "MEMORY"):
-        out, errors, ended = answer
-        is_fault = any(rest.startswith(out) for rest in rests) and (errors, ended) == (b"fault: memory\n", 3)
-        if answer != ample and not (was_made and is_fault):
-            yield "capture: request %d: %r" % (number, answer)
+    # What is lost is said too where the file can't be read on.
+    for more, broken in ((b"", b""), (bytes(8) + 8 * b"\xff", b"fault: capture: a record of a pcap file has an impossible length\n")):
+        both = broken + b"fault: memory\n"
+        said = []
+        for number, answer, was_made in runner.in_turn(words, packets + more, "MEMORY"):
+            out, errors, ended = answer
+            is_fault = any(rest.startswith(out) for rest in rests) and errors in (b"fault: memory\n", both) and ended == 3
+            if answer != ((text, broken, 3) if broken else ample) and not (was_made and is_fault):
+                yield "capture: request %d: %r" % (number, answer)
+            said.append(errors)
+        if both not in said:
+            yield "capture: memory runs out with no connection: %r" % set(said)
     for most in (7, 100):
         for number, (out, errors, ended), was_made in runner.in_turn(words, packets, "READ", READ_MOST=most):
             told = [line for line in out.splitlines() if line.startswith(b"connection ")]

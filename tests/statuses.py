@@ -605,6 +605,9 @@ REPORT_38 = (b'{"connection":0,"a":"10.0.0.1:51413","b":"10.0.0.2:6881","bittorr
              b'"b":{"sent":68,"last":{"offset":0,"item":"handshake","reserved":"0000000000100005",'
              b'"info_hash":"a9993e364706816aba3e25717850c26c9cd0d89d","peer_id":"2d4242303030312d303030303030303030303030",'
              b'"peer_id_text":"-BB0001-000000000000"}}}}\n')
+# The begin of a record whose length is impossible.
+BAD_RECORD = bytes(8) + 8 * b"\xff"
+BAD_LENGTH = b"fault: capture: a record of a pcap file has an impossible length\n"
 CUT_IN_PACKET = b"capture: ends inside a packet, which is left out\n"
 
 
@@ -726,6 +729,11 @@ FILES = [
     ("capture --stream 1-A a", {"a": REFUSED}, b"", b"", b"no connection 1\n", 3),
     ("capture --stream 4294967295-B", {}, REFUSED, b"", b"no connection 4294967295\n", 3),
     ("capture --stream 0-A a", {"a": HAND}, b"", b"", b"a: fault: capture: neither a pcap nor a pcapng file\n", 3),
+    ("capture a", {"a": REFUSED + BAD_RECORD}, b"", TEXT, b"a: " + BAD_LENGTH, 3),
+    ("capture", {}, REFUSED + BAD_RECORD, TEXT, BAD_LENGTH, 3),
+    ("capture", {}, REFUSED[:24] + BAD_RECORD, b"", BAD_LENGTH, 3),
+    ("capture --stream 0-B a", {"a": REFUSED + BAD_RECORD}, b"", streamed(6881), b"a: " + BAD_LENGTH, 3),
+    ("capture --stream 1-A", {}, REFUSED + BAD_RECORD, b"", BAD_LENGTH, 3),
     # a limit that each message keeps, and a smaller one
     ("capture --limit 10 a", {"a": REFUSED}, b"", TEXT, b"", 0),
     ("capture --limit 4 a", {"a": REFUSED}, b"", TEXT, b"", 1),

@@ -26,3 +26,5 @@ mod Parting
 mod Steps
 mod Order
 mod Silent
+mod Turns
+mod Timing

@@ -96,13 +96,13 @@ order_nothing es begun none zero_is =
     }
 
 -- the places with one more
-abbrev placed : (ℕ → ℕ) → ℕ → ℕ → ℕ → ℕ
+abbrev pub placed : (ℕ → ℕ) → ℕ → ℕ → ℕ → ℕ
 placed place begun at n = if nat_lt n begun then place n else at
 
-placed_before : (place : ℕ → ℕ) (begun at n : ℕ) → n < begun → placed place begun at n ≡ place n
+pub placed_before : (place : ℕ → ℕ) (begun at n : ℕ) → n < begun → placed place begun at n ≡ place n
 placed_before place begun at n lt = let e : nat_lt n begun ≡ true = grind (arith, nat_tests) in rw e refl
 
-placed_now : (place : ℕ → ℕ) (begun at n : ℕ) → begun ≤ n → placed place begun at n ≡ at
+pub placed_now : (place : ℕ → ℕ) (begun at n : ℕ) → begun ≤ n → placed place begun at n ≡ at
 placed_now place begun at n le = let e : nat_lt n begun ≡ false = grind (arith, nat_tests) in rw e refl
 
 at_begun : (place : ℕ → ℕ) (came taken : List Arrival) (begun begun' at n : ℕ) → begun ≤ begun' → IsBegunAt place came begun n taken

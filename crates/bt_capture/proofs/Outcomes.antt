@@ -20,21 +20,23 @@ use Rattle.bt_utp.specs.States.{AreCounted}
 use Rattle.bt_capture.specs.declared.connections.Run.{Run}
 use Rattle.bt_capture.specs.declared.ending.CaptureEnd.{CaptureEnd}
 use Rattle.bt_capture.specs.declared.ending.CaptureFault.{CaptureFault}
-use Rattle.bt_capture.specs.declared.ending.CaptureFault.TheVariants.{File, Read, Write, Memory, Turns}
+use Rattle.bt_capture.specs.declared.ending.CaptureFault.TheVariants.{Write, Memory, Turns}
 use Rattle.bt_capture.specs.declared.ending.Form.{Form}
+use Rattle.bt_capture.specs.declared.packets.FileEnd.{FileEnd}
+use Rattle.bt_capture.specs.declared.packets.FileEnd.TheVariants.{Whole, Cut}
 use Rattle.bt_capture.specs.declared.pair.Pair.{Pair}
-use Rattle.bt_capture.specs.Arrivals.{arrivals, first_time}
-use Rattle.bt_capture.specs.Ends.{IsBroken, IsWhy}
+use Rattle.bt_capture.specs.Arrivals.{arrivals, clock_of, first_time}
+use Rattle.bt_capture.specs.Ends.{HasEndedSo, IsBroken, IsEnded, ending_by}
 use Rattle.bt_capture.specs.FlowTexts.{datagrams, flow_texts}
-use Rattle.bt_capture.specs.Following.{AreInOrder, numbers}
+use Rattle.bt_capture.specs.Following.{AreInOrder, IsTimely, numbers}
 use Rattle.bt_capture.specs.Following.{AtEnd, Finished, IsFinished, IsSentBy, IsShared, IsStreaming, IsStreamSoFar, Follows, Phase, Stops, Streams}
 use Rattle.bt_capture.specs.Following.{reports_of, told_by}
 use Rattle.bt_capture.specs.Forms.{absent_from, is_stream, wanted_by}
 use Rattle.bt_capture.specs.Readings.{Reading, IsReading, GoesOn, Hands, Waits, nothing_read, shown, with_bytes}
 use Rattle.bt_capture.specs.Tables.{Held}
 use Rattle.bt_capture.specs.Tellings.{Tells, IsStopped, IsEmpty, AreTexts}
-use Rattle.bt_capture.specs.Runs.{Origin, HasRead, IsTelling, IsTellingIn, IsLeft, IsEndOf, AreOver, AreAllOver, AreWritten, ArePartlyWritten, AfterFault, Adds}
-use Rattle.bt_capture.specs.Runs.{AreRowsTold, IsOfTelling, IsOfReading, IsToldTo, IsOnlyStream, IsStreamTold, StreamsSoFar, utp_lines}
+use Rattle.bt_capture.specs.Runs.{Origin, HasRead, IsTelling, IsTellingIn, IsLeft, IsEndOf, AreOver, AreAllOver, AreToldSoFar, ArePartlyWritten, Adds}
+use Rattle.bt_capture.specs.Runs.{AreRowsTold, IsToldTo, IsOnlyStream, IsStreamTold, StreamsSoFar, utp_lines}
 use Rattle.bt_capture.proofs.Going.{fresh}
 use Rattle.bt_capture.proofs.InOrder.{no_texts}
 use Rattle.bt_capture.proofs.Numbers.{one_if_began}
@@ -86,13 +88,6 @@ waits_on r r' bytes none is w =
     let n = min (r.bytes + length bytes) (2 ^ 64 - 1) in
     let P : List ℕ → Type 0 = λ l. Waits (record { format = r.format; skip = r.skip; held = l; bytes = n; packets = r.packets }) in
     subst (λ x. Waits x) (sym is) (subst P (sym same) (record { few = w.few; inside = w.inside }))
-
-pub fault_of_telling : (f : CaptureFault) (r : Reading) → IsOfTelling f → IsWhy f r
-fault_of_telling Write r x = tt
-fault_of_telling Memory r x = tt
-fault_of_telling (File f) r x = absurd x
-fault_of_telling Read r x = absurd x
-fault_of_telling Turns r x = absurd x
 
 -- the number of the next packet
 pub next_number : (packets : List Captured) (all : List ℕ) (r : Reading) (n m : ℕ) → IsReading all packets r → n ≡ r.packets → m ≡ min (n + 1) (2 ^ 64 - 1)
@@ -154,8 +149,8 @@ finished_by o packets fs run terms time i =
     subst (λ x. All (IsFinished x (unwrap_or (first_time packets) 0)) fs) terms (subst (λ x. All (IsFinished run.terms (unwrap_or x 0)) fs) time i)
 
 over_by : (o : Origin) (now : TargetSeen) (packets : List Captured) (run : Run) → run.terms ≡ o.terms → run.start ≡ first_time packets
-    → (s : Stops o.target now (arrivals packets) run) → AreOver o packets s.fs
-over_by o now packets run terms time s = record { finished = finished_by o packets s.fs run terms time s.known.finished; shared = s.shared }
+    → (s : Stops o.target now (clock_of packets) (arrivals packets) run) → AreOver o packets s.fs
+over_by o now packets run terms time s = record { finished = finished_by o packets s.fs run terms time s.known.finished; shared = s.shared; timely = s.timely }
 
 -- What is told of a stream, by what was asked for.
 streams_by : (o : Origin) (packets : List Captured) (fs : List Finished) (es : List (Pair × Held)) (run : Run) (written : List ℕ) → run.terms ≡ o.terms
@@ -185,6 +180,28 @@ so_far o left now es run r i =
 no_lines : (o : Origin) (now : TargetSeen) (text : List ℕ) → AppendsPrefix o.target.held now.held text → AppendsPrefix o.target.held now.held (text ++ [])
 no_lines o now text front = subst (AppendsPrefix o.target.held now.held) (sym (append-nil text)) front
 
+-- the parts that are told, by what was asked for
+told_so_far : {ph : Phase} (o : Origin) (left : Option (List ℕ)) (now : TargetSeen) (es : List (Pair × Held)) (run : Run) (r : Reading)
+    → (i : IsTellingIn ph o left now es run r) → AreToldSoFar o i.packets i.follows.fs (told_by i.follows.written run)
+told_so_far {ph} o left now es run r i =
+    let f = i.follows in
+    let text = told_by f.written run in
+    let rows = rows_same run.teller.form o.form f.parts text text run.terms o.terms (unwrap_or run.start 0) (unwrap_or (first_time i.packets) 0)
+    run.begun run.begun (arrivals i.packets) f.fs es (sym i.form) refl (sym i.terms) (ap (λ x. unwrap_or x 0) (sym i.time)) refl f.rows in
+    record {
+      begun = run.begun;
+      place = f.order.place;
+      order = f.order.order;
+      phase = ph;
+      parting = f.parting;
+      parts = f.parts;
+      parts_are = rows.rowed.parts_are;
+      rows = rows.rowed.over;
+      none = rows.rowed.none;
+      packet = f.packet;
+      times = f.times;
+    }
+
 pub left_by : {ph : Phase} (o : Origin) (left : Option (List ℕ)) (now after : TargetSeen) (es : List (Pair × Held)) (run : Run) (r : Reading)
     → ((reports : List Report) (written : List ℕ) → Tells o.target now run.teller reports written
     → IsStopped run.teller.form o.target after reports (written ++ run.teller.text.items))
@@ -202,6 +219,7 @@ left_by o left now after es run r stopped i =
       over = record {
         finished = finished_by o i.packets fs run i.terms i.time i.follows.known.finished;
         shared = λ k. ((i.follows.shared k).taken, (i.follows.shared k).share);
+        timely = i.follows.timely;
       };
       text = text;
       texts_are = is.texts_are;
@@ -210,10 +228,11 @@ left_by o left now after es run r stopped i =
       stream = so_far o left now es run r i;
       front = no_lines o after text is.front;
       failed = is.failed;
+      told = told_so_far o left now es run r i;
     }
 
 pub given_up : (o : Origin) (left : Option (List ℕ)) (now : TargetSeen) (packets : List Captured) (run : Run) (r : Reading) → HasRead o left packets r
-    → run.terms ≡ o.terms → run.teller.form ≡ o.form → run.start ≡ first_time packets → Stops o.target now (arrivals packets) run
+    → run.terms ≡ o.terms → run.teller.form ≡ o.form → run.start ≡ first_time packets → Stops o.target now (clock_of packets) (arrivals packets) run
     → ArePartlyWritten o left now
 given_up o left now packets run r read terms form time s =
     let t = s.known.tells in
@@ -243,7 +262,7 @@ nothing_told o = record {
   r = nothing_read;
   read = read_nothing o;
   fs = [];
-  over = record { finished = All-nil (IsFinished o.terms 0); shared = λ k. ([], refl) };
+  over = record { finished = All-nil (IsFinished o.terms 0); shared = λ k. ([], refl); timely = All-nil (IsTimely (clock_of [])) };
   text = [];
   texts_are = no_texts o.form;
   lines = [];
@@ -283,6 +302,7 @@ all_over o left now run r i = record {
   order = subst (λ n. AreInOrder i.follows.order.place (arrivals i.packets) n i.follows.fs)
       (begun_all run.begun (length i.follows.fs) i.follows.begun) i.follows.order.order;
   last = i.follows.last;
+  timely = i.follows.timely;
 }
 
 pub stream_told : (o : Origin) (left : Option (List ℕ)) (now : TargetSeen) (run : Run) (r : Reading) → IsEmpty run.teller
@@ -310,6 +330,8 @@ rows_told o left now run r empty i =
       parts_are = rows.rowed.parts_are;
       rows = rows.rowed.over;
       none = λ n le small. let begun : run.begun ≡ min (length f.fs + 0) (2 ^ 64 - 1) = f.begun in rows.rowed.none n (omega (arith, le, begun)) small;
+      packet = f.packet;
+      times = f.times;
     }
 
 -- the reports and the lines on uTP, one after the other
@@ -319,23 +341,6 @@ pub whole_written : (o : Origin) (left : Option (List ℕ)) (before now : Target
 whole_written o left before now run r empty i held =
     Appends-trans o.target.held before.held now.held i.follows.written (utp_lines o.form i.packets) i.follows.known.tells.held
     (subst (λ f. Appends before.held now.held (utp_lines f i.packets)) i.form held)
-
-all_written : (Why : Reading → Type 0) (o : Origin) (left : Option (List ℕ)) (before now : TargetSeen) (run : Run) (r : Reading) → Why r
-    → IsEmpty run.teller → (i : IsTellingIn AtEnd o left before [] run r) → Appends before.held now.held (utp_lines run.teller.form i.packets)
-    → AreWritten Why o left now
-all_written Why o left before now run r why empty i held = record {
-  packets = i.packets;
-  r = r;
-  read = i.read;
-  why = why;
-  fs = i.follows.fs;
-  over = all_over o left before run r i;
-  text = i.follows.written;
-  texts_are = texts_written o left before run r empty i;
-  stream = stream_told o left before run r empty i;
-  rows = rows_told o left before run r empty i;
-  written = whole_written o left before now run r empty i held;
-}
 
 -- The lines on uTP couldn't be made or written.
 part_written : (o : Origin) (left : Option (List ℕ)) (before now : TargetSeen) (run : Run) (r : Reading) → IsEmpty run.teller
@@ -353,6 +358,7 @@ part_written o left before now run r empty i p failed =
       over = record {
         finished = finished_by o i.packets i.follows.fs run i.terms i.time known.finished;
         shared = λ k. ((i.follows.shared k).taken, (i.follows.shared k).share);
+        timely = i.follows.timely;
       };
       text = written;
       texts_are = texts_written o left before run r empty i;
@@ -366,6 +372,7 @@ part_written o left before now run r empty i p failed =
         Appends-trans o.target.held before.held now.held written q.0 known.tells.held q.3,
       );
       failed = subst (λ (n : ℕ). Grew n now.failed) known.tells.calm failed;
+      told = subst (λ l. AreToldSoFar o i.packets i.follows.fs l) (all_told written run empty) (told_so_far o left before [] run r i);
     }
 
 pub not_added : (T : Type 0) (f : CaptureFault) (o : Origin) (left : Option (List ℕ)) (before now : TargetSeen) (run : Run) (r : Reading)
@@ -373,37 +380,12 @@ pub not_added : (T : Type 0) (f : CaptureFault) (o : Origin) (left : Option (Lis
     → IsToldTo f o left now
 not_added T Write o left before now run r empty i a = part_written o left before now run r empty i a.0 a.1
 not_added T Memory o left before now run r empty i a = subst (ArePartlyWritten o left) (sym a) (partly o left before [] run r i)
-not_added T (File f) o left before now run r empty i a = absurd a
-not_added T Read o left before now run r empty i a = absurd a
 not_added T Turns o left before now run r empty i a = absurd a
 
--- The text couldn't be made or written.
-pub told_fault : (ph : Phase) (f : CaptureFault) (o : Origin) (left : Option (List ℕ)) (now : TargetSeen) (es : List (Pair × Held)) (run : Run) (r : Reading)
-    → IsOfTelling f → AfterFault f ph o left now es run r → IsToldTo f o left now
-told_fault ph Write o left now es run r x i = i
-told_fault ph Memory o left now es run r x i = i
-told_fault ph (File f) o left now es run r x i = absurd x
-told_fault ph Read o left now es run r x i = absurd x
-told_fault ph Turns o left now es run r x i = absurd x
-
--- The file couldn't be read on.
-pub told_unread : (f : CaptureFault) (o : Origin) (left : Option (List ℕ)) (before now : TargetSeen) (run : Run) (r : Reading) → IsOfReading f
-    → IsWhy f r → IsEmpty run.teller → (i : IsTellingIn AtEnd o left before [] run r) → Appends before.held now.held (utp_lines run.teller.form i.packets)
-    → IsToldTo f o left now
-told_unread Write o left before now run r x why empty i held = absurd x
-told_unread Memory o left before now run r x why empty i held = absurd x
-told_unread (File f) o left before now run r x why empty i held = all_written (IsBroken f) o left before now run r why empty i held
-told_unread Read o left before now run r x why empty i held = all_written Waits o left before now run r why empty i held
-told_unread Turns o left before now run r x why empty i held = absurd x
-
--- A fault of telling leaves no connection.
-pub fault_any : (ph : Phase) (f : CaptureFault) (o : Origin) (left : Option (List ℕ)) (now : TargetSeen) (es gs : List (Pair × Held)) (run : Run) (r : Reading)
-    → IsOfTelling f → AfterFault f ph o left now es run r → AfterFault f ph o left now gs run r
-fault_any ph Write o left now es gs run r x i = i
-fault_any ph Memory o left now es gs run r x i = i
-fault_any ph (File f) o left now es gs run r x i = absurd x
-fault_any ph Read o left now es gs run r x i = absurd x
-fault_any ph Turns o left now es gs run r x i = absurd x
+-- The end that the file's end tells of.
+pub ended_so : (end : FileEnd) (r : Reading) → IsEnded r (Ok end) → Waits r → HasEndedSo (ending_by end) r
+ended_so Whole r ended waits = (waits, ended)
+ended_so Cut r ended waits = (waits, ended)
 
 -- Those that are left are taken out of the table.
 pub told_rest : (o : Origin) (left : Option (List ℕ)) (now : TargetSeen) (old new : Run) (es : List (Pair × Held)) (r : Reading)
@@ -427,7 +409,8 @@ told_rest o left now old new es r all up same i =
 -- ---- the begin
 
 pub begins : (o : Origin) (run : Run) (r : Reading) → run.terms ≡ o.terms → run.teller.form ≡ o.form → run.start ≡ None
-    → Follows o.target o.target [] run.table run → AreCounted [] run.utp → run.skipped ≡ 0 → r ≡ nothing_read → IsTelling o o.left o.target run.table run r
+    → Follows o.target o.target (clock_of []) [] run.table run → AreCounted [] run.utp → run.skipped ≡ 0 → r ≡ nothing_read
+    → IsTelling o o.left o.target run.table run r
 begins o run r terms form begin follows utp skipped same = record {
   packets = [];
   read = subst (HasRead o o.left []) (sym same) (read_nothing o);

@@ -1,16 +1,18 @@
 -- Where one connection ends and another between the same ends begins.
-use Rattle.std.proofs.Common.{◌≡◌, ◌∙◌, Bool, true, false, if◌then◌else◌, List, [], ◌∷◌, ◌++◌, append-nil, append_assoc, refl, sym, ap, subst, inl, inr}
-use Rattle.std.specs.List.{All}
+use Rattle.std.proofs.Common.{◌≡◌, ◌∙◌, ◌≤◌, Bool, true, false, if◌then◌else◌, List, [], ◌∷◌, ◌++◌, append-nil, append_assoc, refl, sym, ap, subst, inl, inr}
+use Rattle.std.specs.List.{All, Contains}
 use Rattle.std.proofs.lemmas.Bool.{cases_Bool}
 use Rattle.std.proofs.lemmas.Grind.{flat_map-append}
 use Rattle.std.proofs.lemmas.List.{append_cancel_left}
-use Rattle.std.proofs.lemmas.List.Elements.{All-cons, All-head, All-nil, All-push, All-tail}
+use Rattle.std.proofs.lemmas.List.Elements.{All-append, All-cons, All-contains, All-filter, All-head, All-nil, All-push, All-tail, All-weaker}
+use Rattle.std.proofs.lemmas.List.Elements.{Contains-append_left}
 use Rattle.bt_talk.specs.Pasts.{Past}
 use Rattle.bt_talk.specs.Talks.{IsTalk}
-use Rattle.bt_capture.specs.Arrivals.{Arrival, is_between, pair_of}
+use Rattle.bt_talk.specs.declared.closing.When.{When}
+use Rattle.bt_capture.specs.Arrivals.{AreEarlier, Arrival, Clock, IsEarlier, is_between, pair_of}
 use Rattle.bt_capture.specs.Connections.{Begins}
 use Rattle.bt_capture.specs.Following.{AreParted, AreParts, AtEnd, Before, Cause, Coming, Crowded, During, Ended, Final, Finished, IsParted, IsShared}
-use Rattle.bt_capture.specs.Following.{MayBe, MayEnd, Phase, Unknown, between, coming, is_final, taken_between, taken_by}
+use Rattle.bt_capture.specs.Following.{IsTimely, IsTimelyBy, MayBe, MayEnd, Phase, Unknown, between, coming, is_final, taken_between, taken_by}
 use Rattle.bt_capture.specs.Tables.{same_pair}
 use Rattle.bt_capture.specs.declared.connection.Connection.{Connection}
 use Rattle.bt_capture.specs.declared.pair.Pair.{Pair}
@@ -30,30 +32,76 @@ parted_over : (gs : List Finished) (f : Finished) (rest : List Arrival) → IsPa
 parted_over [] f rest p i = (p, tt)
 parted_over (g ∷ gs) f rest p i = (subst (IsParted g.cause) (taken_last gs f rest) i.0, parted_over gs f rest p i.1)
 
-one_more : (c : Cause) (l more : List Arrival) → is_final c ≡ false → IsParted c l → IsParted c (l ++ more)
-one_more Final l more e i = cc
-one_more Ended l more e i = tt
-one_more Crowded l more e i = tt
-one_more Unknown l more e i = tt
-one_more (Before x) [] more e i = absurd i
-one_more (Before x) (y ∷ ys) more e i = i
+-- The segment comes after these packets.
+abbrev IsNew : Clock → Arrival → Type 0
+IsNew clock x = AreEarlier clock x.when.packet
+
+one_more : (clock : Clock) (taken : List Arrival) (c : Cause) (l more : List Arrival) → is_final c ≡ false → IsTimelyBy clock taken c
+    → All (IsNew clock) more → IsParted c l → IsParted c (l ++ more)
+one_more clock taken Final l more e t new i = cc
+one_more clock taken (Ended at) l more e t new i =
+    let P : Arrival → Type 0 = λ x. IsEarlier at x.when.packet in
+    All-append P l more i (All-weaker (IsNew clock) P (λ x later. All-contains (λ w. IsEarlier w x.when.packet) clock.packets at later t.0) more new)
+one_more clock taken Crowded l more e t new i = tt
+one_more clock taken Unknown l more e t new i = tt
+one_more clock taken (Before x) [] more e t new i = absurd i
+one_more clock taken (Before x) (y ∷ ys) more e t new i = i
 
 -- More segments come.
-parted_more : (gs : List Finished) (rest more : List Arrival) → All (λ f. is_final f.cause ≡ false) gs → AreParted gs rest → AreParted gs (rest ++ more)
-parted_more [] rest more none i = tt
-parted_more (g ∷ gs) rest more none i =
+parted_more : (clock : Clock) (gs : List Finished) (rest more : List Arrival) → All (λ f. is_final f.cause ≡ false) gs → All (IsTimely clock) gs
+    → All (IsNew clock) more → AreParted gs rest → AreParted gs (rest ++ more)
+parted_more clock [] rest more none timely new i = tt
+parted_more clock (g ∷ gs) rest more none timely new i =
     let P : Finished → Type 0 = λ f. is_final f.cause ≡ false in (
-      subst (IsParted g.cause) (append_assoc (taken_by gs) rest more) (one_more g.cause (taken_by gs ++ rest) more (All-head P g gs none) i.0),
-      parted_more gs rest more (All-tail P g gs none) i.1,
+      subst (IsParted g.cause) (append_assoc (taken_by gs) rest more)
+          (one_more clock g.taken g.cause (taken_by gs ++ rest) more (All-head P g gs none) (All-head (IsTimely clock) g gs timely) new i.0),
+      parted_more clock gs rest more (All-tail P g gs none) (All-tail (IsTimely clock) g gs timely) new i.1,
     )
 
+coming_new : (clock : Clock) (x : Arrival) (b : Bool) → IsNew clock x → All (IsNew clock) (if b then x ∷ [] else [])
+coming_new clock x true new = All-cons (IsNew clock) x [] new (All-nil (IsNew clock))
+coming_new clock x false new = All-nil (IsNew clock)
+
+-- ---- when they were told
+
+all_back : (P : Arrival → Type 0) (xs ys : List Arrival) → All P (xs ++ ys) → All P ys
+all_back P [] ys a = a
+all_back P (x ∷ xs) ys a = all_back P xs ys (All-tail P x (xs ++ ys) a)
+
+-- None of the connection's own segments came after a packet after which none came.
+pub timely_own : (clock : Clock) (k : Pair) (came : List Arrival) (fs : List Finished) (taken : List Arrival) (c : Cause) → IsShared k came fs taken
+    → IsTimelyBy clock came c → IsTimelyBy clock taken c
+timely_own clock k came fs taken Final share t = tt
+timely_own clock k came fs taken (Ended at) share t =
+    let P : Arrival → Type 0 = λ x. x.when.packet ≤ at.packet in
+    (t.0, all_back P (taken_between k fs) taken (subst (All P) share (All-filter (is_between k) P came t.1)))
+timely_own clock k came fs taken Crowded share t = tt
+timely_own clock k came fs taken Unknown share t = tt
+timely_own clock k came fs taken (Before x) share t = tt
+
+-- One more packet comes.
+timely_on : (clock later : Clock) (more : List When) (taken : List Arrival) (c : Cause) → later.packets ≡ clock.packets ++ more → IsTimelyBy clock taken c
+    → IsTimelyBy later taken c
+timely_on clock later more taken Final e t = tt
+timely_on clock later more taken (Ended at) e t =
+    (subst (λ l. Contains l at) (sym e) (Contains-append_left clock.packets more at t.0), t.1)
+timely_on clock later more taken Crowded e t = tt
+timely_on clock later more taken Unknown e t = tt
+timely_on clock later more taken (Before x) e t = tt
+
+pub timely_more : (clock later : Clock) (more : List When) (fs : List Finished) → later.packets ≡ clock.packets ++ more → All (IsTimely clock) fs
+    → All (IsTimely later) fs
+timely_more clock later more fs e all = All-weaker (IsTimely clock) (IsTimely later) (λ f t. timely_on clock later more f.taken f.cause e t) fs all
+
 -- This segment begins another connection.
-pub may_before : (p : Pair) (x : Arrival) (c : Connection) → ((a b : Past) → IsTalk a b c.talk → Begins true x a b c.talk)
-    → MayEnd (Coming p x) (Before x) p c
-may_before p x c why = record {
+pub may_before : (clock : Clock) (came : List Arrival) (p : Pair) (x : Arrival) (c : Connection)
+    → ((a b : Past) → IsTalk a b c.talk → Begins true x a b c.talk) → x.when.packet ≡ clock.number → MayEnd (Coming p x) clock came (Before x) p c
+may_before clock came p x c why packet = record {
   may_be = refl;
   parted = subst (λ (b : Bool). IsParted (Before x) (if b then x ∷ [] else [])) (sym (same_self p)) refl;
   why = why;
+  timely = tt;
+  told_at = sym packet;
 }
 
 -- ---- all of them
@@ -92,14 +140,17 @@ parts_over ph came fs p f ends share parted may i k =
     ]
 
 -- The next segment is known.
-pub parts_coming : (came : List Arrival) (fs : List Finished) (p : Pair) (x : Arrival) → AreParts During came fs → AreParts (Coming p x) came fs
-parts_coming came fs p x i k =
+pub parts_coming : (clock : Clock) (came : List Arrival) (fs : List Finished) (p : Pair) (x : Arrival) → AreEarlier clock x.when.packet
+    → All (IsTimely clock) fs → AreParts During came fs → AreParts (Coming p x) came fs
+parts_coming clock came fs p x new timely i k =
     let s = i k in
     record {
       rest = s.rest;
       share = s.share;
       going = s.going;
-      parted = parted_more (between k fs) s.rest (coming (Coming p x) k) s.going (subst (AreParted (between k fs)) (append-nil s.rest) s.parted);
+      parted = parted_more clock (between k fs) s.rest (coming (Coming p x) k) s.going
+          (All-filter (λ (f : Finished). same_pair k f.pair) (IsTimely clock) fs timely) (coming_new clock x (same_pair k p) new)
+          (subst (AreParted (between k fs)) (append-nil s.rest) s.parted);
     }
 
 -- It is taken.

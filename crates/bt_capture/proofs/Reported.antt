@@ -13,16 +13,18 @@ use Rattle.bt_talk.specs.Pasts.{Past}
 use Rattle.bt_talk.specs.Sent.{IsSent}
 use Rattle.bt_talk.specs.declared.rows.Heading.{Heading}
 use Rattle.bt_talk.specs.Rows.{Shown, is_item, shown_texts}
-use Rattle.bt_talk.specs.Talks.{AreShown, AreShownIn, IsTalk, is_in_opening, is_lost, of_side}
+use Rattle.bt_talk.specs.Shown.{AreTurnRows, Turn}
+use Rattle.bt_talk.specs.Talks.{HasHeard, IsTalk, is_in_opening, is_lost, of_side}
 use Rattle.bt_talk.specs.declared.talk.Talk.{Talk}
 use Rattle.bt_told.specs.declared.report.Left.{Left}
 use Rattle.bt_told.specs.declared.report.Report.{Report}
-use Rattle.bt_capture.specs.Arrivals.{Arrival, is_between, pair_of}
+use Rattle.bt_capture.specs.Arrivals.{AreEarlier, Arrival, Clock, is_between, pair_of}
 use Rattle.bt_capture.specs.Connections.{IsFirst, IsMade, IsOpen}
 use Rattle.bt_capture.specs.Following.{AreRowsOf, AtEnd, Cause, Coming, During, FollowsIn, GoesIn, IsOverBy, IsParted, MayBe, MayEnd, Phase, Rows}
-use Rattle.bt_capture.specs.Following.{Unknown, coming, left_by}
+use Rattle.bt_capture.specs.Following.{AreOfPacket, AreToldWith, IsTimely, IsTimelyBy}
+use Rattle.bt_capture.specs.Following.{Ended, Final, Before, Crowded, Unknown, coming, is_crowded, left_by, losses_of, with_left}
 use Rattle.bt_capture.specs.Following.{Finished, Fate, Reported, Silent, Lost, IsFinished, IsKnown, IsReported, IsSentBy, IsShared, IsEnded}
-use Rattle.bt_capture.specs.Following.{IsStreamSoFar, Follows, Stops, Holds, Shares, Streams, count_lost, count_open, is_lost_by}
+use Rattle.bt_capture.specs.Following.{IsStreamSoFar, Follows, Stops, Holds, Shares, Streams, count_lost, count_open, count_unread, is_lost_by}
 use Rattle.bt_capture.specs.Following.{report_in, reports_of, taken_between, told_by}
 use Rattle.bt_capture.specs.Forms.{is_stream, showing_by, wanted_by}
 use Rattle.bt_capture.specs.Sending.{HasSent, IsSending}
@@ -30,6 +32,7 @@ use Rattle.bt_capture.specs.Rowed.{HasShown, IsShowing, ShowsOn, heading_of}
 use Rattle.bt_capture.specs.Tables.{Held, same_pair}
 use Rattle.bt_capture.specs.Tellings.{ArePartsOf, Part, SaysAfter, Tells, TellsOn, item_rows, report_by}
 use Rattle.bt_capture.specs.declared.connection.Connection.{Connection}
+use Rattle.bt_capture.specs.declared.connections.Losses.{Losses}
 use Rattle.bt_capture.specs.declared.connections.Run.{Run}
 use Rattle.bt_capture.specs.declared.ending.Form.{Form}
 use Rattle.bt_capture.specs.declared.pair.Pair.{Pair}
@@ -37,7 +40,7 @@ use Rattle.bt_capture.specs.declared.telling.Teller.{Teller}
 use Rattle.bt_capture.proofs.Entries.{apart_put, apart_rest}
 use Rattle.bt_capture.proofs.Rowing.{AddsRows, adds_by, adds_nothing, items_of_report, items_of_segment, more_of, own_rows_of, parts_more, parts_of_report}
 use Rattle.bt_capture.proofs.Rowing.{parts_of_segment, parts_same, rows_begun, rows_held, rows_over, rows_same}
-use Rattle.bt_capture.proofs.Parting.{parts_coming, parts_end, parts_over, parts_took}
+use Rattle.bt_capture.proofs.Parting.{parts_coming, parts_end, parts_over, parts_took, timely_own}
 use Rattle.bt_capture.proofs.Rowing.{rows_to_same, rows_took, text_of_report, text_of_segment}
 use Rattle.bt_capture.proofs.Shares.{IsIts, own_of, others_of, others_on, over, took, own_none, ready, ready_sent, share_same}
 use Rattle.bt_capture.proofs.SoFar.{EndsStream, ended_so_far, open_so_far, so_far_more, so_far_same}
@@ -47,9 +50,10 @@ use Rattle.bt_capture.proofs.Streaming.{streaming_over, streaming_same, streamin
 use Rattle.bt_capture.proofs.Wants.{wanted_stream}
 use Rattle.std.specs.List.Sorted.{IsNonDecreasing}
 use Rattle.bt_capture.specs.Following.{AreParts, ComeLast, numbers}
-use Rattle.bt_capture.proofs.Order.{last_begins, last_over, order_begun, order_held, order_over, order_same, order_took}
+use Rattle.bt_capture.proofs.Order.{last_begins, last_over, order_begun, order_held, order_over, order_same, order_took, placed}
 use Rattle.bt_capture.proofs.Rowing.{after_rows}
 use Rattle.bt_capture.proofs.Silent.{nothing_came, nothing_sent, nothing_shown}
+use Rattle.bt_capture.proofs.Timing.{next_segment, of_packet, told_more, told_reported, told_unreported}
 
 pub reports_more : (fs : List Finished) (f : Finished) → reports_of (fs ++ f ∷ []) ≡ reports_of fs ++ report_in f.fate
 reports_more fs f = flat_map-append (λ g. report_in g.fate) fs (f ∷ []) ∙ ap (λ l. reports_of fs ++ l) (append-nil (report_in f.fate))
@@ -60,22 +64,51 @@ one_passes p x e = rw e refl
 none_passes : {X : Type 0} (p : X → Bool) (x : X) → p x ≡ false → filter p (x ∷ []) ≡ []
 none_passes p x e = rw e refl
 
-pub lost_more : (fs : List Finished) (f : Finished) → is_lost_by f.fate ≡ true → min (count_lost fs + 1) (2 ^ 64 - 1) ≡ count_lost (fs ++ f ∷ [])
-lost_more fs f e =
-    let test : Finished → Bool = λ g. is_lost_by g.fate in
+count_one : (test : Finished → Bool) (fs : List Finished) (f : Finished) → test f ≡ true
+    → min (min (length (filter test fs)) (2 ^ 64 - 1) + 1) (2 ^ 64 - 1) ≡ min (length (filter test (fs ++ f ∷ []))) (2 ^ 64 - 1)
+count_one test fs f e =
     let more : length (filter test (fs ++ f ∷ [])) ≡ length (filter test fs) + 1 =
     ap length (filter-append test fs (f ∷ [])) ∙ length-append (filter test fs) (filter test (f ∷ []))
     ∙ ap (λ l. length (filter test fs) + length l) (one_passes test f e) in
     omega (arith, more)
 
-pub lost_same : (fs : List Finished) (f : Finished) → is_lost_by f.fate ≡ false → count_lost fs ≡ count_lost (fs ++ f ∷ [])
-lost_same fs f e =
-    let test : Finished → Bool = λ g. is_lost_by g.fate in
+count_none : (test : Finished → Bool) (fs : List Finished) (f : Finished) → test f ≡ false
+    → min (length (filter test fs)) (2 ^ 64 - 1) ≡ min (length (filter test (fs ++ f ∷ []))) (2 ^ 64 - 1)
+count_none test fs f e =
     ap (λ l. min (length l) (2 ^ 64 - 1))
     (sym (append-nil (filter test fs)) ∙ ap (λ l. filter test fs ++ l) (sym (none_passes test f e)) ∙ sym (filter-append test fs (f ∷ [])))
 
+losses_by : (a b c d : ℕ) → a ≡ c → b ≡ d → ◌≡◌ {A = Losses} (record { memory = a; crowd = b }) (record { memory = c; crowd = d })
+losses_by a b c d e f = cc
+
+-- Memory ran out with the last one.
+lost_more : (fs : List Finished) (f : Finished) → is_lost_by f.fate ≡ true → is_crowded f.cause ≡ false
+    → ◌≡◌ {A = Losses} (record { memory = min (count_lost fs + 1) (2 ^ 64 - 1); crowd = count_unread fs }) (losses_of (fs ++ f ∷ []))
+lost_more fs f lost crowded =
+    losses_by (min (count_lost fs + 1) (2 ^ 64 - 1)) (count_unread fs) (count_lost (fs ++ f ∷ [])) (count_unread (fs ++ f ∷ []))
+    (count_one (λ g. is_lost_by g.fate) fs f lost) (count_none (λ g. is_crowded g.cause) fs f crowded)
+
+kept_uncrowded : (fs : List Finished) (f : Finished) → is_crowded f.cause ≡ false → is_lost_by f.fate ≡ false → losses_of fs ≡ losses_of (fs ++ f ∷ [])
+kept_uncrowded fs f crowded kept =
+    losses_by (count_lost fs) (count_unread fs) (count_lost (fs ++ f ∷ [])) (count_unread (fs ++ f ∷ []))
+    (count_none (λ g. is_lost_by g.fate) fs f kept) (count_none (λ g. is_crowded g.cause) fs f crowded)
+
+kept_for : (cause : Cause) (fs : List Finished) (f : Finished) → f.cause ≡ cause → is_lost_by f.fate ≡ false
+    → with_left (left_by cause) (losses_of fs) ≡ losses_of (fs ++ f ∷ [])
+kept_for Final fs f why kept = kept_uncrowded fs f (ap is_crowded why) kept
+kept_for (Ended at) fs f why kept = kept_uncrowded fs f (ap is_crowded why) kept
+kept_for Unknown fs f why kept = kept_uncrowded fs f (ap is_crowded why) kept
+kept_for (Before x) fs f why kept = kept_uncrowded fs f (ap is_crowded why) kept
+kept_for Crowded fs f why kept =
+    losses_by (count_lost fs) (min (count_unread fs + 1) (2 ^ 64 - 1)) (count_lost (fs ++ f ∷ [])) (count_unread (fs ++ f ∷ []))
+    (count_none (λ g. is_lost_by g.fate) fs f kept) (count_one (λ g. is_crowded g.cause) fs f (ap is_crowded why))
+
+-- The last one isn't lost.
+lost_same : (fs : List Finished) (f : Finished) → is_lost_by f.fate ≡ false → with_left (left_by f.cause) (losses_of fs) ≡ losses_of (fs ++ f ∷ [])
+lost_same fs f kept = kept_for f.cause fs f refl kept
+
 known_more : (start now : TargetSeen) (fs : List Finished) (f : Finished) (written : List ℕ) (old new : Run) → new.terms ≡ old.terms
-    → new.start ≡ old.start → Tells start now new.teller (reports_of fs ++ report_in f.fate) written → new.lost ≡ count_lost (fs ++ f ∷ [])
+    → new.start ≡ old.start → Tells start now new.teller (reports_of fs ++ report_in f.fate) written → new.lost ≡ losses_of (fs ++ f ∷ [])
     → IsFinished old.terms (unwrap_or old.start 0) f → IsKnown start now fs written old → IsKnown start now (fs ++ f ∷ []) written new
 known_more start now fs f written old new terms begin tells lost is i =
     let P : Terms → Type 0 = λ x. All (IsFinished x (unwrap_or new.start 0)) (fs ++ f ∷ []) in
@@ -126,19 +159,19 @@ shares_same written written' came fs old new k o terms form told i =
     share_same old.teller.form new.teller.form (told_by written old) (told_by written' new) old.terms new.terms came fs k o form told terms i
 
 -- The first of these is over.
-pub follows_over : {ph : Phase} (start now : TargetSeen) (came : List Arrival) (p : Pair) (c : Held) (es : List (Pair × Held)) (old new : Run)
-    → lookup (same_pair p) es ≡ None → new.terms ≡ old.terms → new.start ≡ old.start → new.teller.form ≡ old.teller.form → new.begun ≡ old.begun
-    → (i : FollowsIn ph start now came ((p, c) ∷ es) old) → (f : Finished) → f.number ≡ c.value.number → f.pair ≡ p → IsShared p came i.fs f.taken
-    → IsParted f.cause (coming ph p) → MayBe ph f.cause
+pub follows_over : {ph : Phase} {clock : Clock} (start now : TargetSeen) (came : List Arrival) (p : Pair) (c : Held) (es : List (Pair × Held))
+    (old new : Run) → lookup (same_pair p) es ≡ None → new.terms ≡ old.terms → new.start ≡ old.start → new.teller.form ≡ old.teller.form → new.begun ≡ old.begun
+    → (i : FollowsIn ph start now clock came ((p, c) ∷ es) old) → (f : Finished) → f.number ≡ c.value.number → f.pair ≡ p → IsShared p came i.fs f.taken
+    → IsParted f.cause (coming ph p) → MayBe ph f.cause → IsTimely clock f
     → AddsFor old.teller.form c.value.number (told_by i.written old) (told_by i.written new)
-    → Tells start now new.teller (reports_of i.fs ++ report_in f.fate) i.written → new.lost ≡ count_lost (i.fs ++ f ∷ [])
+    → Tells start now new.teller (reports_of i.fs ++ report_in f.fate) i.written → new.lost ≡ losses_of (i.fs ++ f ∷ [])
     → IsFinished old.terms (unwrap_or old.start 0) f → IsSentBy old.teller.form (told_by i.written new) old.terms (unwrap_or old.start 0) f
     → (parts : List Part) (rows : List Shown) → AddsRows c.value.number rows i.parts parts
     → ArePartsOf old.teller.form (reports_of (i.fs ++ f ∷ [])) (told_by i.written new) parts
     → AreRowsOf old.teller.form parts old.terms (unwrap_or old.start 0) f
-    → FollowsIn ph start now came es new
-follows_over {ph} start now came p c es old new absent terms begin form count i f number ends share parted may adds tells lost is sent parts rows gets
-    parts_are shows =
+    → (packet : ℕ → ℕ) → AreToldWith packet clock.number parts (i.fs ++ f ∷ []) → FollowsIn ph start now clock came es new
+follows_over {ph} {clock} start now came p c es old new absent terms begin form count i f number ends share parted may timely adds tells lost is sent parts
+    rows gets parts_are shows packet times =
     let n = c.value.number in
     let shown = old.teller.form in
     let told = told_by i.written old in
@@ -165,6 +198,9 @@ follows_over {ph} start now came p c es old new absent terms begin form count i 
       parting = parts_over ph came i.fs p f ends share parted may i.parting;
       order = order_same came (i.fs ++ f ∷ []) es old.begun new.begun count (order_over came i.fs f p c es old.begun number ends absent share i.order);
       last = last_over ph i.fs f p c es may number i.last;
+      timely = All-push (IsTimely clock) i.fs f i.timely timely;
+      packet = packet;
+      times = times;
     }
 
 pub known_same : (start now : TargetSeen) (fs : List Finished) (written written' : List ℕ) (old new : Run) → new.terms ≡ old.terms
@@ -181,9 +217,10 @@ known_kept start now fs written old new terms begin lost teller i =
     known_same start now fs written written old new terms begin lost
     (subst (λ t. Tells start now t (reports_of fs) written) (sym teller) i.tells) i
 
-pub follows_same : {ph : Phase} (start now : TargetSeen) (came : List Arrival) (es : List (Pair × Held)) (old new : Run) → new.terms ≡ old.terms
-    → new.start ≡ old.start → new.lost ≡ old.lost → new.teller ≡ old.teller → new.begun ≡ old.begun → FollowsIn ph start now came es old
-    → FollowsIn ph start now came es new
+pub follows_same : {ph : Phase} {clock : Clock} (start now : TargetSeen) (came : List Arrival) (es : List (Pair × Held)) (old new : Run)
+    → new.terms ≡ old.terms → new.start ≡ old.start → new.lost ≡ old.lost → new.teller ≡ old.teller → new.begun ≡ old.begun
+    → FollowsIn ph start now clock came es old
+    → FollowsIn ph start now clock came es new
 follows_same start now came es old new terms begin lost teller count i =
     let form = ap (λ (t : Teller). t.form) teller in
     let told = told_same i.written old new teller in
@@ -200,10 +237,14 @@ follows_same start now came es old new terms begin lost teller count i =
       parting = i.parting;
       order = order_same came i.fs es old.begun new.begun count i.order;
       last = i.last;
+      timely = i.timely;
+      packet = i.packet;
+      times = i.times;
     }
 
-pub stops_same : (start now : TargetSeen) (came : List Arrival) (old new : Run) → new.terms ≡ old.terms → new.start ≡ old.start → new.lost ≡ old.lost
-    → new.teller ≡ old.teller → Stops start now came old → Stops start now came new
+pub stops_same : {clock : Clock} (start now : TargetSeen) (came : List Arrival) (old new : Run)
+    → new.terms ≡ old.terms → new.start ≡ old.start → new.lost ≡ old.lost → new.teller ≡ old.teller → Stops start now clock came old
+    → Stops start now clock came new
 stops_same start now came old new terms begin lost teller i = record {
   fs = i.fs;
   written = i.written;
@@ -212,30 +253,33 @@ stops_same start now came old new terms begin lost teller i = record {
       (unwrap_or new.start 0) came i.fs (ap (λ (t : Teller). t.form) teller) (told_same i.written old new teller) terms (ap (λ o. unwrap_or o 0) begin)
       i.so_far;
   shared = i.shared;
+  timely = i.timely;
 }
 
-pub follows_so_far : {ph : Phase} (start now : TargetSeen) (came : List Arrival) (es : List (Pair × Held)) (run : Run)
-    → (i : FollowsIn ph start now came es run)
+pub follows_so_far : {ph : Phase} {clock : Clock} (start now : TargetSeen) (came : List Arrival) (es : List (Pair × Held)) (run : Run)
+    → (i : FollowsIn ph start now clock came es run)
     → IsStreamSoFar run.teller.form (told_by i.written run) run.terms (unwrap_or run.start 0) came i.fs
 follows_so_far start now came es run i =
     open_so_far run.teller.form (told_by i.written run) run.terms (unwrap_or run.start 0) run.begun came i.fs es i.apart i.streams i.shared
 
-pub stops_of : {ph : Phase} (start now : TargetSeen) (came : List Arrival) (es : List (Pair × Held)) (run : Run) → FollowsIn ph start now came es run
-    → Stops start now came run
+pub stops_of : {ph : Phase} {clock : Clock} (start now : TargetSeen) (came : List Arrival) (es : List (Pair × Held)) (run : Run)
+    → FollowsIn ph start now clock came es run → Stops start now clock came run
 stops_of start now came es run i = record {
   fs = i.fs;
   written = i.written;
   known = i.known;
   so_far = follows_so_far start now came es run i;
   shared = λ k. ((i.shared k).taken, (i.shared k).share);
+  timely = i.timely;
 }
 
 -- The text that was kept is written.
-pub follows_flushed : {ph : Phase} (start now after : TargetSeen) (came : List Arrival) (es : List (Pair × Held)) (old new : Run) → new.terms ≡ old.terms
-    → new.start ≡ old.start → new.lost ≡ old.lost → new.begun ≡ old.begun → new.teller.form ≡ old.teller.form → new.teller.text.items ≡ []
+pub follows_flushed : {ph : Phase} {clock : Clock} (start now after : TargetSeen) (came : List Arrival) (es : List (Pair × Held)) (old new : Run)
+    → new.terms ≡ old.terms → new.start ≡ old.start → new.lost ≡ old.lost → new.begun ≡ old.begun → new.teller.form ≡ old.teller.form
+    → new.teller.text.items ≡ []
     → ((reports : List Report) (written : List ℕ) → Tells start now old.teller reports written
     → Tells start after new.teller reports (written ++ old.teller.text.items))
-    → FollowsIn ph start now came es old → FollowsIn ph start after came es new
+    → FollowsIn ph start now clock came es old → FollowsIn ph start after clock came es new
 follows_flushed start now after came es old new terms begin lost count form empty tells i =
     let written = told_by i.written old in
     let told : told_by written new ≡ written = ap (λ (l : List ℕ). written ++ l) empty ∙ append-nil written in
@@ -258,23 +302,26 @@ follows_flushed start now after came es old new terms begin lost count form empt
       parting = i.parting;
       order = order_same came i.fs es old.begun new.begun count i.order;
       last = i.last;
+      timely = i.timely;
+      packet = i.packet;
+      times = i.times;
     }
 
 -- The first connection's share of the segments.
-abbrev own : {ph : Phase} (start now : TargetSeen) (came : List Arrival) (p : Pair) (c : Held) (es : List (Pair × Held)) (run : Run)
-    → (i : FollowsIn ph start now came ((p, c) ∷ es) run) → Shares i.written came i.fs run p (Some c)
+abbrev own : {ph : Phase} {clock : Clock} (start now : TargetSeen) (came : List Arrival) (p : Pair) (c : Held) (es : List (Pair × Held)) (run : Run)
+    → (i : FollowsIn ph start now clock came ((p, c) ∷ es) run) → Shares i.written came i.fs run p (Some c)
 own start now came p c es run i = own_of run.teller.form run.terms came i.fs (told_by i.written run) p c es i.shared
 
 -- It is over without a report.
-unreported : {ph : Phase} (start now : TargetSeen) (came : List Arrival) (p : Pair) (c : Held) (es : List (Pair × Held)) (old new : Run) (end : Fate)
-    (cause : Cause) → IsParted cause (coming ph p) → MayBe ph cause → lookup (same_pair p) es ≡ None → new.terms ≡ old.terms
-    → new.start ≡ old.start → new.teller ≡ old.teller → new.begun ≡ old.begun
-    → report_in end ≡ [] → (i : FollowsIn ph start now came ((p, c) ∷ es) old)
+unreported : {ph : Phase} {clock : Clock} (start now : TargetSeen) (came : List Arrival) (p : Pair) (c : Held) (es : List (Pair × Held)) (old new : Run)
+    (end : Fate) (cause : Cause) → IsParted cause (coming ph p) → MayBe ph cause → IsTimelyBy clock came cause → lookup (same_pair p) es ≡ None
+    → new.terms ≡ old.terms → new.start ≡ old.start → new.teller ≡ old.teller → new.begun ≡ old.begun
+    → report_in end ≡ [] → (i : FollowsIn ph start now clock came ((p, c) ∷ es) old)
     → (f : Finished) → f ≡ record { number = c.value.number; pair = p; taken = (own start now came p c es old i).taken; fate = end; cause = cause }
-    → new.lost ≡ count_lost (i.fs ++ f ∷ []) → IsFinished old.terms (unwrap_or old.start 0) f
+    → new.lost ≡ losses_of (i.fs ++ f ∷ []) → IsFinished old.terms (unwrap_or old.start 0) f
     → IsSentBy old.teller.form (told_by i.written old) old.terms (unwrap_or old.start 0) f
-    → AreRowsOf old.teller.form i.parts old.terms (unwrap_or old.start 0) f → FollowsIn ph start now came es new
-unreported {ph} start now came p c es old new end cause parted may absent terms begin teller count none i f is lost finished sent shows =
+    → AreRowsOf old.teller.form i.parts old.terms (unwrap_or old.start 0) f → FollowsIn ph start now clock came es new
+unreported {ph} {clock} start now came p c es old new end cause parted may timely absent terms begin teller count none i f is lost finished sent shows =
     let told = told_same i.written old new teller in
     let P : List ℕ → Type 0 = λ l. IsSentBy old.teller.form l old.terms (unwrap_or old.start 0) f in
     let reports : reports_of i.fs ≡ reports_of i.fs ++ report_in f.fate =
@@ -285,19 +332,21 @@ unreported {ph} start now came p c es old new end cause parted may absent terms 
     (ap (λ (g : Finished). g.pair) is)
     (subst (λ (l : List Arrival). IsShared p came i.fs l) (sym (ap (λ (g : Finished). g.taken) is)) (own start now came p c es old i).share)
     (subst (λ (x : Cause). IsParted x (coming ph p)) (sym why) parted) (subst (λ (x : Cause). MayBe ph x) (sym why) may)
+    (let s = own start now came p c es old i in subst (IsTimely clock) (sym is) (timely_own clock p came i.fs s.taken cause s.share timely))
     (λ stream w. told) (subst (λ l. Tells start now new.teller l i.written) reports tells) lost finished (subst P (sym told) sent)
     i.parts [] (adds_nothing c.value.number i.parts)
     (parts_same old.teller.form old.teller.form (reports_of i.fs) (reports_of (i.fs ++ f ∷ [])) (told_by i.written old) (told_by i.written new) i.parts refl
-    (reports_more i.fs f ∙ sym reports) told i.rows.rowed.parts_are) shows
+    (reports_more i.fs f ∙ sym reports) told i.rows.rowed.parts_are) shows i.packet
+    (told_unreported i.packet clock.number i.parts i.fs f (ap (λ (g : Finished). report_in g.fate) is ∙ none) i.times)
 
 may_unknown : (ph : Phase) → MayBe ph Unknown
 may_unknown During = refl
 may_unknown (Coming p x) = refl
 may_unknown AtEnd = tt
 
-over_by : (terms : Terms) (taken : List Arrival) (ph : Phase) (p : Pair) (c : Connection) (cause : Cause) → MayEnd ph cause p c → IsMade terms taken [] c.talk
-    → IsOverBy terms taken cause
-over_by terms taken ph p c cause may m = record {
+over_by : (terms : Terms) (taken : List Arrival) (ph : Phase) (clock : Clock) (came : List Arrival) (p : Pair) (c : Connection) (cause : Cause)
+    → MayEnd ph clock came cause p c → IsMade terms taken [] c.talk → IsOverBy terms taken cause
+over_by terms taken ph clock came p c cause may m = record {
   first = m.first;
   is_first = subst (IsFirst m.first) (append-nil taken) m.is_first;
   a = m.a;
@@ -308,10 +357,11 @@ over_by terms taken ph p c cause may m = record {
 }
 
 -- No byte of it was captured.
-pub silent : {ph : Phase} (start now : TargetSeen) (came : List Arrival) (p : Pair) (c : Held) (es : List (Pair × Held)) (run : Run) (cause : Cause)
-    → MayEnd ph cause p c.value → lookup (same_pair p) es ≡ None → c.value.has_payload ≡ false → is_lost c.value.talk ≡ false
-    → FollowsIn ph start now came ((p, c) ∷ es) run → FollowsIn ph start now came es run
-silent {ph} start now came p c es run cause may absent none there i =
+pub silent : {ph : Phase} {clock : Clock} (start now : TargetSeen) (came : List Arrival) (p : Pair) (c : Held) (es : List (Pair × Held)) (run new : Run)
+    (cause : Cause) → MayEnd ph clock came cause p c.value → lookup (same_pair p) es ≡ None → c.value.has_payload ≡ false → is_lost c.value.talk ≡ false
+    → new.terms ≡ run.terms → new.start ≡ run.start → new.teller ≡ run.teller → new.begun ≡ run.begun → new.lost ≡ with_left (left_by cause) run.lost
+    → FollowsIn ph start now clock came ((p, c) ∷ es) run → FollowsIn ph start now clock came es new
+silent {ph} {clock} start now came p c es run new cause may absent none there terms begin teller count lost i =
     let s = own start now came p c es run i in
     let form = run.teller.form in
     let n = c.value.number in
@@ -322,25 +372,27 @@ silent {ph} start now came p c es run cause may absent none there i =
     let rows = own_rows_of form run.terms from i.parts told run.begun came i.fs p c es s.taken s.share i.rows in
     let g = rows.1 there in
     let out = nothing_came run.terms s.taken talk no_data g.0 in
-    let no_rows = nothing_shown (is_in_opening talk) (heading_of form n from) g.0.a g.0.b talk rows.0 g.0.made.is out.0 out.1 g.1 in
+    let no_rows = nothing_shown (heading_of form n from) g.0.a g.0.b talk g.0.made.turns rows.0 g.0.made.is g.0.made.heard out.0 out.1 g.1 in
     let f : Finished = record { number = n; pair = p; taken = s.taken; fate = Silent; cause = cause } in
-    unreported start now came p c es run run Silent cause may.parted may.may_be absent refl refl refl refl refl i f refl
-    (i.known.lost ∙ lost_same i.fs f refl) (no_data, over_by run.terms s.taken ph p c.value cause may (s.is.0.made there))
+    unreported start now came p c es run new Silent cause may.parted may.may_be may.timely absent terms begin teller count refl i f refl
+    (lost ∙ ap (with_left (left_by cause)) i.known.lost ∙ lost_same i.fs f refl)
+    (no_data, over_by run.terms s.taken ph clock came p c.value cause may (s.is.0.made there))
     (λ side small w.
     let h = s.is.1 side small w there in
     let none_out = nothing_came run.terms s.taken talk no_data h.0 in
     nothing_sent (is_in_opening talk) side h.0.a h.0.b told none_out.0 none_out.1 h.1) (λ small. rows.2 small ∙ no_rows)
 
 -- Memory ran out with it.
-pub lost_one : {ph : Phase} (start now : TargetSeen) (came : List Arrival) (p : Pair) (c : Held) (es : List (Pair × Held)) (old new : Run)
+pub lost_one : {ph : Phase} {clock : Clock} (start now : TargetSeen) (came : List Arrival) (p : Pair) (c : Held) (es : List (Pair × Held)) (old new : Run)
     → lookup (same_pair p) es ≡ None → new.terms ≡ old.terms → new.start ≡ old.start → new.teller ≡ old.teller
-    → new.lost ≡ min (old.lost + 1) (2 ^ 64 - 1) → new.begun ≡ old.begun → FollowsIn ph start now came ((p, c) ∷ es) old
-    → FollowsIn ph start now came es new
+    → new.lost ≡ record { memory = min (old.lost.memory + 1) (2 ^ 64 - 1); crowd = old.lost.crowd } → new.begun ≡ old.begun
+    → FollowsIn ph start now clock came ((p, c) ∷ es) old → FollowsIn ph start now clock came es new
 lost_one {ph} start now came p c es old new absent terms begin teller lost count i =
     let s = own start now came p c es old i in
     let f : Finished = record { number = c.value.number; pair = p; taken = s.taken; fate = Lost; cause = Unknown } in
-    unreported start now came p c es old new Lost Unknown tt (may_unknown ph) absent terms begin teller count refl i f refl
-    (lost ∙ ap (λ n. min (n + 1) (2 ^ 64 - 1)) i.known.lost ∙ lost_more i.fs f refl) (tt, refl) (λ side small w. tt) (λ small. tt)
+    let more : Losses → Losses = λ l. record { memory = min (l.memory + 1) (2 ^ 64 - 1); crowd = l.crowd } in
+    unreported start now came p c es old new Lost Unknown tt (may_unknown ph) tt absent terms begin teller count refl i f refl
+    (lost ∙ ap more i.known.lost ∙ lost_more i.fs f refl refl) (tt, refl) (λ side small w. tt) (λ small. tt)
 
 -- What is told after these bytes were appended, if a stream is told.
 appended : (written more : List ℕ) (old new : Run) → new.teller.text.items ≡ old.teller.text.items ++ more → told_by written new ≡ told_by written old ++ more
@@ -350,36 +402,45 @@ adds_more : (form : Form) (n : ℕ) (told told' more : List ℕ) → (is_stream 
     → AddsFor form n told told'
 adds_more form n told told' more is none stream w = is stream ∙ ap (λ (l : List ℕ). told ++ l) (none w) ∙ append-nil told
 
+-- Its opening is ended.
+abbrev pub Ends : Talk → Talk → Type 0
+Ends last talk = (a b : Past) (turns : List Turn) → IsTalk a b last → HasHeard turns a b last → (now : List Turn) × IsEnded a b last talk turns now
+
 -- Its opening is ended, and its report told: bytes of a stream come first, and rows, which show the last items.
 abbrev pub Reports : Teller → Teller → Heading → Left → Talk → Talk → List ℕ → Type 0
-Reports t t' h left last talk bytes = (a b : Past) (before : List Shown) → IsTalk a b last → AreShownIn (is_in_opening last) h a b last before
-    → (rows : List Shown) × AreShown h a b talk (before ++ filter is_item rows) × SaysAfter t t' h.connection h.start left talk bytes rows
+Reports t t' h left last talk bytes = (packet : ℕ) (a b : Past) (turns : List Turn) (before : List Shown) → IsTalk a b last → HasHeard turns a b last
+    → AreTurnRows h turns before → (now : List Turn) × IsEnded a b last talk turns now
+    × ((rows : List Shown) × AreTurnRows h now (before ++ filter is_item rows)
+    × ((All (λ s. s.packet ≡ packet) (filter is_item rows)) ⊎ (before ≡ [])) × SaysAfter t t' h.connection h.start left talk bytes rows)
 
-pub reported : {A E : Type 0} {ph : Phase} (r : Result A E) (start now : TargetSeen) (came : List Arrival) (p : Pair) (c : Held) (es : List (Pair × Held))
-    (old new : Run) (cause : Cause) (left : Left) → MayEnd ph cause p c.value → left ≡ left_by cause → lookup (same_pair p) es ≡ None
-    → c.value.has_payload ≡ true → new.terms ≡ old.terms → new.start ≡ old.start
-    → new.lost ≡ old.lost → new.teller.form ≡ old.teller.form → new.begun ≡ old.begun → is_lost c.value.talk ≡ false → (talk : Talk)
-    → ((a b : Past) → IsTalk a b c.value.talk → IsEnded a b c.value.talk talk) → (Q : Type 0) → ((a b : Past) → IsTalk a b c.value.talk → Q)
+pub reported : {A E : Type 0} {ph : Phase} {clock : Clock} (r : Result A E) (start now : TargetSeen) (came : List Arrival) (p : Pair) (c : Held)
+    (es : List (Pair × Held)) (old new : Run) (cause : Cause) (left : Left) → MayEnd ph clock came cause p c.value → left ≡ left_by cause
+    → lookup (same_pair p) es ≡ None → c.value.has_payload ≡ true → new.terms ≡ old.terms → new.start ≡ old.start
+    → OnOk r (new.lost ≡ with_left left old.lost) → OnErr r (new.lost ≡ old.lost)
+    → new.teller.form ≡ old.teller.form → new.begun ≡ old.begun → is_lost c.value.talk ≡ false → (talk : Talk)
+    → Ends c.value.talk talk → (Q : Type 0) → ((a b : Past) → IsTalk a b c.value.talk → Q)
     → OnErr r (Q → TellsOn old.teller new.teller) → (more : List ℕ)
     → OnOk r (is_stream old.teller.form ≡ true → Q → new.teller.text.items ≡ old.teller.text.items ++ more)
     → OnErr r (is_stream old.teller.form ≡ true → Q
     → (new.teller.text.items ≡ old.teller.text.items) ⊎ (new.teller.text.items ≡ old.teller.text.items ++ more))
     → (wanted_by old.teller.form c.value.number ≡ None → more ≡ []) → EndsStream old.teller.form c.value.number c.value.talk more
     → OnOk r (Reports old.teller new.teller (heading_of old.teller.form c.value.number (unwrap_or old.start 0)) left c.value.talk talk more)
-    → FollowsIn ph start now came ((p, c) ∷ es) old → GoesIn ph start now came es new r
-reported {A} {E} {ph} (Ok x) start now came p c es old new cause left may left_is absent some terms begin lost form count there talk ended Q shown nothing
-    more text part none ends reports i =
+    → FollowsIn ph start now clock came ((p, c) ∷ es) old → GoesIn ph start now clock came es new r
+reported {A} {E} {ph} {clock} (Ok x) start now came p c es old new cause left may left_is absent some terms begin lost same form count there talk ended Q
+    shown nothing more text part none ends reports i =
     let s = own start now came p c es old i in
     let n = c.value.number in
     let m = s.is.0.made there in
     let q = shown m.a m.b m.made.is in
     let from = unwrap_or old.start 0 in
+    let number = clock.number in
     let head = heading_of old.teller.form n from in
     let told = told_by i.written old in
     let own = own_rows_of old.teller.form old.terms from i.parts told old.begun came i.fs p c es s.taken s.share i.rows in
     let g = own.1 there in
-    let w = reports g.0.a g.0.b own.0 g.0.made.is g.1 in
-    let said = w.2 in
+    let all_of = reports number g.0.a g.0.b g.0.made.turns own.0 g.0.made.is g.0.made.heard g.1 in
+    let w = all_of.2 in
+    let said = w.3 in
     let others = said.3 in
     let told' = told_by i.written new in
     let f : Finished = record { number = n; pair = p; taken = s.taken; fate = Reported said.0; cause = cause } in
@@ -387,16 +448,18 @@ reported {A} {E} {ph} (Ok x) start now came p c es old new cause left may left_i
     let all = w.0 ++ others in
     let last : List ℕ = (more ++ shown_texts (showing_by old.teller.form) all) ++ report_by old.teller.form said.0 in
     let parts = i.parts ++ parts_of_report more all said.0 in
+    let are_of = more_of head all_of.0 own.0 (filter is_item w.0) w.1 in
+    let items : filter is_item all ≡ filter is_item w.0 =
+    filter-append is_item w.0 others ∙ ap (λ (l : List Shown). filter is_item w.0 ++ l) said.4 ∙ append-nil (filter is_item w.0) in
     let gets : AddsRows n (filter is_item w.0) i.parts parts =
-    adds_by n (filter is_item w.0) i.parts (parts_of_report more all said.0) (items_of_report more w.0 others said.0 said.4)
-    (more_of false head g.0.a g.0.b talk own.0 (filter is_item w.0) w.1) in
+    adds_by n (filter is_item w.0) i.parts (parts_of_report more all said.0) (items_of_report more w.0 others said.0 said.4) are_of in
     let parts_are : ArePartsOf old.teller.form (reports_of (i.fs ++ f ∷ [])) told' parts =
     parts_same old.teller.form old.teller.form (reports_of i.fs ++ said.0 ∷ []) (reports_of (i.fs ++ f ∷ [])) (told ++ last) told' parts refl
     (reports_more i.fs f) (appended i.written last old new said.5)
     (parts_more old.teller.form (reports_of i.fs) (said.0 ∷ []) told last i.parts (parts_of_report more all said.0) refl
     (text_of_report old.teller.form n more all said.0 none) i.rows.rowed.parts_are) in
-    let report : (k : IsMade old.terms s.taken [] c.value.talk) → IsReported old.terms from n s.taken said.0 = λ k.
-    let e = ended k.a k.b k.made.is in
+    let report_by : (k : IsMade old.terms s.taken [] c.value.talk) (turns : List Turn) → IsEnded k.a k.b c.value.talk talk k.made.turns turns
+    → IsReported old.terms from n s.taken said.0 = λ k turns e.
     record {
       first = k.first;
       is_first = subst (IsFirst k.first) (append-nil s.taken) k.is_first;
@@ -405,26 +468,33 @@ reported {A} {E} {ph} (Ok x) start now came p c es old new cause left may left_i
       last = c.value.talk;
       made = k.made;
       talk = talk;
+      turns = turns;
       ended = e;
       left = left;
-      is = said.1 k.a k.b e.is;
+      is = said.1 k.a k.b turns e.is e.heard;
     } in
+    let report : (k : IsMade old.terms s.taken [] c.value.talk) → IsReported old.terms from n s.taken said.0 = λ k.
+    let e = ended k.a k.b k.made.turns k.made.is k.made.heard in
+    report_by k e.0 e.1 in
     follows_over start now came p c es old new absent terms begin form count i f refl refl s.share may.parted may.may_be
+    (timely_own clock p came i.fs s.taken cause s.share may.timely)
     (adds_more old.teller.form n told told' more is none) (said.2 start now (reports_of i.fs) i.written i.known.tells)
-    (lost ∙ i.known.lost ∙ lost_same i.fs f refl)
-    ((sym s.is.0.has_payload ∙ some, report m, left_is), over_by old.terms s.taken ph p c.value cause may m)
+    (lost ∙ ap (λ (l : Left). with_left l old.lost) left_is ∙ ap (with_left (left_by cause)) i.known.lost ∙ lost_same i.fs f refl)
+    ((sym s.is.0.has_payload ∙ some, report m, left_is), over_by old.terms s.taken ph clock came p c.value cause may m)
     (λ side small w.
     let h = s.is.1 side small w there in
     let k = h.0 in
     let R : List ℕ → Type 0 = λ l. IsSent false (of_side side k.a k.b) l in
     (report k, subst R (sym (is (wanted_stream old.teller.form n side w))) (ends k.a k.b side told k.made.is w h.1)))
     parts (filter is_item w.0) gets parts_are (λ small. (
-      report g.0,
-      subst (λ l. AreShown head g.0.a g.0.b talk l) (sym (gets.0 ∙ ap (λ (l : List Shown). l ++ filter is_item w.0) (own.2 small))) w.1,
+      report_by g.0 all_of.0 all_of.1,
+      subst (λ l. AreTurnRows head all_of.0 l) (sym (gets.0 ∙ ap (λ (l : List Shown). l ++ filter is_item w.0) (own.2 small))) w.1,
       after_rows n said.0 i.parts more all,
-    ))
-reported (Err x) start now came p c es old new cause left may left_is absent some terms begin lost form count there talk ended Q shown nothing more text
-    part none ends reports i =
+    )) (placed i.packet (length i.parts) number)
+    (told_reported i.packet number i.parts i.fs f more all said.0 refl may.told_at
+    (subst (AreOfPacket number i.parts) (sym items) (of_packet number n i.parts own.0 (filter is_item w.0) are_of own.2 w.2)) i.times)
+reported (Err x) start now came p c es old new cause left may left_is absent some terms begin more_lost lost form count there talk ended Q shown nothing more
+    text part none ends reports i =
     let m = (own start now came p c es old i).is.0.made there in
     let q = shown m.a m.b m.made.is in
     let told = told_by i.written old in
@@ -443,6 +513,7 @@ reported (Err x) start now came p c es old new cause left may left_is absent som
           (ended_so_far old.teller.form told told' more old.terms from old.begun came i.fs p c es absent (apart_rest (p, c) es i.apart) i.streams i.shared is
           none ends);
       shared = λ k. ((i.shared k).taken, (i.shared k).share);
+      timely = i.timely;
     }
 
 pub not_lost : {A E : Type 0} (lost : Bool) (x : A) (e : E) → (lost ≡ true → ◌≡◌ {A = Result A E} (Ok x) (Err e)) → lost ≡ false
@@ -454,11 +525,11 @@ not_lost true x e stays = let both = stays refl in cc
 begun_most : (a n : ℕ) → a ≡ min n (2 ^ 64 - 1) → a ≤ 2 ^ 64 - 1
 begun_most a n e = omega (arith, e)
 
-pub begun : (start now : TargetSeen) (came : List Arrival) (x : Arrival) (p : Pair) (c : Held) (es : List (Pair × Held)) (old new : Run)
+pub begun : {clock : Clock} (start now : TargetSeen) (came : List Arrival) (x : Arrival) (p : Pair) (c : Held) (es : List (Pair × Held)) (old new : Run)
     → lookup (same_pair p) es ≡ None → new.terms ≡ old.terms → new.start ≡ old.start → new.lost ≡ old.lost → new.teller ≡ old.teller
     → new.begun ≡ min (old.begun + 1) (2 ^ 64 - 1) → IsOpen old.terms [] (x ∷ []) c.value → c.value.number ≡ old.begun
     → ((side : Side) → HasSent side [] old.terms [] (x ∷ []) c.value) → ((h : Heading) → HasShown h [] old.terms [] (x ∷ []) c.value)
-    → FollowsIn (Coming p x) start now came es old → Holds start now came x p c es new
+    → FollowsIn (Coming p x) start now clock came es old → Holds start now clock came x p c es new
 begun start now came x p c es old new absent terms begin lost teller count is number sent shown i =
     let form = ap (λ (t : Teller). t.form) teller in
     let told = told_by i.written old in
@@ -489,10 +560,13 @@ begun start now came x p c es old new absent terms begin lost teller count is nu
       parting = i.parting;
       order = order_begun came i.fs x p c.value.number es old.begun new.begun number count most i.order;
       last = i.last;
+      timely = i.timely;
+      packet = i.packet;
+      times = i.times;
     }
 
-pub held : (start now : TargetSeen) (came : List Arrival) (x : Arrival) (p : Pair) (c : Held) (es : List (Pair × Held)) (run : Run)
-    → IsIts x c.value → lookup (same_pair p) es ≡ None → FollowsIn (Coming p x) start now came ((p, c) ∷ es) run → Holds start now came x p c es run
+pub held : {clock : Clock} (start now : TargetSeen) (came : List Arrival) (x : Arrival) (p : Pair) (c : Held) (es : List (Pair × Held)) (run : Run)
+    → IsIts x c.value → lookup (same_pair p) es ≡ None → FollowsIn (Coming p x) start now clock came ((p, c) ∷ es) run → Holds start now clock came x p c es run
 held start now came x p c es run its absent i =
     let s = own start now came p c es run i in
     record {
@@ -514,11 +588,14 @@ held start now came x p c es run its absent i =
       parting = i.parting;
       order = order_held came i.fs x p c s.taken es run.begun s.share i.order;
       last = i.last;
+      timely = i.timely;
+      packet = i.packet;
+      times = i.times;
     }
 
 -- More is known of what comes.
-follows_with : {ph ph' : Phase} (start now : TargetSeen) (came : List Arrival) (es : List (Pair × Held)) (run : Run)
-    → (i : FollowsIn ph start now came es run) → AreParts ph' came i.fs → ComeLast ph' i.fs es → FollowsIn ph' start now came es run
+follows_with : {ph ph' : Phase} {clock : Clock} (start now : TargetSeen) (came : List Arrival) (es : List (Pair × Held)) (run : Run)
+    → (i : FollowsIn ph start now clock came es run) → AreParts ph' came i.fs → ComeLast ph' i.fs es → FollowsIn ph' start now clock came es run
 follows_with start now came es run i parting last = record {
   fs = i.fs;
   written = i.written;
@@ -532,23 +609,27 @@ follows_with start now came es run i parting last = record {
   parting = parting;
   order = i.order;
   last = last;
+  timely = i.timely;
+  packet = i.packet;
+  times = i.times;
 }
 
 -- The next segment is known.
-pub follows_coming : (start now : TargetSeen) (came : List Arrival) (es : List (Pair × Held)) (run : Run) (p : Pair) (x : Arrival)
-    → Follows start now came es run → FollowsIn (Coming p x) start now came es run
-follows_coming start now came es run p x i = follows_with start now came es run i (parts_coming came i.fs p x i.parting) i.last
+pub follows_coming : {clock : Clock} (start now : TargetSeen) (came : List Arrival) (es : List (Pair × Held)) (run : Run) (p : Pair) (x : Arrival)
+    → AreEarlier clock x.when.packet → Follows start now clock came es run → FollowsIn (Coming p x) start now clock came es run
+follows_coming {clock} start now came es run p x new i =
+    follows_with start now came es run i (parts_coming clock came i.fs p x new i.timely i.parting) i.last
 
 -- None comes any more. Those that are left are in the order of their numbers.
-pub follows_end : (start now : TargetSeen) (came : List Arrival) (es : List (Pair × Held)) (run : Run) → IsNonDecreasing (numbers es)
-    → Follows start now came es run → FollowsIn AtEnd start now came es run
+pub follows_end : {clock : Clock} (start now : TargetSeen) (came : List Arrival) (es : List (Pair × Held)) (run : Run) → IsNonDecreasing (numbers es)
+    → Follows start now clock came es run → FollowsIn AtEnd start now clock came es run
 follows_end start now came es run up i = follows_with start now came es run i (parts_end came i.fs i.parting) (last_begins i.fs es up i.last)
 
 -- The connection takes the segment.
-pub follows_took : (start now : TargetSeen) (came : List Arrival) (x : Arrival) (p : Pair) (c c' : Held) (es : List (Pair × Held)) (old new : Run)
-    → pair_of x ≡ p → new.terms ≡ old.terms → new.start ≡ old.start → new.lost ≡ old.lost → new.begun ≡ old.begun
+pub follows_took : {clock : Clock} (start now : TargetSeen) (came : List Arrival) (x : Arrival) (p : Pair) (c c' : Held) (es : List (Pair × Held))
+    (old new : Run) → pair_of x ≡ p → new.terms ≡ old.terms → new.start ≡ old.start → new.lost ≡ old.lost → new.begun ≡ old.begun
     → new.teller.form ≡ old.teller.form → TellsOn old.teller new.teller → c'.value.number ≡ c.value.number
-    → (i : Holds start now came x p c es old) → IsOpen old.terms (i.taken ++ x ∷ []) [] c'.value
+    → (i : Holds start now clock came x p c es old) → IsOpen old.terms (i.taken ++ x ∷ []) [] c'.value
     → (more : List ℕ) → (is_stream old.teller.form ≡ true → new.teller.text.items ≡ old.teller.text.items ++ more)
     → (wanted_by old.teller.form c.value.number ≡ None → more ≡ [])
     → ((side : Side) → wanted_by old.teller.form c.value.number ≡ Some side
@@ -557,8 +638,8 @@ pub follows_took : (start now : TargetSeen) (came : List Arrival) (x : Arrival) 
     → ((before : List Shown) → let h = heading_of old.teller.form c.value.number (unwrap_or old.start 0) in HasShown h before old.terms i.taken (x ∷ []) c.value
     → (rows : List Shown) × ShowsOn h before rows old.terms i.taken x c'.value
     × (new.teller.text.items ≡ old.teller.text.items ++ (shown_texts (showing_by old.teller.form) rows ++ more)))
-    → Follows start now (came ++ x ∷ []) ((p, c') ∷ es) new
-follows_took start now came x p c c' es old new ends terms begin lost count form tells number i is more text none sends shows =
+    → x.when.packet ≡ clock.number → Follows start now clock (came ++ x ∷ []) ((p, c') ∷ es) new
+follows_took {clock} start now came x p c c' es old new ends terms begin lost count form tells number i is more text none sends shows packet_is =
     let n = c.value.number in
     let shown = old.teller.form in
     let told = told_by i.written old in
@@ -576,6 +657,7 @@ follows_took start now came x p c c' es old new ends terms begin lost count form
     let own = i.rows.own in
     let w = shows own.0 own.1 in
     let items = filter is_item w.0 in
+    let of = subst (λ (k : ℕ). (All (λ s. s.packet ≡ k) items) ⊎ (own.0 ≡ [])) packet_is w.1.of_packet in
     let rows_text : List ℕ = shown_texts (showing_by shown) w.0 ++ more in
     let parts = i.parts ++ parts_of_segment more w.0 in
     let gets : AddsRows n items i.parts parts = adds_by n items i.parts (parts_of_segment more w.0) (items_of_segment more w.0) w.1.are_of in
@@ -608,6 +690,10 @@ follows_took start now came x p c c' es old new ends terms begin lost count form
       order = order_same (came ++ x ∷ []) i.fs ((p, c') ∷ es) old.begun new.begun count
           (order_took came i.fs x p c.value.number c' i.taken es old.begun ends number i.share i.order);
       last = i.last;
+      timely = i.timely;
+      packet = placed i.packet (length i.parts) clock.number;
+      times = told_more i.packet clock.number clock.number i.parts (parts_of_segment more w.0) i.fs (omega arith)
+          (next_segment clock.number i.parts more w.0 (of_packet clock.number n i.parts own.0 items w.1.are_of own.2 of)) i.times;
     }
 
 pub more_shared : (k : Pair) (came more : List Arrival) (fs : List Finished) (rest : List Arrival) → IsShared k came fs rest
@@ -618,11 +704,13 @@ more_shared k came more fs rest share =
       filter-append test came more ∙ ap (λ l. l ++ filter test more) share ∙ append_assoc (taken_between k fs) rest (filter test more),
     )
 
-pub stops_more : (start now : TargetSeen) (came more : List Arrival) (run : Run) → Stops start now came run → Stops start now (came ++ more) run
+pub stops_more : {clock : Clock} (start now : TargetSeen) (came more : List Arrival) (run : Run) → Stops start now clock came run
+    → Stops start now clock (came ++ more) run
 stops_more start now came more run i = record {
   fs = i.fs;
   written = i.written;
   known = i.known;
   so_far = so_far_more run.teller.form (told_by i.written run) run.terms (unwrap_or run.start 0) came more i.fs i.so_far;
   shared = λ k. let s = i.shared k in more_shared k came more i.fs s.0 s.1;
+  timely = i.timely;
 }

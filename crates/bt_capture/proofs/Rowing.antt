@@ -13,11 +13,8 @@ use Rattle.bt_remarks.specs.Said.{Told}
 use Rattle.bt_wire.specs.declared.item.Item.{Item}
 use Rattle.bt_talk.specs.declared.closing.When.{When}
 use Rattle.bt_talk.specs.declared.rows.Heading.{Heading}
-use Rattle.bt_talk.specs.declared.talk.Talk.{Talk}
-use Rattle.bt_talk.specs.Pasts.{Past}
 use Rattle.bt_talk.specs.Rows.{Shown, is_item, shown_texts}
 use Rattle.bt_talk.specs.Shown.{AreItemRows, AreTurnRows, Turn, told_by}
-use Rattle.bt_talk.specs.Talks.{AreShown, AreShownIn}
 use Rattle.bt_talk.specs.Watching.{told_of}
 use Rattle.bt_told.specs.declared.report.Report.{Report}
 use Rattle.bt_capture.specs.Arrivals.{Arrival, is_between, pair_of}
@@ -52,18 +49,13 @@ all_of_turns h (t ∷ earlier) rows i =
     subst (AreOf h.connection) (sym i.2) (All-append (λ s. s.row.connection ≡ h.connection) i.0 i.1 (all_of_turns h earlier i.0 i.3)
     (all_of_item h t.when t.side t.known t.items (told_by earlier) i.1 i.4))
 
-all_of : (opening : Bool) (h : Heading) (a b : Past) (t : Talk) (rows : List Shown) → AreShownIn opening h a b t rows → AreOf h.connection rows
-all_of true h a b t rows i = subst (AreOf h.connection) (sym i) (All-nil (λ s. s.row.connection ≡ h.connection))
-all_of false h a b t rows i = all_of_turns h i.turns rows i.are
-
 all_right : (n : ℕ) (xs ys : List Shown) → AreOf n (xs ++ ys) → AreOf n ys
 all_right n [] ys i = i
 all_right n (x ∷ xs) ys i = all_right n xs ys (All-tail (λ s. s.row.connection ≡ n) x (xs ++ ys) i)
 
 -- Further ones are of it too.
-pub more_of : (opening : Bool) (h : Heading) (a b : Past) (t : Talk) (before rows : List Shown) → AreShownIn opening h a b t (before ++ rows)
-    → AreOf h.connection rows
-more_of opening h a b t before rows i = all_right h.connection before rows (all_of opening h a b t (before ++ rows) i)
+pub more_of : (h : Heading) (turns : List Turn) (before rows : List Shown) → AreTurnRows h turns (before ++ rows) → AreOf h.connection rows
+more_of h turns before rows i = all_right h.connection before rows (all_of_turns h turns (before ++ rows) i)
 
 pub none_of : (n : ℕ) → AreOf n []
 none_of n = All-nil (λ s. s.row.connection ≡ n)
@@ -99,7 +91,7 @@ AddsRows n rows parts parts' =
 pub adds_nothing : (n : ℕ) (parts : List Part) → AddsRows n [] parts parts
 adds_nothing n parts = (sym (append-nil (item_rows n parts)), λ m other. refl, ([], sym (append-nil parts), λ m other. refl))
 
-rows_and : (m : ℕ) (parts more : List Part) → item_rows m (parts ++ more) ≡ item_rows m parts ++ item_rows m more
+pub rows_and : (m : ℕ) (parts more : List Part) → item_rows m (parts ++ more) ≡ item_rows m parts ++ item_rows m more
 rows_and m parts more =
     let items : List Part → List Shown = λ l. filter is_item (flat_map rows_of_part l) in
     ap (λ (l : List Shown). filter (is_row_of m) (filter is_item l)) (flat_map-append rows_of_part parts more)
@@ -195,7 +187,7 @@ by_same : (form : Form) (parts more : List Part) (terms : Terms) (from n : ℕ) 
 by_same form parts more terms from n taken (Reported r) none i =
     let same : item_rows n parts ≡ item_rows n (parts ++ more) =
     sym (rows_and n parts more ∙ ap (λ (l : List Shown). item_rows n parts ++ l) none ∙ append-nil (item_rows n parts)) in
-    (i.0, subst (λ l. AreShown (heading_of form n from) i.0.a i.0.b i.0.talk l) same i.1, after_more n r parts more none i.2)
+    (i.0, subst (λ l. AreTurnRows (heading_of form n from) i.0.turns l) same i.1, after_more n r parts more none i.2)
 by_same form parts more terms from n taken Silent none i =
     rows_and n parts more ∙ ap (λ (l : List Shown). l ++ item_rows n more) i ∙ none
 by_same form parts more terms from n taken Lost none i = i

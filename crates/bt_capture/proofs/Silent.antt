@@ -26,7 +26,7 @@ use Rattle.bt_talk.specs.Rows.{Shown}
 use Rattle.bt_talk.specs.Sent.{IsSent, sent_of}
 use Rattle.bt_talk.specs.Shown.{AreItemRows, AreTurnRows, Turn, items_by, told_by}
 use Rattle.bt_talk.specs.Stages.{AreItemsIn, IsDirection}
-use Rattle.bt_talk.specs.Talks.{AreShownIn, IsTalk, of_side, is_in_opening}
+use Rattle.bt_talk.specs.Talks.{HasHeard, IsTalk, of_side, is_in_opening}
 use Rattle.bt_wire.specs.Handshakes.{protocol}
 use Rattle.bt_wire.specs.declared.item.Item.{Item}
 use Rattle.bt_capture.specs.Arrivals.{Arrival, has_data}
@@ -74,10 +74,10 @@ not_any : (x : Bool) (rest : Bool) → (x || rest) ≡ false → (x ≡ false) �
 not_any true rest e = absurd (let f : true ≡ false = e in cc)
 not_any false rest e = (refl, e)
 
-bare_taken : (first : Bool) (xs : List Arrival) (a b : Past) (t : Talk) (a' b' : Past) (t' : Talk) → list_any has_data xs ≡ false
-    → HasTaken first xs a b t a' b' t' → IsBare a → IsBare b → IsBare a' × IsBare b'
-bare_taken first [] a b t a' b' t' none i j k = (ap (λ (p : Past). p.segs) i.0 ∙ j, ap (λ (p : Past). p.segs) i.1 ∙ k)
-bare_taken first (x ∷ xs) a b t a' b' t' none i j k =
+bare_taken : (first : Bool) (xs : List Arrival) (a b : Past) (t : Talk) (turns : List Turn) (a' b' : Past) (t' : Talk) (turns' : List Turn)
+    → list_any has_data xs ≡ false → HasTaken first xs a b t turns a' b' t' turns' → IsBare a → IsBare b → IsBare a' × IsBare b'
+bare_taken first [] a b t turns a' b' t' turns' none i j k = (ap (λ (p : Past). p.segs) i.0 ∙ j, ap (λ (p : Past). p.segs) i.1 ∙ k)
+bare_taken first (x ∷ xs) a b t turns a' b' t' turns' none i j k =
     let s = i.1 in
     let took = i.4 in
     let both = not_any (has_data x) (list_any has_data xs) none in
@@ -86,7 +86,7 @@ bare_taken first (x ∷ xs) a b t a' b' t' none i j k =
     let sent = bare_sent s.flags.rst s (is_in_opening t) _ _ _ _ own took.sent (each_bare took.side a b j k) in
     let acked = bare_acked s.flags.rst s.acked s.flags.syn _ _ took.acked (each_bare (other took.side) a b j k) in
     let now = both_bare took.side took.a' took.b' sent acked in
-    bare_taken false xs took.a' took.b' i.3 a' b' t' both.1 i.5 now.0 now.1
+    bare_taken false xs took.a' took.b' i.3 i.5 a' b' t' turns' both.1 i.7 now.0 now.1
 
 nothing_out : (heard : List Heard) (out : List ℕ) (o : Option Stream) → IsStreamFor heard [] out o → out ≡ []
 nothing_out heard out None i = i.2
@@ -100,7 +100,7 @@ bare_out p flow i bare = nothing_out p.heard p.out flow.stream (subst (λ l. IsS
 pub nothing_came : (terms : Terms) (taken : List Arrival) (t : Talk) → list_any has_data taken ≡ false → (m : IsMade terms taken [] t)
     → (m.a.out ≡ []) × (m.b.out ≡ [])
 nothing_came terms taken t none m =
-    let bare = bare_taken true taken no_past no_past m.made.begin m.a m.b t none m.made.has_taken refl refl in
+    let bare = bare_taken true taken no_past no_past m.made.begin [] m.a m.b t m.made.turns none m.made.has_taken refl refl in
     (bare_out m.a t.a.flow m.made.is.a_is.flow.stream bare.0, bare_out m.b t.b.flow m.made.is.b_is.flow.stream bare.1)
 
 -- ---- so there are no items
@@ -167,13 +167,12 @@ no_rows h (t ∷ earlier) rows none i =
     i.2 ∙ ap (λ l. l ++ i.1) (no_rows h earlier i.0 none_of.0 i.3) ∙ no_item_rows h t (told_by earlier) i.1 none_of.1 i.4
 
 -- Nothing was shown.
-pub nothing_shown : (opening : Bool) (h : Heading) (a b : Past) (t : Talk) (rows : List Shown) → IsTalk a b t → a.out ≡ [] → b.out ≡ []
-    → AreShownIn opening h a b t rows → rows ≡ []
-nothing_shown true h a b t rows is none_a none_b i = i
-nothing_shown false h a b t rows is none_a none_b i =
-    let of_a = no_items t.a.stage a (i.heard.items A) (front_none t.terms a b t.a is.a_is none_a) i.heard.a_items in
-    let of_b = no_items t.b.stage b (i.heard.items B) (front_none t.terms b a t.b is.b_is none_b) i.heard.b_items in
-    no_rows h i.turns rows (by_side (λ s. items_by s i.turns ≡ []) (sym (i.items_are A) ∙ of_a) (sym (i.items_are B) ∙ of_b)) i.are
+pub nothing_shown : (h : Heading) (a b : Past) (t : Talk) (turns : List Turn) (rows : List Shown) → IsTalk a b t → HasHeard turns a b t → a.out ≡ []
+    → b.out ≡ [] → AreTurnRows h turns rows → rows ≡ []
+nothing_shown h a b t turns rows is heard none_a none_b i =
+    let of_a = no_items t.a.stage a (items_by A turns) (front_none t.terms a b t.a is.a_is none_a) (heard.items A) in
+    let of_b = no_items t.b.stage b (items_by B turns) (front_none t.terms b a t.b is.b_is none_b) (heard.items B) in
+    no_rows h turns rows (by_side (λ s. items_by s turns ≡ []) of_a of_b) i
 
 nothing_of : (opening : Bool) (start : Option ℕ) (out : List ℕ) → out ≡ [] → sent_of opening start out ≡ []
 nothing_of true start out none = refl

@@ -1,21 +1,25 @@
 -- The first packet, and connections that are taken out, moved and given up.
 use Rattle.bt_talk.specs.declared.terms.Terms.{Terms}
 use Rattle.std.proofs.Common.{◌≡◌, ◌∙◌, ℕ, ◌+◌, ◌-◌, ◌^◌, min, Bool, true, false, List, [], ◌∷◌, ◌++◌, length, append-nil, append_assoc}
-use Rattle.std.proofs.Common.{Some, unwrap_or, refl, sym, ap, subst, arith, inl, inr}
+use Rattle.std.proofs.Common.{◌≤◌, Some, unwrap_or, refl, sym, ap, subst, arith, inl, inr}
 use Rattle.std.specs.List.{All, list_any}
 use Rattle.std.specs.List.Sorted.{IsPermutation}
 use Rattle.std.specs.Map.{lookup, remove_entry}
 use Rattle.std.specs.Option.{option_or}
 use Rattle.std.proofs.lemmas.Bool.{cases_Bool}
-use Rattle.std.proofs.lemmas.List.Elements.{All-cons, All-head, All-nil, All-tail}
+use Rattle.std.proofs.lemmas.List.{length-append}
+use Rattle.std.proofs.lemmas.List.Elements.{All-append, All-cons, All-head, All-nil, All-tail}
 use Rattle.std.proofs.lemmas.List.Sorted.{length_permutation}
 use Rattle.bt_io.specs.Seen.{TargetSeen}
 use Rattle.bt_pcap.specs.Formats.{Captured}
-use Rattle.bt_capture.specs.Arrivals.{Arrival, arrivals, arrivals_of, arrivals_after, has_data, pair_of, first_time}
+use Rattle.bt_talk.specs.declared.closing.When.{When}
+use Rattle.bt_capture.specs.Arrivals.{AreEarlier, Arrival, Clock, IsEarlier, arrivals, arrivals_in, arrivals_of, arrivals_after, clock_after, clock_of}
+use Rattle.bt_capture.specs.Arrivals.{first_time, has_data, pair_of}
+use Rattle.bt_capture.specs.Sights.{Seen, SawSegment, SawUtp, SawOther, seen_in}
 use Rattle.bt_capture.specs.Following.{Cause, IsRowing, Rows}
 use Rattle.bt_capture.specs.Following.{Finished, Fate, Reported, Silent, Lost, IsFinished, IsFate, IsShared}
 use Rattle.bt_capture.specs.Following.{IsStreaming, Follows, Stops, Holds, Shares, Streams}
-use Rattle.bt_capture.specs.Following.{reports_of, taken_between, told_by}
+use Rattle.bt_capture.specs.Following.{losses_of, reports_of, taken_between, told_by}
 use Rattle.bt_capture.specs.Forms.{is_stream}
 use Rattle.bt_capture.specs.Tables.{Held, IsApart, same_pair}
 use Rattle.bt_capture.specs.Tellings.{Tells, TellsOn}
@@ -25,13 +29,14 @@ use Rattle.bt_capture.specs.declared.telling.Teller.{Teller}
 use Rattle.bt_capture.proofs.Entries.{apart_moved, apart_none, apart_put, apart_without, lookup_back, lookup_gone, lookup_moved}
 use Rattle.bt_capture.proofs.Entries.{same_is, same_self}
 use Rattle.bt_capture.proofs.Rowing.{rows_moved, rows_nothing, rows_same, rows_started}
-use Rattle.bt_capture.proofs.Parting.{parts_nothing}
+use Rattle.bt_capture.proofs.Parting.{parts_nothing, timely_more}
 use Rattle.bt_capture.proofs.Shares.{moved}
 use Rattle.bt_capture.proofs.SoFar.{held_so_far, so_far_on, so_far_same}
 use Rattle.bt_capture.proofs.Streaming.{streaming_moved, streaming_nothing, streaming_out}
 use Rattle.bt_capture.proofs.Streaming.{streaming_same, streaming_started}
-use Rattle.bt_capture.specs.Following.{AreBegun, is_final}
+use Rattle.bt_capture.specs.Following.{AreBegun, IsTimely, is_final}
 use Rattle.bt_capture.proofs.Order.{order_moved, order_nothing, order_same}
+use Rattle.bt_capture.proofs.Timing.{told_later, told_nothing}
 use Rattle.bt_capture.proofs.Reported.{told_same, shares_same, known_same, follows_same, more_shared}
 
 -- ---- the first packet
@@ -71,10 +76,10 @@ all_any terms from from' (f ∷ fs) none i =
 shares_none : (k : Pair) (fs : List Finished) (rest : List Arrival) → IsShared k [] fs rest → taken_between k fs ≡ []
 shares_none k fs rest e = (parts_none (taken_between k fs) rest (sym e)).0
 
-pub started : (start now : TargetSeen) (packets : List Captured) (old new : Run) (time : ℕ) → old.start ≡ first_time packets
+pub started : {clock : Clock} (start now : TargetSeen) (packets : List Captured) (old new : Run) (time : ℕ) → old.start ≡ first_time packets
     → new.start ≡ option_or old.start (Some time) → new.terms ≡ old.terms → new.lost ≡ old.lost → new.teller ≡ old.teller → new.table ≡ old.table
-    → new.begun ≡ old.begun → Follows start now (arrivals packets) old.table old → Follows start now (arrivals packets) new.table new
-started start now [] old new time is begin terms lost teller table count i =
+    → new.begun ≡ old.begun → Follows start now clock (arrivals packets) old.table old → Follows start now clock (arrivals packets) new.table new
+started {clock} start now [] old new time is begin terms lost teller table count i =
     let none = none_taken i.fs (λ k. shares_none k i.fs (i.shared k).taken (i.shared k).share) in
     let form = ap (λ (t : Teller). t.form) teller in
     let told = told_by i.written old in
@@ -82,7 +87,7 @@ started start now [] old new time is begin terms lost teller table count i =
     let same = told_same i.written old new teller in
     let from = unwrap_or old.start 0 in
     let from' = unwrap_or new.start 0 in
-    let P : List (Pair × Held) → Type 0 = λ l. Follows start now [] l new in
+    let P : List (Pair × Held) → Type 0 = λ l. Follows start now clock [] l new in
     let follows : P old.table = record {
       fs = i.fs;
       written = i.written;
@@ -102,11 +107,14 @@ started start now [] old new time is begin terms lost teller table count i =
       parting = i.parting;
       order = order_same [] i.fs old.table old.begun new.begun count i.order;
       last = i.last;
+      timely = i.timely;
+      packet = i.packet;
+      times = i.times;
     } in
     subst P (sym table) follows
-started start now (p ∷ ps) old new time is begin terms lost teller table count i =
+started {clock} start now (p ∷ ps) old new time is begin terms lost teller table count i =
     let e : new.start ≡ old.start = begin ∙ ap (λ o. option_or o (Some time)) is ∙ sym is in
-    subst (λ t. Follows start now (arrivals (p ∷ ps)) t new) (sym table)
+    subst (λ t. Follows start now clock (arrivals (p ∷ ps)) t new) (sym table)
     (follows_same start now (arrivals (p ∷ ps)) old.table old new terms e lost teller count i)
 
 after_more : (n : ℕ) (packets : List Captured) (p : Captured)
@@ -127,6 +135,97 @@ arrivals_more packets p number e =
     let same : min (0 + length packets + 1) (2 ^ 64 - 1) ≡ number = omega (arith, e) in
     after_more 0 packets p ∙ ap (λ m. arrivals packets ++ arrivals_of m p) same
 
+-- ---- the packets' numbers
+
+clock_on : (n : ℕ) (packets : List Captured) (p : Captured) → clock_after n (packets ++ p ∷ [])
+    ≡ clock_after n packets ++ record { nanos = p.nanos; packet = min (n + length packets + 1) (2 ^ 64 - 1) } ∷ []
+clock_on n [] p =
+    let same : n + 1 ≡ n + length {A = Captured} [] + 1 = omega arith in
+    ap (λ m. record { nanos = p.nanos; packet = min m (2 ^ 64 - 1) } ∷ []) same
+clock_on n (q ∷ qs) p =
+    let first : When = record { nanos = q.nanos; packet = min (n + 1) (2 ^ 64 - 1) } in
+    let same : (n + 1) + length qs + 1 ≡ n + length (q ∷ qs) + 1 = omega arith in
+    ap (λ l. first ∷ l) (clock_on (n + 1) qs p)
+    ∙ ap (λ m. first ∷ (clock_after (n + 1) qs ++ record { nanos = p.nanos; packet = min m (2 ^ 64 - 1) } ∷ [])) same
+
+pub clock_more : (packets : List Captured) (p : Captured) (number : ℕ) → number ≡ min (length packets + 1) (2 ^ 64 - 1)
+    → (clock_of (packets ++ p ∷ [])).packets ≡ (clock_of packets).packets ++ record { nanos = p.nanos; packet = number } ∷ []
+clock_more packets p number e =
+    let same : min (0 + length packets + 1) (2 ^ 64 - 1) ≡ number = omega (arith, e) in
+    clock_on 0 packets p ∙ ap (λ m. clock_after 0 packets ++ record { nanos = p.nanos; packet = m } ∷ []) same
+
+earlier_after : (n : ℕ) (packets : List Captured) (number : ℕ) → min (n + length packets + 1) (2 ^ 64 - 1) ≤ number
+    → All (λ (w : When). IsEarlier w number) (clock_after n packets)
+earlier_after n [] number le = All-nil (λ (w : When). IsEarlier w number)
+earlier_after n (p ∷ ps) number le =
+    let first : When = record { nanos = p.nanos; packet = min (n + 1) (2 ^ 64 - 1) } in
+    All-cons (λ (w : When). IsEarlier w number) first (clock_after (n + 1) ps) (omega (arith, le)) (earlier_after (n + 1) ps number (omega (arith, le)))
+
+-- The next packet comes after those that came.
+pub all_earlier : (packets : List Captured) (number : ℕ) → number ≡ min (length packets + 1) (2 ^ 64 - 1) → AreEarlier (clock_of packets) number
+all_earlier packets number e = earlier_after 0 packets number (omega (arith, e))
+
+-- The last packet has this number.
+pub number_of : (packets : List Captured) (p : Captured) (number : ℕ) → number ≡ min (length packets + 1) (2 ^ 64 - 1)
+    → number ≡ (clock_of (packets ++ p ∷ [])).number
+number_of packets p number e = let n = length-append packets (p ∷ []) in omega (arith, e, n)
+
+-- The next packet has a number that isn't less than that of the last one.
+pub number_up : (packets : List Captured) (number : ℕ) → number ≡ min (length packets + 1) (2 ^ 64 - 1) → (clock_of packets).number ≤ number
+number_up packets number e = omega (arith, e)
+
+within_in : (number nanos most : ℕ) (s : Seen) → number ≤ most → All (λ x. x.when.packet ≤ most) (arrivals_in number nanos s)
+within_in number nanos most (SawSegment s) le =
+    let P : Arrival → Type 0 = λ x. x.when.packet ≤ most in
+    All-cons P (record { segment = s; when = record { nanos = nanos; packet = number } }) [] le (All-nil P)
+within_in number nanos most (SawUtp u) le = All-nil (λ (x : Arrival). x.when.packet ≤ most)
+within_in number nanos most SawOther le = All-nil (λ (x : Arrival). x.when.packet ≤ most)
+
+within_after : (n : ℕ) (packets : List Captured) (most : ℕ) → min (n + length packets) (2 ^ 64 - 1) ≤ most
+    → All (λ x. x.when.packet ≤ most) (arrivals_after n packets)
+within_after n [] most le = All-nil (λ (x : Arrival). x.when.packet ≤ most)
+within_after n (p ∷ ps) most le =
+    let number = min (n + 1) (2 ^ 64 - 1) in
+    All-append (λ (x : Arrival). x.when.packet ≤ most) (arrivals_of number p) (arrivals_after (n + 1) ps)
+    (within_in number p.nanos most (seen_in p.link p.bytes p.original) (omega (arith, le))) (within_after (n + 1) ps most (omega (arith, le)))
+
+-- No segment comes after the last packet.
+pub all_within : (packets : List Captured) (p : Captured) (number : ℕ) → number ≡ min (length packets + 1) (2 ^ 64 - 1)
+    → All (λ x. x.when.packet ≤ number) (arrivals (packets ++ p ∷ []))
+all_within packets p number e = within_after 0 (packets ++ p ∷ []) number (omega (arith, e, length-append packets (p ∷ [])))
+
+-- Time goes on.
+pub follows_later : (start now : TargetSeen) (clock later : Clock) (more : List When) (came : List Arrival) (es : List (Pair × Held)) (run : Run)
+    → later.packets ≡ clock.packets ++ more → clock.number ≤ later.number → Follows start now clock came es run → Follows start now later came es run
+follows_later start now clock later more came es run e up i = record {
+  fs = i.fs;
+  written = i.written;
+  known = i.known;
+  begun = i.begun;
+  apart = i.apart;
+  streams = i.streams;
+  shared = i.shared;
+  parts = i.parts;
+  rows = i.rows;
+  parting = i.parting;
+  order = i.order;
+  last = i.last;
+  timely = timely_more clock later more i.fs e i.timely;
+  packet = i.packet;
+  times = told_later i.packet clock.number later.number i.parts i.fs up i.times;
+}
+
+pub stops_later : (start now : TargetSeen) (clock later : Clock) (more : List When) (came : List Arrival) (run : Run)
+    → later.packets ≡ clock.packets ++ more → Stops start now clock came run → Stops start now later came run
+stops_later start now clock later more came run e i = record {
+  fs = i.fs;
+  written = i.written;
+  known = i.known;
+  so_far = i.so_far;
+  shared = i.shared;
+  timely = timely_more clock later more i.fs e i.timely;
+}
+
 -- ---- a connection is taken out
 
 begun_out : (a n : ℕ) (e : Pair × Held) (es out : List (Pair × Held)) → length es ≡ length out + 1 → a ≡ min (n + length es) (2 ^ 64 - 1)
@@ -140,8 +239,9 @@ length_out test (e ∷ es) c found = elim (cases_Bool (test e.0)) [
   | inr f ↦ let rest = length_out test es c (rw f at found) in rw f (omega (arith, rest))
 ]
 
-pub follows_out : (start now : TargetSeen) (came : List Arrival) (p : Pair) (c : Held) (es out : List (Pair × Held)) (run : Run)
-    → lookup (same_pair p) es ≡ Some c → out ≡ remove_entry (same_pair p) es → Follows start now came es run → Follows start now came ((p, c) ∷ out) run
+pub follows_out : {clock : Clock} (start now : TargetSeen) (came : List Arrival) (p : Pair) (c : Held) (es out : List (Pair × Held)) (run : Run)
+    → lookup (same_pair p) es ≡ Some c → out ≡ remove_entry (same_pair p) es → Follows start now clock came es run
+    → Follows start now clock came ((p, c) ∷ out) run
 follows_out start now came p c es out run found is i =
     let form = run.teller.form in
     let told = told_by i.written run in
@@ -164,11 +264,14 @@ follows_out start now came p c es out run found is i =
       order = subst (λ l. AreBegun came i.fs ((p, c) ∷ l) run.begun) (sym is)
           (order_moved came i.fs es ((p, c) ∷ gone) run.begun (lookup_back p c es found) i.order);
       last = i.last;
+      timely = i.timely;
+      packet = i.packet;
+      times = i.times;
     }
 
 -- They are in another order.
-pub follows_moved : (start now : TargetSeen) (came : List Arrival) (es gs : List (Pair × Held)) (run : Run) → IsPermutation es gs
-    → Follows start now came es run → Follows start now came gs run
+pub follows_moved : {clock : Clock} (start now : TargetSeen) (came : List Arrival) (es gs : List (Pair × Held)) (run : Run) → IsPermutation es gs
+    → Follows start now clock came es run → Follows start now clock came gs run
 follows_moved start now came es gs run moves i =
     let form = run.teller.form in
     let told = told_by i.written run in
@@ -185,13 +288,16 @@ follows_moved start now came es gs run moves i =
       parting = i.parting;
       order = order_moved came i.fs es gs run.begun (lookup_moved es gs moves i.apart) i.order;
       last = i.last;
+      timely = i.timely;
+      packet = i.packet;
+      times = i.times;
     }
 
 -- The connection of the segment x is given up.
-pub holds_stop : (start now : TargetSeen) (came : List Arrival) (x : Arrival) (p : Pair) (c : Held) (es : List (Pair × Held)) (old new : Run)
-    → pair_of x ≡ p → new.terms ≡ old.terms → new.start ≡ old.start → new.lost ≡ old.lost → new.teller.form ≡ old.teller.form
+pub holds_stop : {clock : Clock} (start now : TargetSeen) (came : List Arrival) (x : Arrival) (p : Pair) (c : Held) (es : List (Pair × Held))
+    (old new : Run) → pair_of x ≡ p → new.terms ≡ old.terms → new.start ≡ old.start → new.lost ≡ old.lost → new.teller.form ≡ old.teller.form
     → TellsOn old.teller new.teller → (is_stream old.teller.form ≡ true → new.teller.text.items ≡ old.teller.text.items)
-    → Holds start now came x p c es old → Stops start now (came ++ x ∷ []) new
+    → Holds start now clock came x p c es old → Stops start now clock (came ++ x ∷ []) new
 holds_stop start now came x p c es old new ends terms begin lost form tells kept i =
     let shown = old.teller.form in
     let told = told_by i.written old in
@@ -211,17 +317,18 @@ holds_stop start now came x p c es old new ends terms begin lost form tells kept
             | inr e ↦ let s = i.others k e in (s.taken, s.share)
           ] in
           more_shared k came (x ∷ []) i.fs rest.0 rest.1;
+      timely = i.timely;
     }
 
-pub follows_table : (start now : TargetSeen) (came : List Arrival) (p : Pair) (c : Held) (es gs : List (Pair × Held)) (run : Run) → gs ≡ es
-    → Follows start now came ((p, c) ∷ es) run → Follows start now came ((p, c) ∷ gs) run
-follows_table start now came p c es gs run e i = subst (λ l. Follows start now came ((p, c) ∷ l) run) (sym e) i
+pub follows_table : {clock : Clock} (start now : TargetSeen) (came : List Arrival) (p : Pair) (c : Held) (es gs : List (Pair × Held)) (run : Run) → gs ≡ es
+    → Follows start now clock came ((p, c) ∷ es) run → Follows start now clock came ((p, c) ∷ gs) run
+follows_table {clock} start now came p c es gs run e i = subst (λ l. Follows start now clock came ((p, c) ∷ l) run) (sym e) i
 
-pub follows_nothing : (start : TargetSeen) (run : Run) → Tells start start run.teller [] [] → run.teller.text.items ≡ [] → run.lost ≡ 0 → run.begun ≡ 0
-    → run.table ≡ [] → Follows start start [] run.table run
+pub follows_nothing : (start : TargetSeen) (run : Run) → Tells start start run.teller [] [] → run.teller.text.items ≡ [] → run.lost ≡ losses_of []
+    → run.begun ≡ 0 → run.table ≡ [] → Follows start start (clock_of []) [] run.table run
 follows_nothing start run tells empty lost count none =
     let from = unwrap_or run.start 0 in
-    let P : List (Pair × Held) → Type 0 = λ l. Follows start start [] l run in
+    let P : List (Pair × Held) → Type 0 = λ l. Follows start start (clock_of []) [] l run in
     let Q : ℕ → Type 0 = λ n. IsStreaming run.teller.form (told_by [] run) run.terms from n [] [] in
     let follows : P [] = record {
       fs = [];
@@ -237,5 +344,8 @@ follows_nothing start run tells empty lost count none =
       parting = parts_nothing;
       order = order_nothing [] run.begun refl count;
       last = All-nil (λ (f : Finished). is_final f.cause ≡ false);
+      timely = All-nil (IsTimely (clock_of []));
+      packet = λ n. 0;
+      times = told_nothing (clock_of []).number;
     } in
     subst P (sym none) follows

@@ -1,6 +1,6 @@
 -- The segments of a capture, in the order of its packets, and how many packets have none.
-use Rattle.std.specs.Prelude.{ℕ, ◌+◌, ◌-◌, ◌^◌, min, Bool, true, false, not, ◌&&◌, ◌==◌, List, [], ◌∷◌, ◌++◌, length, Option, Some, None}
-use Rattle.std.specs.List.{filter}
+use Rattle.std.specs.Prelude.{ℕ, ◌+◌, ◌-◌, ◌^◌, ◌≤◌, min, Bool, true, false, not, ◌&&◌, ◌==◌, List, [], ◌∷◌, ◌++◌, length, Option, Some, None}
+use Rattle.std.specs.List.{All, filter}
 use Rattle.bt_packet.specs.Tcp.{TcpSegment, segment}
 use Rattle.bt_packet.specs.declared.tcp.Segment.{Segment}
 use Rattle.bt_pcap.specs.Formats.{Captured}
@@ -47,6 +47,28 @@ arrivals_after n (p ∷ ps) = arrivals_of (min (n + 1) (2 ^ 64 - 1)) p ++ arriva
 -- the segments of a capture's packets, which are numbered from 1 on
 abbrev pub arrivals : List Captured → List Arrival
 arrivals packets = arrivals_after 0 packets
+
+-- when these packets came, before which the capture has n others
+abbrev pub clock_after : ℕ → List Captured → List When
+clock_after n [] = []
+clock_after n (p ∷ ps) = record { nanos = p.nanos; packet = min (n + 1) (2 ^ 64 - 1) } ∷ clock_after (n + 1) ps
+
+-- the packets that came, and the number of the one that is taken, or was taken last
+pub record Clock : Type 0 where
+  pub packets : List When
+  pub number : ℕ
+
+-- once a capture's packets were taken
+abbrev pub clock_of : List Captured → Clock
+clock_of packets = record { packets = clock_after 0 packets; number = min (length packets) (2 ^ 64 - 1) }
+
+-- This packet comes before the one with this number. Numbers don't grow past 2 ^ 64 - 1.
+abbrev pub IsEarlier : When → ℕ → Type 0
+IsEarlier at number = min (at.packet + 1) (2 ^ 64 - 1) ≤ number
+
+-- All of these packets come before the one with this number.
+abbrev pub AreEarlier : Clock → ℕ → Type 0
+AreEarlier clock number = All (λ at. IsEarlier at number) clock.packets
 
 -- the time of the first packet
 abbrev pub first_time : List Captured → Option ℕ

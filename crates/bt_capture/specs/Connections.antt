@@ -10,7 +10,11 @@ use Rattle.bt_tcp.specs.Heard.{opening_of}
 use Rattle.bt_talk.specs.Pasts.{Past, no_past}
 use Rattle.bt_talk.specs.Ends.{ends_by}
 use Rattle.bt_talk.specs.Closing.{is_quiet, opens_by, still_open}
-use Rattle.bt_talk.specs.Talks.{IsSender, IsTalk, Takes, ends_of, flow_of, of_side, terms_of, closing_of, is_in_opening, is_lost, segments_of}
+use Rattle.bt_talk.specs.Shown.{Turn}
+use Rattle.bt_talk.specs.Talks.{HasHeard, IsSender, IsTalk, Says, Takes, ends_of, flow_of, of_side, terms_of, closing_of, is_in_opening, is_lost, segments_of}
+use Rattle.bt_talk.specs.Talks.{AreOpened, has_closed, marks_of, watch_of}
+use Rattle.bt_talk.specs.Watching.{IsWatched}
+use Rattle.bt_talk.specs.declared.closing.When.{When}
 use Rattle.bt_talk.specs.declared.talk.Talk.{Talk}
 use Rattle.bt_capture.specs.Arrivals.{Arrival, has_data}
 use Rattle.bt_capture.specs.declared.connection.Connection.{Connection}
@@ -41,24 +45,40 @@ MayTake false x a b t = Begins false x a b t
 
 -- ---- the segments that it took
 
--- The connection took these segments, one after another.
-abbrev pub HasTaken : Bool → List Arrival → Past → Past → Talk → Past → Past → Talk → Type 0
-HasTaken first [] a b t a' b' t' = (a' ≡ a) × (b' ≡ b) × (t' ≡ t)
-HasTaken first (x ∷ xs) a b t a' b' t' =
-    MayTake first x a b t × (s : Segment) × (segment s ≡ x.segment) × (mid : Talk) × (took : Takes s x.when a b t mid)
-    × HasTaken false xs took.a' took.b' mid a' b' t'
+-- The turn of a segment after the opening: the items that it completes are its sender's.
+abbrev pub turn_of : {s : Segment} {side : Side} {a b a' b' : Past} {t t' : Talk} → When → Says s side a b a' b' t t' → Turn
+turn_of {s} {side} when says = record { side = side; known = says.known; when = when; items = says.items }
 
--- The connection began with this segment, and took these. Of both sides this was captured.
+-- With a segment that the connection took come these turns, the newest first. In the opening there are none; at its end come those of its marks, and
+-- after it each segment has one.
+pub record HasTurned (s : Segment) (when : When) (a b : Past) (t t' : Talk) (took : Takes s when a b t t') (turns turns' : List Turn) : Type 0 where
+  pub heard : HasHeard turns' took.a' took.b' t'
+  pub opened : is_in_opening t ≡ true → is_in_opening t' ≡ false → AreOpened (marks_of t ++ took.marks) took.a' took.b' t' turns'
+  pub after : is_in_opening t ≡ false → (o : is_in_opening t ≡ false) × (turns' ≡ turn_of when (took.said o) ∷ turns)
+
+-- The connection took these segments, one after another.
+abbrev pub HasTaken : Bool → List Arrival → Past → Past → Talk → List Turn → Past → Past → Talk → List Turn → Type 0
+HasTaken first [] a b t turns a' b' t' turns' = (a' ≡ a) × (b' ≡ b) × (t' ≡ t) × (turns' ≡ turns)
+HasTaken first (x ∷ xs) a b t turns a' b' t' turns' =
+    MayTake first x a b t × (s : Segment) × (segment s ≡ x.segment) × (mid : Talk) × (took : Takes s x.when a b t mid)
+    × (now : List Turn) × HasTurned s x.when a b t mid took turns now × HasTaken false xs took.a' took.b' mid now a' b' t' turns'
+
+-- The connection began with this segment, and took these. Of both sides this was captured, and these turns came.
 pub record IsMadeOf (terms : Terms) (first : Segment) (taken : List Arrival) (a b : Past) (t : Talk) : Type 0 where
   pub begin : Talk
+  pub turns : List Turn
   pub nothing : IsTalk no_past no_past begin
   pub opening : is_in_opening begin ≡ true
   pub not_closed : closing_of begin ≡ still_open
   pub no_segment : segments_of begin ≡ 0
-  pub has_taken : HasTaken true taken no_past no_past begin a b t
+  pub has_taken : HasTaken true taken no_past no_past begin [] a b t turns
   pub is : IsTalk a b t
   pub ends : ends_of t ≡ ends_by first
   pub terms_are : terms_of t ≡ terms
+  pub unmarked : marks_of begin ≡ []
+  pub unshut : (side : Side) → has_closed side begin ≡ false
+  pub watched : IsWatched [] (λ _. []) (watch_of begin)
+  pub heard : HasHeard turns a b t
 
 -- The segment is the first of these.
 abbrev pub IsFirst : Segment → List Arrival → Type 0

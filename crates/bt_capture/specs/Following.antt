@@ -1,8 +1,8 @@
 -- The connections of a capture: those that are over, and those that aren't.
 use Rattle.bt_talk.specs.declared.terms.Terms.{Terms}
 use Rattle.std.specs.Prelude.{◌≡◌, ◌⊎◌, ◌==◌, ℕ, ◌+◌, ◌-◌, ◌^◌, ◌<◌, ◌≤◌, min, map, nat_lt, Bool, true, false, if◌then◌else◌, List, [], ◌∷◌, ◌++◌, length}
-use Rattle.std.specs.Prelude.{Option, Some, None, is_some, unwrap_or, Result, Ok, Err}
-use Rattle.std.specs.List.{All, count_by, filter, flat_map, list_any, slice_get}
+use Rattle.std.specs.Prelude.{Option, Some, None, unwrap_or, Result, Ok, Err}
+use Rattle.std.specs.List.{All, Contains, count_by, filter, flat_map, list_any, slice_get}
 use Rattle.std.specs.List.Sorted.{IsNonDecreasing}
 use Rattle.std.specs.Map.{lookup}
 use Rattle.bt_io.specs.Seen.{TargetSeen}
@@ -10,20 +10,25 @@ use Rattle.bt_packet.specs.declared.tcp.Segment.{Segment}
 use Rattle.bt_talk.specs.Pasts.{Past}
 use Rattle.bt_remarks.specs.declared.events.Side.{Side}
 use Rattle.bt_talk.specs.Sent.{IsSent}
-use Rattle.bt_talk.specs.Talks.{AreShown, IsTalk, closing_of, cut_of, ends_of, flow_of, terms_of, is_in_opening, is_lost, of_side}
+use Rattle.bt_talk.specs.Closing.{is_quiet}
+use Rattle.bt_talk.specs.Shown.{AreTurnRows, Turn}
+use Rattle.bt_talk.specs.Talks.{AreOpened, HasHeard, IsTalk, closing_of, cut_of, ends_of, flow_of, marks_of, terms_of, is_in_opening, is_lost, of_side}
+use Rattle.bt_talk.specs.declared.closing.When.{When}
 use Rattle.bt_talk.specs.declared.talk.Talk.{Talk}
 use Rattle.bt_told.specs.declared.report.Left.{Left}
 use Rattle.bt_told.specs.declared.report.Left.TheVariants.{Open, Unread, Replaced}
 use Rattle.bt_told.specs.declared.report.Report.{Report}
-use Rattle.bt_capture.specs.Arrivals.{Arrival, is_between, has_data}
+use Rattle.bt_capture.specs.Arrivals.{Arrival, Clock, IsEarlier, is_between, has_data}
 use Rattle.bt_capture.specs.Connections.{Begins, IsFirst, IsMadeOf, IsOpen}
 use Rattle.bt_capture.specs.Forms.{absent_from, wanted_by}
 use Rattle.bt_capture.specs.Reportings.{IsReportOf}
 use Rattle.bt_capture.specs.Sending.{IsSending}
-use Rattle.bt_capture.specs.Rowed.{IsShowing, heading_of}
+use Rattle.bt_capture.specs.Rowed.{AreOf, IsShowing, heading_of}
 use Rattle.bt_capture.specs.Tables.{Held, IsApart, same_pair}
-use Rattle.bt_capture.specs.Tellings.{ArePartsOf, OfReport, Part, Tells, item_rows}
+use Rattle.bt_talk.specs.Rows.{Shown, is_item}
+use Rattle.bt_capture.specs.Tellings.{ArePartsOf, OfBytes, OfReport, OfRows, Part, Tells, item_rows}
 use Rattle.bt_capture.specs.declared.connection.Connection.{Connection}
+use Rattle.bt_capture.specs.declared.connections.Losses.{Losses}
 use Rattle.bt_capture.specs.declared.connections.Run.{Run}
 use Rattle.bt_capture.specs.declared.ending.Form.{Form}
 use Rattle.bt_capture.specs.declared.pair.Pair.{Pair}
@@ -36,11 +41,11 @@ pub data Fate : Type 0 where
   Silent : Fate
   Lost : Fate
 
--- Why it is over: no segment between its ends follows; it had ended, by a RST or both FINs; there were too many at once; memory ran out; or this
--- segment between its ends, which follows, begins another.
+-- Why it is over: no segment between its ends follows; it had ended, by a RST or both FINs, which was four seconds ago at this packet; there were too
+-- many at once; memory ran out; or this segment between its ends, which follows, begins another.
 pub data Cause : Type 0 where
   Final : Cause
-  Ended : Cause
+  Ended : When → Cause
   Crowded : Cause
   Unknown : Cause
   Before : Arrival → Cause
@@ -53,8 +58,8 @@ pub record Finished : Type 0 where
   pub fate : Fate
   pub cause : Cause
 
--- Its opening was ended; nothing came.
-pub record IsEnded (a b : Past) (t t' : Talk) : Type 0 where
+-- Its opening was ended, if it wasn't over, and the turns of its marks came; else there are no more turns.
+pub record IsEnded (a b : Past) (t t' : Talk) (turns turns' : List Turn) : Type 0 where
   pub is : IsTalk a b t'
   pub flows : (side : Side) → flow_of side t' ≡ flow_of side t
   pub ends : ends_of t' ≡ ends_of t
@@ -62,6 +67,9 @@ pub record IsEnded (a b : Past) (t t' : Talk) : Type 0 where
   pub closing : closing_of t' ≡ closing_of t
   pub cuts : (side : Side) → cut_of side t' ≡ cut_of side t
   pub over : is_in_opening t' ≡ false
+  pub heard : HasHeard turns' a b t'
+  pub opened : is_in_opening t ≡ true → AreOpened (marks_of t) a b t' turns'
+  pub after : is_in_opening t ≡ false → turns' ≡ turns
 
 -- The report on the connection with this number says what was captured of both sides by these segments. The capture starts at the time `from`.
 pub record IsReported (terms : Terms) (from number : ℕ) (taken : List Arrival) (r : Report) : Type 0 where
@@ -72,14 +80,15 @@ pub record IsReported (terms : Terms) (from number : ℕ) (taken : List Arrival)
   pub last : Talk
   pub made : IsMadeOf terms first taken a b last
   pub talk : Talk
-  pub ended : IsEnded a b last talk
+  pub turns : List Turn
+  pub ended : IsEnded a b last talk made.turns turns
   pub left : Left
-  pub is : IsReportOf number from left a b talk r
+  pub is : IsReportOf number from left a b talk turns r
 
 -- how the connection was left, if it hasn't ended
 abbrev pub left_by : Cause → Left
 left_by Final = Open
-left_by Ended = Open
+left_by (Ended at) = Open
 left_by Crowded = Unread
 left_by Unknown = Open
 left_by (Before x) = Replaced
@@ -93,7 +102,7 @@ IsFate terms from number taken cause Lost = Unit {0}
 -- The connection is over for this reason.
 abbrev pub IsWhy : Cause → Past → Past → Talk → Type 0
 IsWhy Final a b t = Unit {0}
-IsWhy Ended a b t = is_some (closing_of t).over ≡ true
+IsWhy (Ended at) a b t = is_quiet (closing_of t).over at.nanos ≡ true
 IsWhy Crowded a b t = Unit {0}
 IsWhy Unknown a b t = ⊥
 IsWhy (Before x) a b t = Begins true x a b t
@@ -135,6 +144,27 @@ is_lost_by Lost = true
 abbrev pub count_lost : List Finished → ℕ
 count_lost fs = min (length (filter (λ f. is_lost_by f.fate) fs)) (2 ^ 64 - 1)
 
+abbrev pub is_crowded : Cause → Bool
+is_crowded Final = false
+is_crowded (Ended at) = false
+is_crowded Crowded = true
+is_crowded Unknown = false
+is_crowded (Before x) = false
+
+-- how many are over since there were too many at once, at most 2 ^ 64 - 1
+abbrev pub count_unread : List Finished → ℕ
+count_unread fs = min (length (filter (λ f. is_crowded f.cause) fs)) (2 ^ 64 - 1)
+
+-- how many weren't read to their end
+abbrev pub losses_of : List Finished → Losses
+losses_of fs = record { memory = count_lost fs; crowd = count_unread fs }
+
+-- one more that is told, and was left so
+abbrev pub with_left : Left → Losses → Losses
+with_left Open losses = losses
+with_left Unread losses = record { memory = losses.memory; crowd = min (losses.crowd + 1) (2 ^ 64 - 1) }
+with_left Replaced losses = losses
+
 -- ---- their numbers
 
 abbrev pub count_over : ℕ → List Finished → ℕ
@@ -167,7 +197,7 @@ pub record AreInOrder (place : ℕ → ℕ) (arrivals : List Arrival) (begun : �
 
 abbrev pub is_final : Cause → Bool
 is_final Final = true
-is_final Ended = false
+is_final (Ended at) = false
 is_final Crowded = false
 is_final Unknown = false
 is_final (Before x) = false
@@ -239,7 +269,7 @@ pub record IsShare (form : Form) (told : List ℕ) (terms : Terms) (arrivals : L
 -- These segments between its ends come after a connection that is over for this reason.
 abbrev pub IsParted : Cause → List Arrival → Type 0
 IsParted Final more = more ≡ []
-IsParted Ended more = Unit {0}
+IsParted (Ended at) more = All (λ x. IsEarlier at x.when.packet) more
 IsParted Crowded more = Unit {0}
 IsParted Unknown more = Unit {0}
 IsParted (Before x) [] = ⊥
@@ -278,11 +308,16 @@ pub record IsPart (ph : Phase) (arrivals : List Arrival) (fs : List Finished) (k
 abbrev pub AreParts : Phase → List Arrival → List Finished → Type 0
 AreParts ph arrivals fs = (k : Pair) → IsPart ph arrivals fs k
 
--- The connection between the ends p may be over for this reason.
-pub record MayEnd (ph : Phase) (cause : Cause) (p : Pair) (c : Connection) : Type 0 where
-  pub may_be : MayBe ph cause
-  pub parted : IsParted cause (coming ph p)
-  pub why : (a b : Past) → IsTalk a b c.talk → IsWhy cause a b c.talk
+-- A connection that had ended is over at one of these packets, and none of these segments came after that packet.
+abbrev pub IsTimelyBy : Clock → List Arrival → Cause → Type 0
+IsTimelyBy clock taken Final = Unit {0}
+IsTimelyBy clock taken (Ended at) = Contains clock.packets at × All (λ x. x.when.packet ≤ at.packet) taken
+IsTimelyBy clock taken Crowded = Unit {0}
+IsTimelyBy clock taken Unknown = Unit {0}
+IsTimelyBy clock taken (Before x) = Unit {0}
+
+abbrev pub IsTimely : Clock → Finished → Type 0
+IsTimely clock f = IsTimelyBy clock f.taken f.cause
 
 -- ---- the order of all connections
 
@@ -320,13 +355,13 @@ pub record IsAfterRows (number : ℕ) (r : Report) (parts : List Part) : Type 0 
 
 abbrev pub AreRowsBy : Form → List Part → Terms → (from number : ℕ) → List Arrival → Fate → Type 0
 AreRowsBy form parts terms from number taken (Reported r) =
-    (i : IsReported terms from number taken r) × AreShown (heading_of form number from) i.a i.b i.talk (item_rows number parts)
+    (i : IsReported terms from number taken r) × AreTurnRows (heading_of form number from) i.turns (item_rows number parts)
     × IsAfterRows number r parts
 AreRowsBy form parts terms from number taken Silent = item_rows number parts ≡ []
 AreRowsBy form parts terms from number taken Lost = Unit {0}
 
--- The rows of this connection among the parts show the items of both its sides: a row for each item of the streams of which the report tells,
--- those of a side in its order, all of them before the report. Nothing is said of a connection with which memory ran out.
+-- The rows of this connection among the parts show the items of its turns, those of both sides in the order in which they came, all of them before
+-- the report. Nothing is said of a connection with which memory ran out.
 abbrev pub AreRowsOf : Form → List Part → Terms → ℕ → Finished → Type 0
 AreRowsOf form parts terms from f = f.number < 2 ^ 64 - 1 → AreRowsBy form parts terms from f.number f.taken f.fate
 
@@ -361,6 +396,53 @@ pub record IsRowingTo (form : Form) (parts : List Part) (text : List ℕ) (terms
   pub own : IsShowing form parts terms from taken (x ∷ []) c
   pub others : (k : Pair) → same_pair k p ≡ false → IsRowShare form parts terms from arrivals fs k (lookup (same_pair k) es)
 
+-- ---- when parts are told
+
+-- These rows of items are of this packet. Or none came before of their connection, whose opening ended.
+abbrev pub AreOfPacket : ℕ → List Part → List Shown → Type 0
+AreOfPacket packet before items = All (λ s. s.packet ≡ packet) items ⊎ ((n : ℕ) × AreOf n items × (n < 2 ^ 64 - 1 → item_rows n before ≡ []))
+
+abbrev pub IsToldWith : ℕ → List Part → Part → Type 0
+IsToldWith packet before (OfReport r) = Unit {0}
+IsToldWith packet before (OfRows rows) = AreOfPacket packet before (filter is_item rows)
+IsToldWith packet before (OfBytes bytes) = Unit {0}
+
+-- The part at each place was told with the packet of this number, and none before one of an earlier packet. So many packets came.
+pub record AreTimed (packet : ℕ → ℕ) (number : ℕ) (parts : List Part) : Type 0 where
+  pub ascending : (m n : ℕ) → m < n → n < length parts → packet m ≤ packet n
+  pub within : (n : ℕ) → n < length parts → packet n ≤ number
+  pub told : (before after : List Part) (p : Part) → parts ≡ before ++ p ∷ after → IsToldWith (packet (length before)) before p
+
+-- A connection that had ended is told with the packet that shows that it is over, and one that another follows with the first segment of that.
+abbrev pub IsToldAt : Cause → ℕ → Type 0
+IsToldAt Final packet = Unit {0}
+IsToldAt (Ended at) packet = packet ≡ at.packet
+IsToldAt Crowded packet = Unit {0}
+IsToldAt Unknown packet = Unit {0}
+IsToldAt (Before x) packet = packet ≡ x.when.packet
+
+abbrev pub IsReportedAt : (ℕ → ℕ) → List Part → Cause → Fate → Type 0
+IsReportedAt packet parts cause (Reported r) =
+    (before : List Part) × (after : List Part) × (parts ≡ before ++ OfReport r ∷ after) × IsToldAt cause (packet (length before))
+IsReportedAt packet parts cause Silent = Unit {0}
+IsReportedAt packet parts cause Lost = Unit {0}
+
+abbrev pub IsReportedWith : (ℕ → ℕ) → List Part → Finished → Type 0
+IsReportedWith packet parts f = IsReportedAt packet parts f.cause f.fate
+
+-- These parts, and the reports on these connections, were told with packets of these numbers.
+pub record AreToldWith (packet : ℕ → ℕ) (number : ℕ) (parts : List Part) (fs : List Finished) : Type 0 where
+  pub timed : AreTimed packet number parts
+  pub reports : All (IsReportedWith packet parts) fs
+
+-- The connection between the ends p may be over for this reason. These packets and segments came.
+pub record MayEnd (ph : Phase) (clock : Clock) (came : List Arrival) (cause : Cause) (p : Pair) (c : Connection) : Type 0 where
+  pub may_be : MayBe ph cause
+  pub parted : IsParted cause (coming ph p)
+  pub why : (a b : Past) → IsTalk a b c.talk → IsWhy cause a b c.talk
+  pub timely : IsTimelyBy clock came cause
+  pub told_at : IsToldAt cause clock.number
+
 -- ---- what was handed out so far
 
 -- A connection with this number isn't over: it took the first of these segments between its ends, and these bytes of its side's stream were handed
@@ -392,7 +474,7 @@ told_by written run = written ++ run.teller.text.items
 pub record IsKnown (start now : TargetSeen) (fs : List Finished) (written : List ℕ) (run : Run) : Type 0 where
   pub tells : Tells start now run.teller (reports_of fs) written
   pub finished : All (IsFinished run.terms (unwrap_or run.start 0)) fs
-  pub lost : run.lost ≡ count_lost fs
+  pub lost : run.lost ≡ losses_of fs
 
 -- the stream that is told, or none
 abbrev pub Streams : List ℕ → List Finished → List (Pair × Held) → Run → Type 0
@@ -406,8 +488,10 @@ abbrev pub Rows : List Part → List ℕ → List Arrival → List Finished → 
 Rows parts written arrivals fs es run =
     IsRowing run.teller.form parts (told_by written run) run.terms (unwrap_or run.start 0) run.begun arrivals fs es
 
--- These segments were taken. These connections, no two of the same ends, aren't over, and the others are told. All of them have begun.
-pub record FollowsIn (ph : Phase) (start now : TargetSeen) (arrivals : List Arrival) (es : List (Pair × Held)) (run : Run) : Type 0 where
+-- These packets came, and these segments were taken. These connections, no two of the same ends, aren't over, and the others are told. All of them
+-- have begun.
+pub record FollowsIn (ph : Phase) (start now : TargetSeen) (clock : Clock) (arrivals : List Arrival) (es : List (Pair × Held)) (run : Run)
+    : Type 0 where
   pub fs : List Finished
   pub written : List ℕ
   pub known : IsKnown start now fs written run
@@ -420,29 +504,34 @@ pub record FollowsIn (ph : Phase) (start now : TargetSeen) (arrivals : List Arri
   pub parting : AreParts ph arrivals fs
   pub order : AreBegun arrivals fs es run.begun
   pub last : ComeLast ph fs es
+  pub timely : All (IsTimely clock) fs
+  pub packet : ℕ → ℕ
+  pub times : AreToldWith packet clock.number parts fs
 
 -- As FollowsIn, and the capture is still read.
-abbrev pub Follows : TargetSeen → TargetSeen → List Arrival → List (Pair × Held) → Run → Type 0
-Follows start now arrivals es run = FollowsIn During start now arrivals es run
+abbrev pub Follows : TargetSeen → TargetSeen → Clock → List Arrival → List (Pair × Held) → Run → Type 0
+Follows start now clock arrivals es run = FollowsIn During start now clock arrivals es run
 
--- These segments came. Connections are over and told, the others are given up.
-pub record Stops (start now : TargetSeen) (arrivals : List Arrival) (run : Run) : Type 0 where
+-- These packets and segments came. Connections are over and told, the others are given up.
+pub record Stops (start now : TargetSeen) (clock : Clock) (arrivals : List Arrival) (run : Run) : Type 0 where
   pub fs : List Finished
   pub written : List ℕ
   pub known : IsKnown start now fs written run
   pub so_far : IsStreamSoFar run.teller.form (told_by written run) run.terms (unwrap_or run.start 0) arrivals fs
   pub shared : (k : Pair) → (rest : List Arrival) × IsShared k arrivals fs rest
+  pub timely : All (IsTimely clock) fs
 
 -- after a step
-abbrev pub GoesIn : {T E : Type 0} → Phase → TargetSeen → TargetSeen → List Arrival → List (Pair × Held) → Run → Result T E → Type 0
-GoesIn ph start now arrivals es run (Ok x) = FollowsIn ph start now arrivals es run
-GoesIn ph start now arrivals es run (Err e) = Stops start now arrivals run
+abbrev pub GoesIn : {T E : Type 0} → Phase → TargetSeen → TargetSeen → Clock → List Arrival → List (Pair × Held) → Run → Result T E → Type 0
+GoesIn ph start now clock arrivals es run (Ok x) = FollowsIn ph start now clock arrivals es run
+GoesIn ph start now clock arrivals es run (Err e) = Stops start now clock arrivals run
 
-abbrev pub Goes : {T E : Type 0} → TargetSeen → TargetSeen → List Arrival → List (Pair × Held) → Run → Result T E → Type 0
-Goes start now arrivals es run r = GoesIn During start now arrivals es run r
+abbrev pub Goes : {T E : Type 0} → TargetSeen → TargetSeen → Clock → List Arrival → List (Pair × Held) → Run → Result T E → Type 0
+Goes start now clock arrivals es run r = GoesIn During start now clock arrivals es run r
 
 -- The next segment x is of this connection, which is not in the table.
-pub record Holds (start now : TargetSeen) (arrivals : List Arrival) (x : Arrival) (p : Pair) (c : Held) (es : List (Pair × Held)) (run : Run) : Type 0 where
+pub record Holds (start now : TargetSeen) (clock : Clock) (arrivals : List Arrival) (x : Arrival) (p : Pair) (c : Held) (es : List (Pair × Held))
+    (run : Run) : Type 0 where
   pub fs : List Finished
   pub written : List ℕ
   pub known : IsKnown start now fs written run
@@ -460,8 +549,11 @@ pub record Holds (start now : TargetSeen) (arrivals : List Arrival) (x : Arrival
   pub parting : AreParts (Coming p x) arrivals fs
   pub order : AreBegunTo arrivals fs x p c.value.number taken es run.begun
   pub last : AreNotFinal fs
+  pub timely : All (IsTimely clock) fs
+  pub packet : ℕ → ℕ
+  pub times : AreToldWith packet clock.number parts fs
 
 -- The connection of the next segment x was found or begun; or memory ran out.
-abbrev pub Finds : {E : Type 0} → TargetSeen → TargetSeen → List Arrival → Arrival → Pair → List (Pair × Held) → Run → Result Held E → Type 0
-Finds start now arrivals x p es run (Ok c) = Holds start now arrivals x p c es run
-Finds start now arrivals x p es run (Err e) = Stops start now arrivals run
+abbrev pub Finds : {E : Type 0} → TargetSeen → TargetSeen → Clock → List Arrival → Arrival → Pair → List (Pair × Held) → Run → Result Held E → Type 0
+Finds start now clock arrivals x p es run (Ok c) = Holds start now clock arrivals x p c es run
+Finds start now clock arrivals x p es run (Err e) = Stops start now clock arrivals run

@@ -13,7 +13,8 @@ use Rattle.bt_talk.specs.Pasts.{Past}
 use Rattle.bt_talk.specs.Receivers.{AreVerdicts, IsReceiverNow}
 use Rattle.bt_talk.specs.Closing.{high_at}
 use Rattle.bt_talk.specs.Cuts.{IsLastBefore}
-use Rattle.bt_talk.specs.Talks.{IsTalk, of_side, flow_of, cut_of, is_in_opening, terms_of, ends_of, closing_of}
+use Rattle.bt_talk.specs.Shown.{Turn, items_by, told_by}
+use Rattle.bt_talk.specs.Talks.{of_side, flow_of, cut_of, is_in_opening, terms_of, ends_of, closing_of}
 use Rattle.bt_talk.specs.Unanswered.{AreUnanswered}
 use Rattle.bt_talk.specs.Watching.{AreRemarked}
 use Rattle.bt_talk.specs.declared.talk.Talk.{Talk}
@@ -157,15 +158,15 @@ IsClosedBy from a b t (Some c) (Some r) = IsClosing from a b t c r
 abbrev pub no_remarks : Remarked
 no_remarks = record { unasked = None; choked = None; again = None; unanswered = None; elsewhere = None }
 
--- The remarks are those on a side's items, and its requests that got no answer.
-abbrev pub AreRemarksOn : Side → (a b : Past) (t : Talk) → IsTalk a b t → Remarked → Type 0
-AreRemarksOn side a b t i r =
-    AreRemarked side i.said.events (i.said.items side) r × AreUnanswered side a b t i.said.events (i.said.items side) r.unanswered
+-- The remarks are those on a side's items in these turns, and its requests that got no answer.
+abbrev pub AreRemarksOn : Side → Past → Past → Talk → List Turn → Remarked → Type 0
+AreRemarksOn side a b t turns r =
+    AreRemarked side (told_by turns) (items_by side turns) r × AreUnanswered side a b t (told_by turns) (items_by side turns) r.unanswered
 
 -- The remarks are those on what both sides sent; there are none if a side has no whole handshake.
-abbrev pub AreRemarksOf : Past → Past → Talk → Remarked → Remarked → Type 0
-AreRemarksOf a b t x y =
-    (HasReceiver A a b t × HasReceiver B a b t × (i : IsTalk a b t) × AreRemarksOn A a b t i x × AreRemarksOn B a b t i y)
+abbrev pub AreRemarksOf : Past → Past → Talk → List Turn → Remarked → Remarked → Type 0
+AreRemarksOf a b t turns x y =
+    (HasReceiver A a b t × HasReceiver B a b t × AreRemarksOn A a b t turns x × AreRemarksOn B a b t turns y)
     ⊎ ((x ≡ no_remarks) × (y ≡ no_remarks) × (IsReceiverOf A a b t None ⊎ IsReceiverOf B a b t None))
 
 -- A connection that has ended is complete.
@@ -174,15 +175,15 @@ left_after None left = left
 left_after (Some over) left = Open
 
 -- It is a BitTorrent connection if a side has begun a handshake.
-abbrev pub IsBodyOf : ℕ → Left → Past → Past → Talk → Body → Type 0
-IsBodyOf from left a b t body.NotBitTorrent = HasBegun a.front b.front false
-IsBodyOf from left a b t (body.Told r) =
+abbrev pub IsBodyOf : ℕ → Left → Past → Past → Talk → List Turn → Body → Type 0
+IsBodyOf from left a b t turns body.NotBitTorrent = HasBegun a.front b.front false
+IsBodyOf from left a b t turns (body.Told r) =
     HasBegun a.front b.front true × IsDirectionOf A a b t r.a × IsDirectionOf B a b t r.b × IsClosedBy from a b t (closing_of t).closed r.closed
-    × AreRemarksOf a b t r.remarked_a r.remarked_b × (r.left ≡ left_after (closing_of t).over left)
+    × AreRemarksOf a b t turns r.remarked_a r.remarked_b × (r.left ≡ left_after (closing_of t).over left)
 
--- The report says of the connection what was captured of both sides, and how it was left.
-pub record IsReportOf (n from : ℕ) (left : Left) (a b : Past) (t : Talk) (r : Report) : Type 0 where
+-- The report says of the connection what was captured of both sides, which had these turns, and how it was left.
+pub record IsReportOf (n from : ℕ) (left : Left) (a b : Past) (t : Talk) (turns : List Turn) (r : Report) : Type 0 where
   pub number : r.number ≡ n
   pub end_a : r.a ≡ (ends_of t).a
   pub end_b : r.b ≡ (ends_of t).b
-  pub body : IsBodyOf from left a b t r.body
+  pub body : IsBodyOf from left a b t turns r.body

@@ -1,6 +1,6 @@
 -- What was told of a capture.
 use Rattle.bt_talk.specs.declared.terms.Terms.{Terms}
-use Rattle.std.specs.Prelude.{◌≡◌, ◌⊎◌, ℕ, ◌-◌, ◌^◌, ◌<◌, ◌≤◌, ◌++◌, min, Bool, true, false, List, [], length, Option, Some, unwrap_or}
+use Rattle.std.specs.Prelude.{◌≡◌, ◌⊎◌, ℕ, ◌-◌, ◌^◌, ◌<◌, ◌≤◌, ◌++◌, min, List, [], length, Option, Some, unwrap_or}
 use Rattle.std.specs.Prelude.{Result, Ok, Err, if◌then◌else◌}
 use Rattle.std.specs.List.{All, Contains}
 use Rattle.std.specs.Io.KnownBytes.{Appends, Consumes}
@@ -12,15 +12,16 @@ use Rattle.bt_capture.specs.declared.ending.CaptureEnd.{CaptureEnd}
 use Rattle.bt_capture.specs.declared.ending.CaptureFault.{CaptureFault}
 use Rattle.bt_capture.specs.declared.ending.CaptureJob.{CaptureJob}
 use Rattle.bt_capture.specs.declared.ending.Form.{Form}
-use Rattle.bt_capture.specs.declared.ending.CaptureFault.TheVariants.{File, Read, Write, Memory, Turns}
-use Rattle.bt_capture.specs.declared.packets.FileEnd.{FileEnd}
-use Rattle.bt_capture.specs.declared.packets.FileEnd.TheVariants.{Whole, Cut}
+use Rattle.bt_capture.specs.declared.ending.CaptureFault.TheVariants.{Write, Memory, Turns}
+use Rattle.bt_capture.specs.declared.ending.Stop.{Stop}
+use Rattle.bt_capture.specs.declared.ending.Stop.TheVariants.{File, Read, Fault}
 use Rattle.bt_capture.specs.declared.pair.Pair.{Pair}
-use Rattle.bt_capture.specs.Arrivals.{Arrival, arrivals, count_skipped, first_time}
-use Rattle.bt_capture.specs.Ends.{IsBroken, IsEnded}
-use Rattle.bt_capture.specs.Following.{AreInOrder, AreLast, AreParted, AreRowsOf, Finished, IsFinished, IsSentBy, IsShared, IsStreamOf}
-use Rattle.bt_capture.specs.Following.{Phase, During, IsStreamSoFar, AreNumbered, FollowsIn, between, reports_of, count_lost}
-use Rattle.bt_capture.specs.Readings.{Reading, IsReading, Waits}
+use Rattle.bt_capture.specs.Arrivals.{Arrival, arrivals, clock_of, count_skipped, first_time}
+use Rattle.bt_capture.specs.Ends.{HasEndedSo}
+use Rattle.bt_capture.specs.Following.{AreInOrder, AreLast, AreParted, AreRowsOf, Finished, IsFinished, IsSentBy, IsShared, IsStreamOf, IsTimely}
+use Rattle.bt_capture.specs.Following.{AreParts, AreToldWith, Phase, During, IsStreamSoFar, AreNumbered, FollowsIn, between, reports_of}
+use Rattle.bt_capture.specs.Following.{count_lost, count_unread}
+use Rattle.bt_capture.specs.Readings.{Reading, IsReading}
 use Rattle.bt_capture.specs.Tables.{Held}
 use Rattle.bt_utp.specs.Flows.{flows}
 use Rattle.bt_utp.specs.States.{AreCounted}
@@ -61,7 +62,7 @@ pub record IsTellingIn (ph : Phase) (o : Origin) (left : Option (List ℕ)) (now
   pub terms : run.terms ≡ o.terms
   pub form : run.teller.form ≡ o.form
   pub time : run.start ≡ first_time packets
-  pub follows : FollowsIn ph o.target now (arrivals packets) es run
+  pub follows : FollowsIn ph o.target now (clock_of packets) (arrivals packets) es run
   pub utp : AreCounted (datagrams packets) run.utp
   pub skipped : run.skipped ≡ count_skipped packets
 
@@ -71,13 +72,16 @@ IsTelling o left now es run r = IsTellingIn During o left now es run r
 
 -- ---- at its end
 
--- The connections that are over, each with its segments among those of the packets, in order, except the rest.
+-- The connections that are over, each with its segments among those of the packets, in order, except the rest. Each that had ended was told at one
+-- of the packets.
 pub record AreOver (o : Origin) (packets : List Captured) (fs : List Finished) : Type 0 where
   pub finished : All (IsFinished o.terms (unwrap_or (first_time packets) 0)) fs
   pub shared : (k : Pair) → (rest : List Arrival) × IsShared k (arrivals packets) fs rest
+  pub timely : All (IsTimely (clock_of packets)) fs
 
 -- All connections are over: each segment of the packets was taken by one of them, and each has its number, in the order in which they began. Of
--- those between the same ends each is over for a reason, and those that come after it took the segments that follow.
+-- those between the same ends each is over for a reason, and those that come after it took the segments that follow. Each that had ended was told
+-- at one of the packets.
 pub record AreAllOver (o : Origin) (packets : List Captured) (fs : List Finished) : Type 0 where
   pub finished : All (IsFinished o.terms (unwrap_or (first_time packets) 0)) fs
   pub numbered : AreNumbered (length fs) fs []
@@ -86,6 +90,7 @@ pub record AreAllOver (o : Origin) (packets : List Captured) (fs : List Finished
   pub place : ℕ → ℕ
   pub order : AreInOrder place (arrivals packets) (min (length fs) (2 ^ 64 - 1)) fs
   pub last : AreLast fs []
+  pub timely : All (IsTimely (clock_of packets)) fs
 
 -- If a stream is told, the text is that of the asked side of the connection with the asked number, if there is a report on that. It is empty
 -- if no connection has the number.
@@ -94,16 +99,14 @@ pub record IsStreamTold (o : Origin) (packets : List Captured) (fs : List Finish
   pub untold : (n : ℕ) → absent_from o.form (length fs) ≡ Some n → n < 2 ^ 64 - 1 → text ≡ []
 
 -- The text is made of these parts: the reports, and rows. The rows of each connection with a report show the items of both its sides; no row
--- is of a connection that hasn't begun. Rows have no text if they aren't asked for.
+-- is of a connection that hasn't begun. Rows have no text if they aren't asked for. Each part was told with a packet, in the order of the packets.
 pub record AreRowsTold (o : Origin) (packets : List Captured) (fs : List Finished) (text : List ℕ) : Type 0 where
   pub parts : List Part
   pub parts_are : ArePartsOf o.form (reports_of fs) text parts
   pub rows : All (AreRowsOf o.form parts o.terms (unwrap_or (first_time packets) 0)) fs
   pub none : (n : ℕ) → length fs ≤ n → n < 2 ^ 64 - 1 → item_rows n parts ≡ []
-
-abbrev pub is_cut_by : FileEnd → Bool
-is_cut_by Whole = false
-is_cut_by Cut = true
+  pub packet : ℕ → ℕ
+  pub times : AreToldWith packet (clock_of packets).number parts fs
 
 -- the lines on packets of uTP; none if only a stream is told
 abbrev pub utp_text : Form → List Utp → List ℕ
@@ -113,16 +116,13 @@ utp_text form ds = if is_stream form then [] else flow_texts form.json (flows ds
 abbrev pub utp_lines : Form → List Captured → List ℕ
 utp_lines form packets = utp_text form (datagrams packets)
 
--- The file was read to its end, and none of what is left can be taken. What was written are the texts of the reports on all its connections,
--- in order, with rows between them, and after them the lines on uTP; or the stream of one side of a connection. The reports add up to this.
+-- The file was read up to where this ending says. What was written are the texts of the reports on all connections of what was read, in order,
+-- with rows between them, and after them the lines on uTP; or the stream of one side of a connection. The reports add up to this.
 pub record IsEndOf (o : Origin) (left : Option (List ℕ)) (now : TargetSeen) (end : CaptureEnd) : Type 0 where
   pub packets : List Captured
   pub r : Reading
   pub read : HasRead o left packets r
-  pub waits : Waits r
-  pub file_end : FileEnd
-  pub ended : IsEnded r (Ok file_end)
-  pub cut : end.is_cut ≡ is_cut_by file_end
+  pub ended : HasEndedSo end.ending r
   pub count : end.packets ≡ min (length packets) (2 ^ 64 - 1)
   pub skipped : end.skipped ≡ count_skipped packets
   pub fs : List Finished
@@ -136,6 +136,7 @@ pub record IsEndOf (o : Origin) (left : Option (List ℕ)) (now : TargetSeen) (e
   pub torrents : end.torrents ≡ count_torrents (reports_of fs)
   pub refused : end.is_refused ≡ is_one_refused (reports_of fs)
   pub lost : end.lost ≡ count_lost fs
+  pub unread : end.unread ≡ count_unread fs
   pub absent : end.absent ≡ absent_from o.form (min (length fs) (2 ^ 64 - 1))
 
 -- No connection has the number, and nothing is written. Or one has it: it has no report, or the side's stream is written, and nothing else.
@@ -143,20 +144,6 @@ abbrev pub IsOnlyStream : (o : Origin) → TargetSeen → CaptureEnd → List Ca
 IsOnlyStream o now end packets fs n side = (bytes : List ℕ) × Appends o.target.held now.held bytes
     × (((end.absent ≡ Some n) × (bytes ≡ []))
     ⊎ ((f : Finished) × Contains fs f × (f.number ≡ n) × IsStreamOf side bytes o.terms (unwrap_or (first_time packets) 0) f))
-
--- The texts of the reports on all connections of what was read are written, and the lines on uTP. This is why no more was read.
-pub record AreWritten (Why : Reading → Type 0) (o : Origin) (left : Option (List ℕ)) (now : TargetSeen) : Type 0 where
-  pub packets : List Captured
-  pub r : Reading
-  pub read : HasRead o left packets r
-  pub why : Why r
-  pub fs : List Finished
-  pub over : AreAllOver o packets fs
-  pub text : List ℕ
-  pub texts_are : AreTexts o.form (reports_of fs) text
-  pub stream : IsStreamTold o packets fs text
-  pub rows : AreRowsTold o packets fs text
-  pub written : Appends o.target.held now.held (text ++ utp_lines o.form packets)
 
 abbrev pub StreamsSoFar : Origin → List Captured → List Finished → List ℕ → Type 0
 StreamsSoFar o packets fs text = IsStreamSoFar o.form text o.terms (unwrap_or (first_time packets) 0) (arrivals packets) fs
@@ -180,6 +167,21 @@ pub record ArePartlyWritten (o : Origin) (left : Option (List ℕ)) (now : Targe
   pub stream : StreamsSoFar o packets fs text
   pub front : AppendsPrefix o.target.held now.held (text ++ lines)
 
+-- The text is made of these parts: reports on connections that are over, and rows, also of others. So many have begun, each after those of lower
+-- numbers, and of those between the same ends the later ones took the segments that follow. Each part was told with a packet, in their order.
+pub record AreToldSoFar (o : Origin) (packets : List Captured) (fs : List Finished) (text : List ℕ) : Type 0 where
+  pub begun : ℕ
+  pub place : ℕ → ℕ
+  pub order : AreInOrder place (arrivals packets) begun fs
+  pub phase : Phase
+  pub parting : AreParts phase (arrivals packets) fs
+  pub parts : List Part
+  pub parts_are : ArePartsOf o.form (reports_of fs) text parts
+  pub rows : All (AreRowsOf o.form parts o.terms (unwrap_or (first_time packets) 0)) fs
+  pub none : (n : ℕ) → begun ≤ n → n < 2 ^ 64 - 1 → item_rows n parts ≡ []
+  pub packet : ℕ → ℕ
+  pub times : AreToldWith packet (clock_of packets).number parts fs
+
 -- A write failed: the first part of the texts is written, or all of them and the first part of the lines on uTP. If a stream is told it is
 -- the first part of that.
 pub record IsLeft (o : Origin) (left : Option (List ℕ)) (now : TargetSeen) : Type 0 where
@@ -195,58 +197,41 @@ pub record IsLeft (o : Origin) (left : Option (List ℕ)) (now : TargetSeen) : T
   pub stream : StreamsSoFar o packets fs text
   pub front : AppendsPrefix o.target.held now.held (text ++ lines)
   pub failed : WriteFailed o.target now
+  pub told : AreToldSoFar o packets fs text
 
 abbrev pub IsToldTo : CaptureFault → Origin → Option (List ℕ) → TargetSeen → Type 0
 IsToldTo Write o left now = IsLeft o left now
-IsToldTo (File f) o left now = AreWritten (IsBroken f) o left now
-IsToldTo Read o left now = AreWritten Waits o left now
 IsToldTo Memory o left now = ArePartlyWritten o left now
 IsToldTo Turns o left now = ArePartlyWritten o left now
 
 -- What is written are the texts of the reports on the connections of the packets that were read, with rows between them, and the lines on
--- their packets of uTP: all of them at the end, and when the file can't be read on.
+-- their packets of uTP: all of them where reading ended, and else the first part.
 abbrev pub IsTold : Origin → Option (List ℕ) → TargetSeen → Result CaptureEnd CaptureFault → Type 0
 IsTold o left now (Ok end) = IsEndOf o left now end
 IsTold o left now (Err f) = IsToldTo f o left now
 
 -- ---- after a step
 
--- After a failed write or without memory no more is told. What can't be read on leaves the connections as they are.
-abbrev pub AfterFault : CaptureFault → Phase → Origin → Option (List ℕ) → TargetSeen → List (Pair × Held) → Run → Reading → Type 0
-AfterFault Write ph o left now es run r = IsLeft o left now
-AfterFault (File f) ph o left now es run r = IsTellingIn ph o left now es run r
-AfterFault Read ph o left now es run r = IsTellingIn ph o left now es run r
-AfterFault Memory ph o left now es run r = ArePartlyWritten o left now
-AfterFault Turns ph o left now es run r = ArePartlyWritten o left now
-
+-- After a fault no more is told.
 abbrev pub IsAfterIn : {T : Type 0} → Phase → Origin → Option (List ℕ) → TargetSeen → List (Pair × Held) → Run → Reading → Result T CaptureFault → Type 0
 IsAfterIn ph o left now es run r (Ok x) = IsTellingIn ph o left now es run r
-IsAfterIn ph o left now es run r (Err f) = AfterFault f ph o left now es run r
+IsAfterIn ph o left now es run r (Err f) = IsToldTo f o left now
 
-abbrev pub IsAfter : {T : Type 0} → Origin → Option (List ℕ) → TargetSeen → List (Pair × Held) → Run → Reading → Result T CaptureFault → Type 0
-IsAfter o left now es run r x = IsAfterIn During o left now es run r x
+-- What can't be read on leaves the connections as they are.
+abbrev pub AfterStop : Stop → Origin → Option (List ℕ) → TargetSeen → List (Pair × Held) → Run → Reading → Type 0
+AfterStop (File f) o left now es run r = IsTelling o left now es run r
+AfterStop Read o left now es run r = IsTelling o left now es run r
+AfterStop (Fault f) o left now es run r = IsToldTo f o left now
 
-abbrev pub IsOfTelling : CaptureFault → Type 0
-IsOfTelling Write = Unit {0}
-IsOfTelling Memory = Unit {0}
-IsOfTelling (File f) = ⊥
-IsOfTelling Read = ⊥
-IsOfTelling Turns = ⊥
-
-abbrev pub IsOfReading : CaptureFault → Type 0
-IsOfReading Write = ⊥
-IsOfReading Memory = ⊥
-IsOfReading (File f) = Unit {0}
-IsOfReading Read = Unit {0}
-IsOfReading Turns = ⊥
+abbrev pub IsAfter : {T : Type 0} → Origin → Option (List ℕ) → TargetSeen → List (Pair × Held) → Run → Reading → Result T Stop → Type 0
+IsAfter o left now es run r (Ok x) = IsTelling o left now es run r
+IsAfter o left now es run r (Err s) = AfterStop s o left now es run r
 
 -- These bytes were written; or a write failed, and the first part was; or memory ran out, and nothing was.
 abbrev pub Adds : {T : Type 0} → List ℕ → TargetSeen → TargetSeen → Result T CaptureFault → Type 0
 Adds bytes before now (Ok x) = Appends before.held now.held bytes × (now.failed ≡ before.failed)
 Adds bytes before now (Err Write) = AppendsPrefix before.held now.held bytes × WriteFailed before now
 Adds bytes before now (Err Memory) = now ≡ before
-Adds bytes before now (Err (File f)) = ⊥
-Adds bytes before now (Err Read) = ⊥
 Adds bytes before now (Err Turns) = ⊥
 
 -- It was done.

@@ -31,4 +31,4 @@ IsWhole side sent terms taken c = (m : IsMade terms taken [] c.talk) × IsSent f
 pub record IsSentOff (side : Side) (sent : List ℕ) (terms : Terms) (taken : List Arrival) (c : Connection) (old new : Run) : Type 0 where
   pub more : List ℕ
   pub text : new.teller.text.items ≡ old.teller.text.items ++ more
-  pub whole : (new.lost ≡ min (old.lost + 1) (2 ^ 64 - 1)) ⊎ IsWhole side (sent ++ more) terms taken c
+  pub whole : (new.lost.memory ≡ min (old.lost.memory + 1) (2 ^ 64 - 1)) ⊎ IsWhole side (sent ++ more) terms taken c

@@ -1,8 +1,9 @@
 -- Connections by their ends.
-use Rattle.std.specs.Prelude.{◌≡◌, Bool, true, List, Some, is_some, Box}
+use Rattle.std.specs.Prelude.{◌≡◌, ℕ, Bool, true, List, Some, Box}
 use Rattle.std.specs.declared.alloc.Global.{Global}
 use Rattle.std.specs.List.{IsDistinct}
 use Rattle.std.specs.Map.{keys_of, lookup}
+use Rattle.bt_talk.specs.Closing.{is_quiet}
 use Rattle.bt_talk.specs.Talks.{closing_of}
 use Rattle.bt_capture.specs.declared.pair.Pair.{Pair}
 use Rattle.bt_capture.specs.declared.connection.Connection.{Connection}
@@ -20,6 +21,6 @@ IsApart es = IsDistinct same_pair (keys_of es)
 abbrev pub Held : Type 0
 Held = Box Connection Global
 
--- The connection between these ends, if there is one, has ended.
-abbrev pub HasEnded : Pair → List (Pair × Held) → Type 0
-HasEnded p es = (c : Held) → lookup (same_pair p) es ≡ Some c → is_some (closing_of c.value.talk).over ≡ true
+-- The connection between these ends, if there is one, has ended, and no segment of it came in the four seconds before this time.
+abbrev pub IsQuiet : Pair → ℕ → List (Pair × Held) → Type 0
+IsQuiet p nanos es = (c : Held) → lookup (same_pair p) es ≡ Some c → is_quiet (closing_of c.value.talk).over nanos ≡ true

@@ -8,7 +8,8 @@ use Rattle.bt_told.specs.Objects.{report_object}
 use Rattle.bt_told.specs.Reports.{report_text}
 use Rattle.bt_talk.specs.Rows.{Shown, is_item, shown_texts}
 use Rattle.bt_talk.specs.Pasts.{Past}
-use Rattle.bt_talk.specs.Talks.{IsTalk}
+use Rattle.bt_talk.specs.Shown.{Turn}
+use Rattle.bt_talk.specs.Talks.{HasHeard, IsTalk}
 use Rattle.bt_talk.specs.declared.talk.Talk.{Talk}
 use Rattle.bt_told.specs.declared.finding.Finding.{Finding}
 use Rattle.bt_told.specs.declared.finding.Finding.TheVariants as finding
@@ -125,14 +126,14 @@ TellsOn t t' = (start now : TargetSeen) (reports : List Report) (written : List 
 -- One report more is told: on the connection with this number, in a capture that starts at this time. The same bytes are written.
 abbrev pub Says : Teller → Teller → (number from : ℕ) → Left → Talk → Type 0
 Says t t' number from left talk =
-    (r : Report) × ((a b : Past) → IsTalk a b talk → IsReportOf number from left a b talk r)
+    (r : Report) × ((a b : Past) (turns : List Turn) → IsTalk a b talk → HasHeard turns a b talk → IsReportOf number from left a b talk turns r)
     × ((start now : TargetSeen) (reports : List Report) (written : List ℕ) → Tells start now t reports written → Tells start now t' (reports ++ r ∷ []) written)
     × (t'.text.items ≡ t.text.items ++ report_by t.form r)
 
 -- As Says. These bytes of a stream are told first, then these rows and others, which show no item, and then the report.
 abbrev pub SaysAfter : Teller → Teller → (number from : ℕ) → Left → Talk → List ℕ → List Shown → Type 0
 SaysAfter t t' number from left talk bytes rows =
-    (r : Report) × ((a b : Past) → IsTalk a b talk → IsReportOf number from left a b talk r)
+    (r : Report) × ((a b : Past) (turns : List Turn) → IsTalk a b talk → HasHeard turns a b talk → IsReportOf number from left a b talk turns r)
     × ((start now : TargetSeen) (reports : List Report) (written : List ℕ) → Tells start now t reports written → Tells start now t' (reports ++ r ∷ []) written)
     × (others : List Shown) × (filter is_item others ≡ [])
     × (t'.text.items ≡ t.text.items ++ ((bytes ++ shown_texts (showing_by t.form) (rows ++ others)) ++ report_by t.form r))

@@ -1,12 +1,13 @@
 //! The connections of a capture, and the reports of those that are over.
 ghost use Rattle.std.specs.Prelude.{◌≡◌, ◌∷◌, ◌++◌, [], ◌+◌, ◌-◌, ◌^◌, ◌<◌, ◌≤◌, min, ℕ, List, length, false, true, None, Some, unwrap_or, IfOk, OnOk, OnErr};
 ghost use Rattle.std.specs.Map.{lookup};
+ghost use Rattle.std.specs.List.{All, Contains};
 ghost use Rattle.std.specs.List.Sorted.{IsNonDecreasing, IsPermutation};
 ghost use Rattle.bt_io.specs.Counts.{counted as counted_if, one_more};
 ghost use Rattle.bt_io.specs.Seen.{TargetSeen};
 ghost use Rattle.bt_pcap.specs.Formats.{Captured};
 ghost use Rattle.bt_pcap.specs.Steps.{captured};
-ghost use Rattle.bt_capture.specs.Arrivals.{Arrival, arrived, arrivals, arrivals_in, count_skipped, first_time, is_no_segment};
+ghost use Rattle.bt_capture.specs.Arrivals.{AreEarlier, Arrival, Clock, arrived, arrivals, arrivals_in, clock_of, count_skipped, first_time, is_no_segment};
 ghost use Rattle.bt_utp.specs.States.{AreCounted};
 ghost use Rattle.bt_packet.specs.declared.utp.Utp.{Utp};
 ghost use Rattle.bt_capture.specs.FlowTexts.{datagrams, datagrams_in};
@@ -21,11 +22,11 @@ ghost use Rattle.bt_capture.specs.Sending.{HasSent, IsSentOff};
 ghost use Rattle.bt_capture.specs.Rowed.{HasShown, ShowsOn, heading_of};
 ghost use Rattle.bt_capture.specs.Forms.{absent_from, handed, is_stream, showing_by, wanted_by};
 ghost use Rattle.bt_capture.specs.Bounds.{IsBounded, IsCounted};
-ghost use Rattle.bt_capture.specs.Following.{Phase, Coming, Cause, FollowsIn, GoesIn, Follows, Goes, Finds, MayEnd, left_by, numbers};
+ghost use Rattle.bt_capture.specs.Following.{Phase, Coming, Cause, FollowsIn, GoesIn, Follows, Goes, Finds, MayEnd, left_by, numbers, with_left};
 ghost use Rattle.bt_capture.specs.Tellings.{TellsOn};
 ghost use Rattle.bt_capture.specs.Runs.{utp_text};
 ghost use Rattle.bt_capture.specs.Sights.{seen};
-ghost use Rattle.bt_capture.specs.Tables.{Held, HasEnded, same_pair, IsApart};
+ghost use Rattle.bt_capture.specs.Tables.{Held, IsQuiet, same_pair, IsApart};
 ghost use Rattle.bt_capture.specs.declared.pair.Pair.{Pair};
 
 use crate::connection::Connection;
@@ -67,6 +68,41 @@ fn begins_another(talk: &Talk, segment: &Segment, when: When) -> bool
     talk.opens_again(segment)
 }
 
+/// How many connections weren't read to their end.
+#[derive(Clone, Copy, PartialEq, Eq, Debug)]
+pub struct Losses {
+    /// Memory ran out with them.
+    pub memory: u64,
+    /// There were too many at once.
+    pub crowd: u64,
+}
+
+impl Losses {
+    /// Returns these and a connection that was left so.
+    fn with(self, left: Left) -> Losses
+        ensures { result ≡ with_left left self }
+    {
+        match left {
+            Left::Unread => Losses {
+                memory: self.memory,
+                crowd: self.crowd.saturating_add(1),
+            },
+            Left::Open | Left::Replaced => self,
+        }
+    }
+
+    /// Returns these and a connection that was left so, if it was told.
+    fn with_told(self, told: &Result<(), AllocError>, left: Left) -> Losses
+        ensures some { OnOk told.now (result ≡ with_left left self) }
+        ensures none { OnErr told.now (result ≡ self) }
+    {
+        match told {
+            Ok(()) => self.with(left),
+            Err(_) => self,
+        }
+    }
+}
+
 /// The connections of a capture, and what is told of them.
 #[derive(Drop)]
 pub struct Run {
@@ -86,7 +122,7 @@ pub struct Run {
     utp: UtpFlows,
     room: Room,
     pub skipped: u64,
-    pub lost: u64,
+    pub lost: Losses,
 }
 
 impl Run {
@@ -100,7 +136,7 @@ impl Run {
         terms: Terms,
         form: Form,
     ) -> Result<Run, AllocError>
-        ensures follows { IfOk result (λ run. (start : TargetSeen) → Follows start start [] run.table run) }
+        ensures follows { IfOk result (λ run. (start : TargetSeen) → Follows start start (clock_of []) [] run.table run) }
         ensures start { IfOk result (λ run. run.start ≡ None) }
         ensures terms { IfOk result (λ run. run.terms ≡ terms) }
         ensures form { IfOk result (λ run. run.teller.form ≡ form) }
@@ -120,7 +156,10 @@ impl Run {
             utp: UtpFlows::new(alloc),
             room: Room::new(alloc),
             skipped: 0,
-            lost: 0,
+            lost: Losses {
+                memory: 0,
+                crowd: 0,
+            },
         })
     }
 
@@ -131,9 +170,9 @@ impl Run {
     /// # Errors
     /// `AllocError` when out of memory. The connection isn't told then.
     pub fn report(&mut self, mut connection: Box<Connection>, left: Left) -> Result<(), AllocError>
-        ensures goes { (ph : Phase) (start now : TargetSeen) (came : List Arrival) (p : Pair) (es : List (Pair × Held)) (cause : Cause)
-            → lookup (same_pair p) es ≡ None → MayEnd ph cause p connection.value → left ≡ left_by cause
-            → FollowsIn ph start now came ((p, connection) ∷ es) self.old → GoesIn ph start now came es self.new result }
+        ensures goes { (ph : Phase) (start now : TargetSeen) (clock : Clock) (came : List Arrival) (p : Pair) (es : List (Pair × Held)) (cause : Cause)
+            → lookup (same_pair p) es ≡ None → MayEnd ph clock came cause p connection.value → left ≡ left_by cause
+            → FollowsIn ph start now clock came ((p, connection) ∷ es) self.old → GoesIn ph start now clock came es self.new result }
         ensures sent { OnOk result ((terms : Terms) (taken : List Arrival) (side : Side) (sent : List ℕ) → connection.value.has_payload ≡ true
             → wanted_by self.old.teller.form connection.value.number ≡ Some side → is_lost connection.value.talk ≡ false
             → HasSent side sent terms taken [] connection.value → IsSentOff side sent terms taken connection.value self.old self.new) }
@@ -148,6 +187,7 @@ impl Run {
         ensures skipped { self.new.skipped ≡ self.old.skipped }
     {
         if connection.is_silent() {
+            self.lost = self.lost.with(left);
             return Ok(());
         }
         let from = self.start.unwrap_or(0);
@@ -155,15 +195,19 @@ impl Run {
         self.room
             .turn_to(self.teller.showing(), connection.number, from, wanted);
         match connection.talk.end_opening(&mut self.room) {
-            Ok(()) => self.teller.report(
-                &connection.talk,
-                connection.number,
-                from,
-                left,
-                &mut self.room,
-            ),
+            Ok(()) => {
+                let told = self.teller.report(
+                    &connection.talk,
+                    connection.number,
+                    from,
+                    left,
+                    &mut self.room,
+                );
+                self.lost = self.lost.with_told(&told, left);
+                told
+            }
             Err(_) => {
-                self.lost = self.lost.saturating_add(1);
+                self.lost.memory = self.lost.memory.saturating_add(1);
                 Ok(())
             }
         }
@@ -171,8 +215,8 @@ impl Run {
 
     /// Ends the connection that was used least recently, if there is one.
     fn end_oldest(&mut self) -> Result<(), AllocError>
-        ensures goes { (start now : TargetSeen) (came : List Arrival) → Follows start now came self.old.table self.old
-            → Goes start now came self.new.table self.new result }
+        ensures goes { (start now : TargetSeen) (clock : Clock) (came : List Arrival) → Follows start now clock came self.old.table self.old
+            → Goes start now clock came self.new.table self.new result }
         ensures shorter { 0 < length self.old.table → length self.new.table < length self.old.table }
         ensures counted { IsCounted self.old → IsCounted self.new }
         ensures terms { self.new.terms ≡ self.old.terms }
@@ -202,8 +246,8 @@ impl Run {
     ///
     /// The one that was used least recently is the first.
     fn shrink(&mut self) -> Result<(), AllocError>
-        ensures goes { (start now : TargetSeen) (came : List Arrival) → Follows start now came self.old.table self.old
-            → Goes start now came self.new.table self.new result }
+        ensures goes { (start now : TargetSeen) (clock : Clock) (came : List Arrival) → Follows start now clock came self.old.table self.old
+            → Goes start now clock came self.new.table self.new result }
         ensures bounded { OnOk result (IsCounted self.old → IsBounded self.new) }
         ensures terms { self.new.terms ≡ self.old.terms }
         ensures form { self.new.teller.form ≡ self.old.teller.form }
@@ -226,8 +270,8 @@ impl Run {
     /// `AllocError` when out of memory.
     fn put(&mut self, pair: Pair, connection: Box<Connection>) -> Result<(), AllocError>
         requires { lookup (same_pair pair) self.old.table ≡ None }
-        ensures goes { (start now : TargetSeen) (came : List Arrival) → Follows start now came ((pair, connection) ∷ self.old.table) self.old
-            → Goes start now came self.new.table self.new result }
+        ensures goes { (start now : TargetSeen) (clock : Clock) (came : List Arrival)
+            → Follows start now clock came ((pair, connection) ∷ self.old.table) self.old → Goes start now clock came self.new.table self.new result }
         ensures bounded { OnOk result (IsBounded self.old → IsBounded self.new) }
         ensures terms { self.new.terms ≡ self.old.terms }
         ensures form { self.new.teller.form ≡ self.old.teller.form }
@@ -244,8 +288,9 @@ impl Run {
 
     /// Begins the connection of a segment.
     fn begin(&mut self, segment: &Segment) -> Result<Box<Connection>, AllocError>
-        ensures finds { (start now : TargetSeen) (came : List Arrival) (when : When) (p : Pair) (es : List (Pair × Held)) → lookup (same_pair p) es ≡ None
-            → let x = arrived segment.now when in FollowsIn (Coming p x) start now came es self.old → Finds start now came x p es self.new result }
+        ensures finds { (start now : TargetSeen) (clock : Clock) (came : List Arrival) (when : When) (p : Pair) (es : List (Pair × Held))
+            → lookup (same_pair p) es ≡ None → let x = arrived segment.now when in FollowsIn (Coming p x) start now clock came es self.old
+            → Finds start now clock came x p es self.new result }
         ensures number { IfOk result (λ c. c.value.number ≡ self.old.begun) }
         ensures sent { IfOk result (λ c. (when : When) (side : Side) → HasSent side [] self.old.terms [] (arrived segment.now when ∷ []) c.value) }
         ensures table { self.new.table ≡ self.old.table }
@@ -273,8 +318,10 @@ impl Run {
         segment: &Segment,
         when: When,
     ) -> Result<Box<Connection>, AllocError>
-        ensures finds { (start now : TargetSeen) (came : List Arrival) (p : Pair) (es : List (Pair × Held)) → lookup (same_pair p) es ≡ None
-            → Follows start now came ((p, connection) ∷ es) self.old → Finds start now came (arrived segment.now when) p es self.new result }
+        ensures finds { (start now : TargetSeen) (clock : Clock) (came : List Arrival) (p : Pair) (es : List (Pair × Held))
+            → lookup (same_pair p) es ≡ None → AreEarlier clock when.packet → when.packet ≡ clock.number
+            → Follows start now clock came ((p, connection) ∷ es) self.old
+            → Finds start now clock came (arrived segment.now when) p es self.new result }
         ensures table { self.new.table ≡ self.old.table }
         ensures bytes { self.new.bytes ≡ self.old.bytes }
         ensures terms { self.new.terms ≡ self.old.terms }
@@ -299,8 +346,8 @@ impl Run {
         segment: &Segment,
         when: When,
     ) -> Result<Box<Connection>, AllocError>
-        ensures finds { (start now : TargetSeen) (came : List Arrival) → Follows start now came self.old.table self.old
-            → Finds start now came (arrived segment.now when) pair self.new.table self.new result }
+        ensures finds { (start now : TargetSeen) (clock : Clock) (came : List Arrival) → AreEarlier clock when.packet → when.packet ≡ clock.number
+            → Follows start now clock came self.old.table self.old → Finds start now clock came (arrived segment.now when) pair self.new.table self.new result }
         ensures absent { lookup (same_pair pair) self.new.table ≡ None }
         ensures bounded { IsBounded self.old → IsBounded self.new }
         ensures terms { self.new.terms ≡ self.old.terms }
@@ -366,10 +413,11 @@ impl Run {
         self.teller.show(connection.number, &self.room)
     }
 
-    /// Ends the connection of these ends, which has ended, if there is one.
+    /// Ends the connection of these ends, which is over, if there is one.
     fn end(&mut self, pair: Pair) -> Result<(), AllocError>
-        ensures goes { (start now : TargetSeen) (came : List Arrival) → HasEnded pair self.old.table → Follows start now came self.old.table self.old
-            → Goes start now came self.new.table self.new result }
+        ensures goes { (start now : TargetSeen) (clock : Clock) (came : List Arrival) (at : When) → IsQuiet pair at.nanos self.old.table
+            → Contains clock.packets at → at.packet ≡ clock.number → All (λ x. x.when.packet ≤ at.packet) came → Follows start now clock came self.old.table self.old
+            → Goes start now clock came self.new.table self.new result }
         ensures bounded { IsBounded self.old → IsBounded self.new }
         ensures terms { self.new.terms ≡ self.old.terms }
         ensures form { self.new.teller.form ≡ self.old.teller.form }
@@ -389,9 +437,10 @@ impl Run {
     /// Ends a connection that is over at this time, if there is one.
     ///
     /// With each packet one is looked at of those that have ended.
-    fn end_quiet(&mut self, nanos: u64) -> Result<(), AllocError>
-        ensures goes { (start now : TargetSeen) (came : List Arrival) → Follows start now came self.old.table self.old
-            → Goes start now came self.new.table self.new result }
+    fn end_quiet(&mut self, when: When) -> Result<(), AllocError>
+        ensures goes { (start now : TargetSeen) (clock : Clock) (came : List Arrival) → Contains clock.packets when → when.packet ≡ clock.number
+            → All (λ x. x.when.packet ≤ when.packet) came → Follows start now clock came self.old.table self.old
+            → Goes start now clock came self.new.table self.new result }
         ensures bounded { IsBounded self.old → IsBounded self.new }
         ensures terms { self.new.terms ≡ self.old.terms }
         ensures form { self.new.teller.form ≡ self.old.teller.form }
@@ -399,13 +448,13 @@ impl Run {
         ensures utp { self.new.utp ≡ self.old.utp }
         ensures skipped { self.new.skipped ≡ self.old.skipped }
     {
-        let Some(pair) = self.ended.take_due(nanos) else {
+        let Some(pair) = self.ended.take_due(when.nanos) else {
             return Ok(());
         };
-        match self.table.is_over(pair, nanos) {
+        match self.table.is_over(pair, when.nanos) {
             Some(true) => self.end(pair),
             Some(false) => {
-                self.ended.note(pair, nanos);
+                self.ended.note(pair, when.nanos);
                 Ok(())
             }
             None => Ok(()),
@@ -414,8 +463,9 @@ impl Run {
 
     /// Takes a segment.
     fn take_segment(&mut self, segment: &Segment, when: When) -> Result<(), AllocError>
-        ensures goes { (start now : TargetSeen) (came : List Arrival) → Follows start now came self.old.table self.old
-            → Goes start now (came ++ arrived segment.now when ∷ []) self.new.table self.new result }
+        ensures goes { (start now : TargetSeen) (clock : Clock) (came : List Arrival) → AreEarlier clock when.packet → when.packet ≡ clock.number
+            → Follows start now clock came self.old.table self.old
+            → Goes start now clock (came ++ arrived segment.now when ∷ []) self.new.table self.new result }
         ensures bounded { OnOk result (IsBounded self.old → IsBounded self.new) }
         ensures terms { self.new.terms ≡ self.old.terms }
         ensures form { self.new.teller.form ≡ self.old.teller.form }
@@ -444,8 +494,9 @@ impl Run {
 
     /// Takes what a packet carries.
     fn take_sight(&mut self, sight: &Sight, when: When) -> Result<(), AllocError>
-        ensures goes { (start now : TargetSeen) (came : List Arrival) → Follows start now came self.old.table self.old
-            → Goes start now (came ++ arrivals_in when.packet when.nanos (seen sight.now)) self.new.table self.new result }
+        ensures goes { (start now : TargetSeen) (clock : Clock) (came : List Arrival) → AreEarlier clock when.packet → when.packet ≡ clock.number
+            → Follows start now clock came self.old.table self.old
+            → Goes start now clock (came ++ arrivals_in when.packet when.nanos (seen sight.now)) self.new.table self.new result }
         ensures bounded { OnOk result (IsBounded self.old → IsBounded self.new) }
         ensures terms { self.new.terms ≡ self.old.terms }
         ensures form { self.new.teller.form ≡ self.old.teller.form }
@@ -475,8 +526,8 @@ impl Run {
     /// `AllocError` when out of memory.
     pub fn take(&mut self, packet: &Packet, number: u64) -> Result<(), AllocError>
         ensures goes { (start now : TargetSeen) (packets : List Captured) → number ≡ min (length packets + 1) (2 ^ 64 - 1)
-            → self.old.start ≡ first_time packets → Follows start now (arrivals packets) self.old.table self.old
-            → Goes start now (arrivals (packets ++ captured packet.now ∷ [])) self.new.table self.new result }
+            → self.old.start ≡ first_time packets → Follows start now (clock_of packets) (arrivals packets) self.old.table self.old
+            → let all = packets ++ captured packet.now ∷ [] in Goes start now (clock_of all) (arrivals all) self.new.table self.new result }
         ensures bounded { OnOk result (IsBounded self.old → IsBounded self.new) }
         ensures terms { self.new.terms ≡ self.old.terms }
         ensures form { self.new.teller.form ≡ self.old.teller.form }
@@ -492,7 +543,7 @@ impl Run {
             packet: number,
         };
         match self.take_sight(&sight_of(packet), when) {
-            Ok(()) => self.end_quiet(packet.nanos),
+            Ok(()) => self.end_quiet(when),
             Err(error) => Err(error),
         }
     }

@@ -57,7 +57,20 @@ impl Form {
     }
 }
 
-/// What a capture had.
+/// How reading a capture ended.
+#[derive(Clone, Copy, PartialEq, Eq, Debug)]
+pub enum Ending {
+    /// After a whole item.
+    Whole,
+    /// Inside an item, which is left out.
+    Cut,
+    /// Before bytes that aren't those of a capture file.
+    Broken(FileFault),
+    /// A read failed.
+    Failed,
+}
+
+/// What a capture had, up to where reading it ended.
 #[derive(Clone, Copy, PartialEq, Eq, Debug)]
 pub struct CaptureEnd {
     pub packets: u64,
@@ -69,21 +82,16 @@ pub struct CaptureEnd {
     pub lost: u64,
     /// Whether a direction is refused under the lenient rules, and not only cut.
     pub is_refused: bool,
-    /// Whether the file ended inside a packet, which is left out.
-    pub is_cut: bool,
+    pub ending: Ending,
     /// The number of the connection whose stream was asked for, if no connection has it.
     pub absent: Option<u64>,
+    /// How many connections weren't read to their end, since there were too many at once.
+    pub unread: u64,
 }
 
-/// What stops a command on a capture.
+/// What stops a command on a capture before all that was read is told.
 #[derive(Clone, Copy, PartialEq, Eq, Debug, Error)]
 pub enum CaptureFault {
-    /// The bytes aren't those of a capture file.
-    #[error("{0}")]
-    File(FileFault),
-    /// A read failed.
-    #[error("read")]
-    Read,
     /// A write failed, or took no byte.
     #[error("write")]
     Write,
@@ -93,4 +101,14 @@ pub enum CaptureFault {
     /// The file had no end after 18,446,744,073,709,551,615 packets and reads.
     #[error("turns")]
     Turns,
+}
+
+/// Why reading a capture stops before its end.
+#[derive(Clone, Copy, PartialEq, Eq, Debug)]
+pub(crate) enum Stop {
+    /// The bytes aren't those of a capture file.
+    File(FileFault),
+    /// A read failed.
+    Read,
+    Fault(CaptureFault),
 }

@@ -14,7 +14,7 @@ pub fn only_reports()
         → text ≡ texts form.json reports }
 {}
 
-/// If a stream is asked for and the file was read to its end, nothing is written if no connection has the number. Otherwise one has it, and
+/// If a stream is asked for and reading ended, nothing is written if no connection has the number. Otherwise one has it, and
 /// if there is a report on that, the stream of its side is written, and nothing else. It begins with the handshake, or with the first byte if no
 /// handshake started in the opening, and ends at the first gap.
 pub fn only_stream()

@@ -18,7 +18,7 @@ mod telling;
 mod utp;
 mod walk;
 
-pub use ending::{CaptureEnd, CaptureFault, CaptureJob, Form};
+pub use ending::{CaptureEnd, CaptureFault, CaptureJob, Ending, Form};
 pub use fault::ReadFault;
 pub use packets::{FileEnd, Packets};
 pub use pair::Pair;

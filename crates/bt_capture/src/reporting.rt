@@ -2,7 +2,8 @@
 ghost use Rattle.std.specs.Prelude.{◌≡◌, ◌&&◌, ℕ, List, is_some, unwrap_or};
 ghost use Rattle.bt_intro.specs.Hellos.{IsStartOf};
 ghost use Rattle.bt_talk.specs.Pasts.{Past};
-ghost use Rattle.bt_talk.specs.Talks.{IsTalk, closing_of};
+ghost use Rattle.bt_talk.specs.Shown.{Turn};
+ghost use Rattle.bt_talk.specs.Talks.{HasHeard, IsTalk, closing_of};
 ghost use Rattle.bt_told.specs.Names.{title_text};
 ghost use Rattle.bt_capture.specs.Reportings.{IsSenderOf, IsDirectionOf, IsBodyOf, HasBegun, IsBeforeOf, IsClosedBy, AreRemarksOf};
 ghost use Rattle.bt_capture.specs.Reportings.{left_after, offset_gap, shifted as shifted_by, title_by, means_by};
@@ -159,7 +160,7 @@ fn are_both_judged(a: &Option<Receiver>, b: &Option<Receiver>) -> bool
 
 /// Returns the remarks on what both sides sent. There are none if a side has no whole handshake.
 fn remarks_of(talk: &Talk) -> (Remarked, Remarked)
-    ensures { (a b : Past) → IsTalk a b talk.now → AreRemarksOf a b talk.now result.0 result.1 }
+    ensures { (a b : Past) (turns : List Turn) → IsTalk a b talk.now → HasHeard turns a b talk.now → AreRemarksOf a b talk.now turns result.0 result.1 }
 {
     if !are_both_judged(&talk.receiver(Side::A), &talk.receiver(Side::B)) {
         return (UNREMARKED, UNREMARKED);
@@ -178,7 +179,7 @@ fn left_of(talk: &Talk, left: Left) -> Left
 ///
 /// `left` says how the connection was left, if it hasn't ended.
 pub fn body_of(talk: &Talk, from: u64, left: Left) -> Body
-    ensures { (a b : Past) → IsTalk a b talk.now → IsBodyOf from left a b talk.now result }
+    ensures { (a b : Past) (turns : List Turn) → IsTalk a b talk.now → HasHeard turns a b talk.now → IsBodyOf from left a b talk.now turns result }
 {
     match has_begun(talk.start(Side::A), talk.start(Side::B)) {
         false => Body::NotBitTorrent,

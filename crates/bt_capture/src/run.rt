@@ -1,23 +1,23 @@
 //! What `capture` does: from a source of a capture file to a target of the reports on its connections.
-ghost use Rattle.std.specs.Prelude.{◌≡◌, ◌⊎◌, ◌<◌, ℕ, List, [], ◌∷◌, length, Option, None, Ok, OnOk, IfOk, IfErr, IfSome, false};
+ghost use Rattle.std.specs.Prelude.{◌≡◌, ◌<◌, ℕ, List, [], ◌∷◌, length, Option, None, Ok, OnOk, IfOk, IfErr, IfSome, false};
 ghost use Rattle.std.specs.Map.{lookup};
 ghost use Rattle.bt_io.specs.Seen.{TargetSeen};
 ghost use Rattle.bt_packet.specs.declared.utp.Utp.{Utp};
 ghost use Rattle.bt_utp.specs.States.{AreCounted};
-ghost use Rattle.bt_capture.specs.Ends.{IsEnded, IsWhy};
+ghost use Rattle.bt_capture.specs.Ends.{HasEndedSo, IsEnded, IsWhy, ending_by};
 ghost use Rattle.bt_capture.specs.Readings.{Reading, Waits};
 ghost use Rattle.bt_capture.specs.Tables.{Held, same_pair};
-ghost use Rattle.bt_capture.specs.Sees.{HasSeenAll, HasSeenMore, HasSeenTurn, IsNoRead};
+ghost use Rattle.bt_capture.specs.Sees.{HasSeenAll, HasSeenMore, HasSeenRead, HasSeenTurn, IsNoRead};
 ghost use Rattle.bt_capture.specs.Tellings.{IsEmpty};
 ghost use Rattle.bt_capture.specs.Following.{Phase, AtEnd};
-ghost use Rattle.bt_capture.specs.Runs.{Adds, Origin, done, origin, IsTelling, IsTellingIn, IsOfTelling, IsOfReading, IsAfter, IsAfterIn, IsTold, IsEndOf};
-ghost use Rattle.bt_capture.specs.Runs.{is_cut_by, utp_lines, utp_text};
+ghost use Rattle.bt_capture.specs.Runs.{Adds, Origin, done, origin, IsTelling, IsTellingIn, IsAfter, IsAfterIn, IsTold, IsEndOf};
+ghost use Rattle.bt_capture.specs.Runs.{utp_lines, utp_text};
 ghost use Rattle.bt_capture.specs.declared.connections.Run.{Run};
 ghost use Rattle.bt_capture.specs.declared.pair.Pair.{Pair};
 
 use crate::connection::Connection;
 use crate::connections::Run;
-use crate::ending::{CaptureEnd, CaptureFault, CaptureJob, Form};
+use crate::ending::{CaptureEnd, CaptureFault, CaptureJob, Ending, Form, Stop};
 use crate::fault::ReadFault;
 use crate::packets::{FileEnd, Packets};
 use bt_io::{Source, Target};
@@ -31,7 +31,6 @@ fn write<W: Target>(run: &mut Run, writer: &mut W) -> Result<(), CaptureFault>
     ensures after { (ph : Phase) (o : Origin) (left : Option (List ℕ)) (es : List (Pair × Held)) (r : Reading)
         → IsTellingIn ph o left (W.seen writer.old) es run.old r → IsAfterIn ph o left (W.seen writer.new) es run.new r result }
     ensures table { run.new.table ≡ run.old.table }
-    ensures fault { IfErr result IsOfTelling }
     ensures empty { OnOk result (IsEmpty run.new.teller) }
 {
     match run.teller.flush(writer) {
@@ -45,7 +44,6 @@ fn write_if_full<W: Target>(run: &mut Run, writer: &mut W) -> Result<(), Capture
     ensures after { (ph : Phase) (o : Origin) (left : Option (List ℕ)) (es : List (Pair × Held)) (r : Reading)
         → IsTellingIn ph o left (W.seen writer.old) es run.old r → IsAfterIn ph o left (W.seen writer.new) es run.new r result }
     ensures table { run.new.table ≡ run.old.table }
-    ensures fault { IfErr result IsOfTelling }
 {
     if run.teller.is_full() {
         write(run, writer)
@@ -55,7 +53,7 @@ fn write_if_full<W: Target>(run: &mut Run, writer: &mut W) -> Result<(), Capture
 }
 
 /// Takes the next packet of what was read, and tells whether there was one.
-fn step(run: &mut Run, packets: &mut Packets) -> Result<bool, CaptureFault>
+fn step(run: &mut Run, packets: &mut Packets) -> Result<bool, Stop>
     ensures after { (o : Origin) (left : Option (List ℕ)) (now : TargetSeen) → IsTelling o left now run.old.table run.old packets.old
         → IsAfter o left now run.new.table run.new packets.new result }
     ensures few { result ≡ Ok false → length packets.new.held < 1048604 }
@@ -67,10 +65,10 @@ fn step(run: &mut Run, packets: &mut Packets) -> Result<bool, CaptureFault>
     match packets.take() {
         Ok(Some(packet)) => match run.take(&packet, number) {
             Ok(()) => Ok(true),
-            Err(_) => Err(CaptureFault::Memory),
+            Err(_) => Err(Stop::Fault(CaptureFault::Memory)),
         },
         Ok(None) => Ok(false),
-        Err(fault) => Err(CaptureFault::File(fault)),
+        Err(fault) => Err(Stop::File(fault)),
     }
 }
 
@@ -80,7 +78,7 @@ fn read_more<R: Source, W: Target>(
     packets: &mut Packets,
     reader: &mut R,
     writer: &mut W,
-) -> Result<bool, CaptureFault>
+) -> Result<bool, Stop>
     requires { length packets.old.held < 1048604 }
     ensures after { (o : Origin) → IsTelling o (R.seen reader.old).left (W.seen writer.old) run.old.table run.old packets.old
         → IsAfter o (R.seen reader.new).left (W.seen writer.new) run.new.table run.new packets.new result }
@@ -90,18 +88,18 @@ fn read_more<R: Source, W: Target>(
 {
     match write(run, writer) {
         Ok(()) => {}
-        Err(fault) => return Err(fault),
+        Err(fault) => return Err(Stop::Fault(fault)),
     }
     match packets.read(reader) {
         Ok(0) => Ok(false),
         Ok(_) => Ok(true),
-        Err(ReadFault::Failed) => Err(CaptureFault::Read),
-        Err(ReadFault::Memory) => Err(CaptureFault::Memory),
+        Err(ReadFault::Failed) => Err(Stop::Read),
+        Err(ReadFault::Memory) => Err(Stop::Fault(CaptureFault::Memory)),
     }
 }
 
 /// Tells how the file ended, which was read to its end.
-fn ended(packets: &Packets) -> Result<FileEnd, CaptureFault>
+fn ended(packets: &Packets) -> Result<FileEnd, Stop>
     ensures after { (o : Origin) (left : Option (List ℕ)) (now : TargetSeen) (es : List (Pair × Held)) (run : Run) → IsTelling o left now es run packets.now
         → IsAfter o left now es run packets.now result }
     ensures ended { IfOk result (λ e. IsEnded packets.now (Ok e)) }
@@ -110,7 +108,7 @@ fn ended(packets: &Packets) -> Result<FileEnd, CaptureFault>
 {
     match packets.ended() {
         Ok(end) => Ok(end),
-        Err(fault) => Err(CaptureFault::File(fault)),
+        Err(fault) => Err(Stop::File(fault)),
     }
 }
 
@@ -120,7 +118,7 @@ fn turn<R: Source, W: Target>(
     packets: &mut Packets,
     reader: &mut R,
     writer: &mut W,
-) -> Result<Option<FileEnd>, CaptureFault>
+) -> Result<Option<FileEnd>, Stop>
     ensures after { (o : Origin) → IsTelling o (R.seen reader.old).left (W.seen writer.old) run.old.table run.old packets.old
         → IsAfter o (R.seen reader.new).left (W.seen writer.new) run.new.table run.new packets.new result }
     ensures ended { IfOk result (λ end. IfSome end (λ e. IsEnded packets.new (Ok e))) }
@@ -131,17 +129,17 @@ fn turn<R: Source, W: Target>(
     match step(run, packets) {
         Ok(true) => match write_if_full(run, writer) {
             Ok(()) => Ok(None),
-            Err(fault) => Err(fault),
+            Err(fault) => Err(Stop::Fault(fault)),
         },
         Ok(false) => match read_more(run, packets, reader, writer) {
             Ok(true) => Ok(None),
             Ok(false) => match ended(packets) {
                 Ok(end) => Ok(Some(end)),
-                Err(fault) => Err(fault),
+                Err(stop) => Err(stop),
             },
-            Err(fault) => Err(fault),
+            Err(stop) => Err(stop),
         },
-        Err(fault) => Err(fault),
+        Err(stop) => Err(stop),
     }
 }
 
@@ -151,22 +149,22 @@ fn read_all<R: Source, W: Target>(
     packets: &mut Packets,
     reader: &mut R,
     writer: &mut W,
-) -> Result<FileEnd, CaptureFault>
+) -> Result<FileEnd, Stop>
     ensures after { (o : Origin) → IsTelling o (R.seen reader.old).left (W.seen writer.old) run.old.table run.old packets.old
         → IsAfter o (R.seen reader.new).left (W.seen writer.new) run.new.table run.new packets.new result }
     ensures ended { IfOk result (λ e. IsEnded packets.new (Ok e)) }
     ensures waits { IfOk result (λ e. Waits packets.new) }
     ensures why { IfErr result (λ f. IsWhy f packets.new) }
-    ensures seen { HasSeenAll result (R.seen reader.old) (R.seen reader.new) }
+    ensures seen { HasSeenRead result (R.seen reader.old) (R.seen reader.new) }
 {
     for _turn in 0..u64::MAX {
         match turn(run, packets, reader, writer) {
             Ok(None) => {}
             Ok(Some(end)) => return Ok(end),
-            Err(fault) => return Err(fault),
+            Err(stop) => return Err(stop),
         }
     }
-    Err(CaptureFault::Turns)
+    Err(Stop::Fault(CaptureFault::Turns))
 }
 
 /// Tells of a connection that is left at the end.
@@ -177,7 +175,6 @@ fn tell_last<W: Target>(
 ) -> Result<(), CaptureFault>
     ensures after { (o : Origin) (left : Option (List ℕ)) (p : Pair) (es : List (Pair × Held)) (r : Reading) → lookup (same_pair p) es ≡ None
         → IsTellingIn AtEnd o left (W.seen writer.old) ((p, connection) ∷ es) run.old r → IsAfterIn AtEnd o left (W.seen writer.new) es run.new r result }
-    ensures fault { IfErr result IsOfTelling }
 {
     match run.report(connection, Left::Open) {
         Ok(()) => write_if_full(run, writer),
@@ -189,7 +186,6 @@ fn tell_last<W: Target>(
 fn finish<W: Target>(run: &mut Run, writer: &mut W) -> Result<(), CaptureFault>
     ensures after { (o : Origin) (left : Option (List ℕ)) (r : Reading) → IsTelling o left (W.seen writer.old) run.old.table run.old r
         → IsAfterIn AtEnd o left (W.seen writer.new) [] run.new r result }
-    ensures fault { IfErr result IsOfTelling }
     ensures empty { OnOk result (IsEmpty run.new.teller) }
 {
     let Ok(rest) = run.rest() else {
@@ -208,7 +204,6 @@ fn finish<W: Target>(run: &mut Run, writer: &mut W) -> Result<(), CaptureFault>
 fn write_utp<W: Target>(run: &Run, writer: &mut W) -> Result<(), CaptureFault>
     ensures added { (ds : List Utp) → AreCounted ds run.now.utp
         → Adds (utp_text run.now.teller.form ds) (W.seen writer.old) (W.seen writer.new) result }
-    ensures fault { IfErr result IsOfTelling }
 {
     let Ok(lines) = run.utp_lines() else {
         return Err(CaptureFault::Memory);
@@ -219,71 +214,52 @@ fn write_utp<W: Target>(run: &Run, writer: &mut W) -> Result<(), CaptureFault>
     Ok(())
 }
 
-/// Tells whether the file ended inside an item.
-fn is_cut(end: FileEnd) -> bool
-    ensures { result ≡ is_cut_by end }
+/// Returns how reading ended, if the file was read to its end.
+fn ending_of(end: FileEnd) -> Ending
+    ensures { result ≡ ending_by end }
 {
     match end {
-        FileEnd::Whole => false,
-        FileEnd::Cut => true,
+        FileEnd::Whole => Ending::Whole,
+        FileEnd::Cut => Ending::Cut,
     }
 }
 
 /// Returns what the capture had, once all is told.
-fn end_of(run: &Run, packets: &Packets, end: FileEnd) -> CaptureEnd
-    ensures { (o : Origin) (left : Option (List ℕ)) (before now : TargetSeen) (i : IsTellingIn AtEnd o left before [] run.now packets.now)
-        → IsEmpty run.now.teller → IsEnded packets.now (Ok end) → Waits packets.now → Adds (utp_lines run.now.teller.form i.packets) before now done
+fn end_of(run: &Run, packets: &Packets, ending: Ending) -> CaptureEnd
+    ensures end { (o : Origin) (left : Option (List ℕ)) (before now : TargetSeen) (i : IsTellingIn AtEnd o left before [] run.now packets.now)
+        → IsEmpty run.now.teller → HasEndedSo ending packets.now → Adds (utp_lines run.now.teller.form i.packets) before now done
         → IsEndOf o left now result }
+    ensures ending { result.ending ≡ ending }
 {
     CaptureEnd {
         packets: packets.packets(),
         skipped: run.skipped,
         torrents: run.teller.torrents(),
-        lost: run.lost,
+        lost: run.lost.memory,
         is_refused: run.teller.is_refused(),
-        is_cut: is_cut(end),
+        ending,
         absent: run.absent(),
+        unread: run.lost.crowd,
     }
 }
 
-/// Tells of the connections that are left and of uTP, and returns what the capture had.
-fn end_whole<W: Target>(
+/// Tells of the connections that are left and of uTP, once reading ended, and returns what the capture had.
+fn end_read<W: Target>(
     run: &mut Run,
     packets: &Packets,
-    end: FileEnd,
+    ending: Ending,
     writer: &mut W,
 ) -> Result<CaptureEnd, CaptureFault>
-    ensures told { (o : Origin) (left : Option (List ℕ)) → IsTelling o left (W.seen writer.old) run.old.table run.old packets.now → IsEnded packets.now (Ok end)
-        → Waits packets.now → IsTold o left (W.seen writer.new) result }
-    ensures fault { IfErr result IsOfTelling }
+    ensures told { (o : Origin) (left : Option (List ℕ)) → IsTelling o left (W.seen writer.old) run.old.table run.old packets.now
+        → HasEndedSo ending packets.now → IsTold o left (W.seen writer.new) result }
+    ensures ending { IfOk result (λ end. end.ending ≡ ending) }
 {
     match finish(run, writer) {
         Ok(()) => match write_utp(run, writer) {
-            Ok(()) => Ok(end_of(run, packets, end)),
+            Ok(()) => Ok(end_of(run, packets, ending)),
             Err(fault) => Err(fault),
         },
         Err(fault) => Err(fault),
-    }
-}
-
-/// Tells of the connections that are left and of uTP, since the file can't be read on.
-fn end_unread<W: Target>(
-    run: &mut Run,
-    fault: CaptureFault,
-    writer: &mut W,
-) -> Result<CaptureEnd, CaptureFault>
-    requires { IsOfReading fault }
-    ensures told { (o : Origin) (left : Option (List ℕ)) (r : Reading) → IsTelling o left (W.seen writer.old) run.old.table run.old r
-        → IsWhy fault r → IsTold o left (W.seen writer.new) result }
-    ensures fault { IfErr result (λ f. (f ≡ fault) ⊎ IsOfTelling f) }
-    ensures never { IfOk result (λ end. ⊥) }
-{
-    match finish(run, writer) {
-        Ok(()) => match write_utp(run, writer) {
-            Ok(()) => Err(fault),
-            Err(other) => Err(other),
-        },
-        Err(other) => Err(other),
     }
 }
 
@@ -299,12 +275,10 @@ fn tell_all<R: Source, W: Target>(
     ensures seen { HasSeenAll result (R.seen reader.old) (R.seen reader.new) }
 {
     match read_all(run, packets, reader, writer) {
-        Ok(end) => end_whole(run, packets, end, writer),
-        Err(CaptureFault::File(fault)) => end_unread(run, CaptureFault::File(fault), writer),
-        Err(CaptureFault::Read) => end_unread(run, CaptureFault::Read, writer),
-        Err(CaptureFault::Write) => Err(CaptureFault::Write),
-        Err(CaptureFault::Memory) => Err(CaptureFault::Memory),
-        Err(CaptureFault::Turns) => Err(CaptureFault::Turns),
+        Ok(end) => end_read(run, packets, ending_of(end), writer),
+        Err(Stop::File(fault)) => end_read(run, packets, Ending::Broken(fault), writer),
+        Err(Stop::Read) => end_read(run, packets, Ending::Failed, writer),
+        Err(Stop::Fault(fault)) => Err(fault),
     }
 }
 
@@ -313,7 +287,7 @@ fn tell_all<R: Source, W: Target>(
 /// A connection is reported when it is over; the others at the end, in the order of their numbers. If rows are shown, those of a
 /// packet come at once, after the connection's opening, and all of a connection before its report. After all reports there is a line
 /// on each two ends with packets of uTP, in the order of the first ones. What was told is written before more is read. If a read
-/// fails or the file is broken, all that was read up to there is reported.
+/// fails or the file is broken, all that was read up to there is reported, and the end says so.
 ///
 /// If a stream is asked for, only its bytes are written: those of the side from its handshake on, or from its first byte if none
 /// began in the opening, up to the first gap. They come at the end of the connection's opening, and after it with each packet.
@@ -322,8 +296,7 @@ fn tell_all<R: Source, W: Target>(
 /// `keys` are those of the table of connections.
 ///
 /// # Errors
-/// `File` if the bytes aren't those of a capture file. `Read` if a read failed, `Write` if a write failed or took no byte, `Memory`
-/// when out of memory.
+/// `Write` if a write failed or took no byte, `Memory` when out of memory.
 pub fn run_capture<R: Source, W: Target>(
     alloc: Global,
     keys: RandomState,

@@ -5,7 +5,7 @@ ghost use Rattle.std.specs.Option.{option_to_list};
 ghost use Rattle.lru.specs.LruCache.{lru_cache};
 ghost use Rattle.std.specs.Map.{lookup, remove_entry};
 ghost use Rattle.std.specs.List.{cons_option};
-ghost use Rattle.bt_capture.specs.Tables.{same_pair, HasEnded, IsApart};
+ghost use Rattle.bt_capture.specs.Tables.{same_pair, IsApart, IsQuiet};
 
 use crate::connection::Connection;
 use crate::pair::Pair;
@@ -177,7 +177,7 @@ impl Table {
 
     /// Tells whether the connection of these ends, if it has ended, is over at this time.
     pub fn is_over(&self, pair: Pair, nanos: u64) -> Option<bool>
-        ensures { result ≡ Some true → HasEnded pair self.now }
+        ensures { result ≡ Some true → IsQuiet pair nanos self.now }
     {
         match self.find(pair) {
             Some(connection) if connection.talk.has_ended() => Some(connection.talk.is_over(nanos)),

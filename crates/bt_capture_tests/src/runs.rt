@@ -1,6 +1,7 @@
 //! A capture file from its bytes to the report of its connection.
-use bt_capture::{CaptureEnd, CaptureFault, CaptureJob, run_capture};
+use bt_capture::{CaptureEnd, CaptureFault, CaptureJob, Ending, run_capture};
 use bt_io::{MemSource, MemTarget};
+use bt_pcap::FileFault;
 use bt_remarks::Side;
 use bt_talk::Terms;
 use std::alloc::AllocError;
@@ -96,7 +97,7 @@ fn run_for(
         stream,
     };
     let Ok(keys) = RandomState::new(rt) else {
-        return (Err(CaptureFault::Read), writer);
+        return (Err(CaptureFault::Turns), writer);
     };
     let end = run_capture(rt.alloc(), keys, &mut reader, &mut writer, &job);
     (end, writer)
@@ -118,8 +119,9 @@ fn is_reported(end: &Result<CaptureEnd, CaptureFault>, text: &[u8]) -> bool {
         torrents: 1,
         lost: 0,
         is_refused: true,
-        is_cut: false,
+        ending: Ending::Whole,
         absent: None,
+        unread: 0,
     }) && after_report(text) == STILL
 }
 
@@ -129,6 +131,27 @@ fn a_have_out_of_range(rt: HostRuntime) -> Result<(), Fail> {
     for most in [1, 7, 65_536] {
         let (end, writer) = run(&rt, Vec::from_slice(rt.alloc(), FILE)?, most, false);
         right = right && is_reported(&end, writer.bytes());
+    }
+    assert!(rt; right);
+    Ok(())
+}
+
+/// Where a record's length is impossible, what was read before it is told, and the end says so; where the file is cut, too.
+#[test]
+fn another_ending(rt: HostRuntime) -> Result<(), Fail> {
+    let mut right = true;
+    for (more, ending) in [
+        (
+            b"\0\0\0\0\0\0\0\0\xff\xff\xff\xff\xff\xff\xff\xff".as_slice(),
+            Ending::Broken(FileFault::RecordLength),
+        ),
+        (b"\0\0".as_slice(), Ending::Cut),
+    ] {
+        let mut file = Vec::from_slice(rt.alloc(), FILE)?;
+        file.extend_from_slice(more)?;
+        let (end, writer) = run_for(&rt, file, 7, false, Some((1, Side::A)));
+        let found = end.map(|end| (end.packets, end.torrents, end.ending, end.absent));
+        right = right && found == Ok((5, 1, ending, Some(1))) && writer.bytes().is_empty();
     }
     assert!(rt; right);
     Ok(())
@@ -182,8 +205,9 @@ fn a_flood(rt: HostRuntime) -> Result<(), Fail> {
         torrents: 1,
         lost: 0,
         is_refused: true,
-        is_cut: false,
+        ending: Ending::Whole,
         absent: None,
+        unread: 2,
     });
     let text = writer.bytes();
     let lines = count_lines(FOUR).saturating_add(16_386);

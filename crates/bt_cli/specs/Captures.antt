@@ -9,26 +9,59 @@ use Rattle.bt_pcap.specs.declared.fault.FileFault.{FileFault}
 use Rattle.bt_pcap.specs.declared.fault.FileFault.TheVariants.{NoCapture, ByteOrder, Length, TooShort, RecordLength}
 use Rattle.bt_capture.specs.declared.ending.CaptureEnd.{CaptureEnd}
 use Rattle.bt_capture.specs.declared.ending.CaptureFault.{CaptureFault}
-use Rattle.bt_capture.specs.declared.ending.CaptureFault.TheVariants.{File, Read, Write, Memory, Turns}
+use Rattle.bt_capture.specs.declared.ending.CaptureFault.TheVariants.{Write, Memory, Turns}
+use Rattle.bt_capture.specs.declared.ending.Ending.{Ending}
+use Rattle.bt_capture.specs.declared.ending.Ending.TheVariants.{Whole, Cut, Broken, Failed}
 use Rattle.bt_cli.specs.declared.capture.Outcome.{Outcome}
-use Rattle.bt_cli.specs.declared.capture.Outcome.TheVariants.{Lost, Absent, Nothing, Refused, Accepted}
+use Rattle.bt_cli.specs.declared.capture.Outcome.TheVariants.{Lost, Absent, Stopped, Nothing, Refused, Accepted}
 
--- ---- a capture that was read to its end
+-- ---- what was found
+
+-- The file can't be read to its end.
+abbrev pub is_stopped : Ending → Bool
+is_stopped Whole = false
+is_stopped Cut = false
+is_stopped (Broken f) = true
+is_stopped Failed = true
 
 abbrev pub outcome_in : CaptureEnd → Outcome
-outcome_in e = if nat_lt 0 e.lost then Lost else if is_some e.absent then Absent else if e.torrents == 0 then Nothing else if e.is_refused then Refused else Accepted
+outcome_in e =
+    if nat_lt 0 e.lost then Lost else if is_stopped e.ending then Stopped else if is_some e.absent then Absent
+    else if e.torrents == 0 then Nothing else if e.is_refused then Refused else Accepted
 
 abbrev pub outcome_status : Outcome → ℕ
 outcome_status Lost = 3
 outcome_status Absent = 3
+outcome_status Stopped = 3
 outcome_status Nothing = 3
 outcome_status Refused = 1
 outcome_status Accepted = 0
 
--- a last packet that is cut
-abbrev pub cut_words : Bool → List ℕ
-cut_words true = codes "capture: ends inside a packet, which is left out\n"
-cut_words false = []
+-- ---- the lines on an end
+
+abbrev pub file_words : FileFault → List ℕ
+file_words NoCapture = codes "fault: capture: neither a pcap nor a pcapng file\n"
+file_words ByteOrder = codes "fault: capture: a section of a pcapng file has an unknown byte order\n"
+file_words Length = codes "fault: capture: a block of a pcapng file has an impossible length\n"
+file_words TooShort = codes "fault: capture: a block of a pcapng file is too short\n"
+file_words RecordLength = codes "fault: capture: a record of a pcap file has an impossible length\n"
+
+-- how reading ended, if that isn't after a whole item
+abbrev pub ending_line_words : Ending → List ℕ
+ending_line_words Whole = []
+ending_line_words Cut = codes "capture: ends inside a packet, which is left out\n"
+ending_line_words (Broken f) = file_words f
+ending_line_words Failed = fault_line fault.Read
+
+-- The input's name comes before what is wrong with it.
+abbrev pub ending_words : List ℕ → Ending → List ℕ
+ending_words prefix ending = (if is_stopped ending then prefix else []) ++ ending_line_words ending
+
+-- connections of which there were too many at once
+abbrev pub unread_words : ℕ → List ℕ
+unread_words n =
+    if n == 0 then [] else if n == 1 then codes "capture: 1 connection was not read further: too many at once\n"
+    else (codes "capture: " ++ decimal n) ++ codes " connections were not read further: too many at once\n"
 
 abbrev pub nothing_words : ℕ → ℕ → List ℕ
 nothing_words packets skipped =
@@ -40,37 +73,35 @@ absent_words None = []
 absent_words (Some n) = (codes "no connection " ++ decimal n) ++ codes "\n"
 
 -- Connections that memory didn't last for are a fault. A capture without the connection of a stream or without a BitTorrent connection has
--- its line, if there is memory for that.
+-- its line, if there is memory for that; one that can't be read to its end has none.
 abbrev pub IsLastLine : Outcome → CaptureEnd → List ℕ → Type 0
 IsLastLine Lost e line = line ≡ fault_line fault.Memory
 IsLastLine Absent e line = (line ≡ absent_words e.absent) ⊎ (line ≡ fault_line fault.Memory)
 IsLastLine Nothing e line = (line ≡ nothing_words e.packets e.skipped) ⊎ (line ≡ fault_line fault.Memory)
+IsLastLine Stopped e line = line ≡ []
 IsLastLine Refused e line = line ≡ []
 IsLastLine Accepted e line = line ≡ []
 
-abbrev pub IsEndSaid : CaptureEnd → TargetSeen → TargetSeen → Type 0
-IsEndSaid e before after = (line : List ℕ) × IsLastLine (outcome_in e) e line × IsSaid (cut_words e.is_cut ++ line) before after
+-- The line on connections of which there were too many, if there is memory for that.
+abbrev pub IsUnreadLine : ℕ → List ℕ → Type 0
+IsUnreadLine n line = (line ≡ unread_words n) ⊎ (line ≡ fault_line fault.Memory)
+
+-- These words, and the two lines after them.
+abbrev pub IsEndSaidAfter : List ℕ → CaptureEnd → TargetSeen → TargetSeen → Type 0
+IsEndSaidAfter words e before after = (unread : List ℕ) × (line : List ℕ) × IsUnreadLine e.unread unread × IsLastLine (outcome_in e) e line
+    × IsSaid (words ++ (unread ++ line)) before after
+
+abbrev pub IsEndSaid : List ℕ → CaptureEnd → TargetSeen → TargetSeen → Type 0
+IsEndSaid prefix e before after = IsEndSaidAfter (ending_words prefix e.ending) e before after
 
 -- ---- a fault
 
-abbrev pub file_words : FileFault → List ℕ
-file_words NoCapture = codes "fault: capture: neither a pcap nor a pcapng file\n"
-file_words ByteOrder = codes "fault: capture: a section of a pcapng file has an unknown byte order\n"
-file_words Length = codes "fault: capture: a block of a pcapng file has an impossible length\n"
-file_words TooShort = codes "fault: capture: a block of a pcapng file is too short\n"
-file_words RecordLength = codes "fault: capture: a record of a pcap file has an impossible length\n"
-
--- The input's name comes before what is wrong with it.
 abbrev pub capture_fault_words : Bool → List ℕ → CaptureFault → List ℕ
-capture_fault_words gone prefix (File f) = prefix ++ file_words f
-capture_fault_words gone prefix Read = fault_words gone prefix fault.Read
 capture_fault_words gone prefix Write = fault_words gone prefix fault.Write
 capture_fault_words gone prefix Memory = fault_words gone prefix fault.Memory
 capture_fault_words gone prefix Turns = fault_words gone prefix fault.Turns
 
 abbrev pub capture_fault_status : Bool → CaptureFault → ℕ
-capture_fault_status gone (File f) = 3
-capture_fault_status gone Read = fault_status gone fault.Read
 capture_fault_status gone Write = fault_status gone fault.Write
 capture_fault_status gone Memory = fault_status gone fault.Memory
 capture_fault_status gone Turns = fault_status gone fault.Turns
@@ -78,7 +109,7 @@ capture_fault_status gone Turns = fault_status gone fault.Turns
 -- ---- the end
 
 abbrev pub IsCaptureSaid : Bool → List ℕ → Result CaptureEnd CaptureFault → TargetSeen → TargetSeen → Type 0
-IsCaptureSaid gone prefix (Ok e) before after = IsEndSaid e before after
+IsCaptureSaid gone prefix (Ok e) before after = IsEndSaid prefix e before after
 IsCaptureSaid gone prefix (Err f) before after = IsSaid (capture_fault_words gone prefix f) before after
 
 abbrev pub capture_status : Bool → Result CaptureEnd CaptureFault → ℕ

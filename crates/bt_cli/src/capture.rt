@@ -1,15 +1,18 @@
 //! The command `capture`: what its words ask for, what it says at its end, and the exit status.
-ghost use Rattle.std.specs.Prelude.{◌≡◌, ◌++◌, ◌&&◌, IfOk, is_some, option_map, Some};
+ghost use Rattle.std.specs.Prelude.{◌≡◌, ◌++◌, ◌&&◌, ℕ, List, IfOk, OnErr, is_some, option_map, Some};
 ghost use Rattle.clap.specs.Matches.{first_value, found_of};
 ghost use Rattle.bt_run.specs.Runs.{IsSaid};
-ghost use Rattle.bt_cli.specs.Captures.{IsCaptureSaid, IsEndSaid, absent_words, capture_fault_status, capture_fault_words, capture_status, cut_words, file_words, nothing_words, outcome_in, outcome_status};
-ghost use Rattle.bt_cli.specs.declared.capture.Outcome.TheVariants.{Absent, Nothing};
+ghost use Rattle.bt_text.specs.Lines.{fault_line};
+ghost use Rattle.bt_text.specs.declared.ended.ToolFault.TheVariants as fault;
+ghost use Rattle.bt_cli.specs.Captures.{IsCaptureSaid, IsEndSaid, IsEndSaidAfter, IsLastLine, absent_words, capture_fault_status, capture_fault_words, capture_status, ending_line_words, file_words};
+ghost use Rattle.bt_cli.specs.Captures.{is_stopped, nothing_words, outcome_in, outcome_status, unread_words};
 ghost use Rattle.bt_cli.specs.Wanted.{IsCaptureAsked, capture_pieces_in, capture_stream_in};
 
 use crate::fetch::{DEFAULT_LIMIT, is_given, number_or};
 use crate::stream::direction_of;
-use bt_capture::{CaptureEnd, CaptureFault, CaptureJob};
+use bt_capture::{CaptureEnd, CaptureFault, CaptureJob, Ending};
 use bt_feed::Target;
+use bt_jobs::output::write_out;
 use bt_link::text::push_number;
 use bt_pcap::FileFault;
 use bt_remarks::Side;
@@ -32,13 +35,15 @@ pub struct CaptureRequest {
     pub files: Vec<String>,
 }
 
-/// What was found in a capture that was read to its end.
+/// What was found in a capture.
 #[derive(Clone, Copy, PartialEq, Eq, Debug)]
 pub enum Outcome {
     /// Connections aren't reported, since memory ran out.
     Lost,
     /// No connection has the number of the stream that is asked for.
     Absent,
+    /// A file that can't be read to its end.
+    Stopped,
     /// No BitTorrent connection.
     Nothing,
     /// A direction that is refused.
@@ -109,12 +114,24 @@ pub fn capture_in(options: &ArgMatches<'_>) -> Result<CaptureJob, &'static str>
     })
 }
 
+/// Tells whether a file can't be read to its end.
+fn is_unread(ending: Ending) -> bool
+    ensures { result ≡ is_stopped ending }
+{
+    match ending {
+        Ending::Whole | Ending::Cut => false,
+        Ending::Broken(_) | Ending::Failed => true,
+    }
+}
+
 /// Returns what was found in a capture.
 fn outcome_of(end: &CaptureEnd) -> Outcome
     ensures { result ≡ outcome_in end.now }
 {
     if end.lost > 0 {
         Outcome::Lost
+    } else if is_unread(end.ending) {
+        Outcome::Stopped
     } else if end.absent.is_some() {
         Outcome::Absent
     } else if end.torrents == 0 {
@@ -131,21 +148,28 @@ fn status_of(outcome: Outcome) -> u8
     ensures { result ≡ outcome_status outcome }
 {
     match outcome {
-        Outcome::Lost | Outcome::Absent | Outcome::Nothing => 3,
+        Outcome::Lost | Outcome::Absent | Outcome::Stopped | Outcome::Nothing => 3,
         Outcome::Refused => 1,
         Outcome::Accepted => 0,
     }
 }
 
-/// Returns the line on a last packet that is cut, if it is.
-fn cut_line(is_cut: bool) -> &'static [u8]
-    ensures { result.now ≡ cut_words is_cut }
+/// Returns the line on connections of which there were too many at once, if there are some.
+fn unread_line(alloc: Global, unread: u64) -> Result<Vec<u8>, AllocError>
+    ensures { IfOk result (λ line. line.items ≡ unread_words unread) }
 {
-    if is_cut {
-        b"capture: ends inside a packet, which is left out\n"
-    } else {
-        b""
+    let mut text = Vec::new(alloc);
+    if unread == 0 {
+        return Ok(text);
     }
+    if unread == 1 {
+        text.extend_from_slice(b"capture: 1 connection was not read further: too many at once\n")?;
+        return Ok(text);
+    }
+    text.extend_from_slice(b"capture: ")?;
+    push_number(unread, &mut text)?;
+    text.extend_from_slice(b" connections were not read further: too many at once\n")?;
+    Ok(text)
 }
 
 /// Returns the line on a capture without a connection of this number.
@@ -172,43 +196,22 @@ fn nothing_line(alloc: Global, packets: u64, skipped: u64) -> Result<Vec<u8>, Al
     Ok(text)
 }
 
-/// Says that a capture has no connection of the number of the stream, after what else is said of its end.
-fn say_absent<E: Target>(alloc: Global, end: &CaptureEnd, errors: &mut E)
-    requires { outcome_in end.now ≡ Absent }
-    ensures { IsEndSaid end.now (E.seen errors.old) (E.seen errors.new) }
-{
-    let cut = cut_line(end.is_cut);
-    let Some(number) = end.absent else {
-        return say_both(cut, b"", errors);
-    };
-    match absent_line(alloc, number) {
-        Ok(line) => say_both(cut, line.as_slice(), errors),
-        Err(_) => say_both(cut, fault_line(ToolFault::Memory), errors),
-    }
-}
-
-/// Says that a capture has no BitTorrent connection, after what else is said of its end.
-fn say_nothing<E: Target>(alloc: Global, end: &CaptureEnd, errors: &mut E)
-    requires { outcome_in end.now ≡ Nothing }
-    ensures { IsEndSaid end.now (E.seen errors.old) (E.seen errors.new) }
-{
-    let cut = cut_line(end.is_cut);
-    match nothing_line(alloc, end.packets, end.skipped) {
-        Ok(line) => say_both(cut, line.as_slice(), errors),
-        Err(_) => say_both(cut, fault_line(ToolFault::Memory), errors),
-    }
-}
-
-/// Says what a capture had that was read to its end.
-fn say_end<E: Target>(alloc: Global, end: &CaptureEnd, errors: &mut E)
-    ensures { IsEndSaid end.now (E.seen errors.old) (E.seen errors.new) }
+/// Returns the last line on a capture.
+///
+/// # Errors
+/// `AllocError` if memory ran out, with a connection or for the line.
+fn last_line(alloc: Global, end: &CaptureEnd) -> Result<Vec<u8>, AllocError>
+    ensures line { IfOk result (λ line. IsLastLine (outcome_in end.now) end.now line.items) }
+    ensures memory { OnErr result (IsLastLine (outcome_in end.now) end.now (fault_line fault.Memory)) }
 {
     match outcome_of(end) {
-        Outcome::Lost => say_both(cut_line(end.is_cut), fault_line(ToolFault::Memory), errors),
-        Outcome::Absent => say_absent(alloc, end, errors),
-        Outcome::Nothing => say_nothing(alloc, end, errors),
-        Outcome::Refused => say_both(cut_line(end.is_cut), b"", errors),
-        Outcome::Accepted => say_both(cut_line(end.is_cut), b"", errors),
+        Outcome::Lost => Err(AllocError),
+        Outcome::Absent => match end.absent {
+            Some(number) => absent_line(alloc, number),
+            None => Ok(Vec::new(alloc)),
+        },
+        Outcome::Nothing => nothing_line(alloc, end.packets, end.skipped),
+        Outcome::Stopped | Outcome::Refused | Outcome::Accepted => Ok(Vec::new(alloc)),
     }
 }
 
@@ -227,17 +230,99 @@ fn file_line(fault: FileFault) -> &'static [u8]
     }
 }
 
+/// Returns the line on how reading ended, if it didn't end after a whole item.
+fn ending_line(ending: Ending) -> &'static [u8]
+    ensures { result.now ≡ ending_line_words ending }
+{
+    match ending {
+        Ending::Whole => b"",
+        Ending::Cut => b"capture: ends inside a packet, which is left out\n",
+        Ending::Broken(fault) => file_line(fault),
+        Ending::Failed => fault_line(ToolFault::Read),
+    }
+}
+
+/// Writes three texts on standard error, as far as it takes them.
+fn say_three<E: Target>(first: &[u8], second: &[u8], third: &[u8], errors: &mut E)
+    ensures { IsSaid (first.now ++ (second.now ++ third.now)) (E.seen errors.old) (E.seen errors.new) }
+{
+    match write_out(errors, first, ()) {
+        Ok(()) => say_both(second, third, errors),
+        Err(_) => {}
+    }
+}
+
+/// Writes four texts on standard error, as far as it takes them.
+fn say_four<E: Target>(prefix: &[u8], first: &[u8], second: &[u8], third: &[u8], errors: &mut E)
+    ensures { IsSaid (prefix.now ++ (first.now ++ (second.now ++ third.now))) (E.seen errors.old) (E.seen errors.new) }
+{
+    match write_out(errors, prefix, ()) {
+        Ok(()) => say_three(first, second, third, errors),
+        Err(_) => {}
+    }
+}
+
+/// Writes these texts and the last line.
+fn say_last<E: Target>(
+    alloc: Global,
+    end: &CaptureEnd,
+    prefix: &[u8],
+    words: &[u8],
+    unread: &[u8],
+    errors: &mut E,
+)
+    ensures { (line : List ℕ) × IsLastLine (outcome_in end.now) end.now line
+        × IsSaid ((prefix.now ++ words.now) ++ (unread.now ++ line)) (E.seen errors.old) (E.seen errors.new) }
+{
+    match last_line(alloc, end) {
+        Ok(line) => say_four(prefix, words, unread, line.as_slice(), errors),
+        Err(_) => say_four(prefix, words, unread, fault_line(ToolFault::Memory), errors),
+    }
+}
+
+/// Writes these texts, which say how reading ended, and the two lines after them.
+fn say_after<E: Target>(
+    alloc: Global,
+    end: &CaptureEnd,
+    prefix: &[u8],
+    words: &[u8],
+    errors: &mut E,
+)
+    ensures { IsEndSaidAfter (prefix.now ++ words.now) end.now (E.seen errors.old) (E.seen errors.new) }
+{
+    match unread_line(alloc, end.unread) {
+        Ok(line) => say_last(alloc, end, prefix, words, line.as_slice(), errors),
+        Err(_) => {
+            say_last(
+                alloc,
+                end,
+                prefix,
+                words,
+                fault_line(ToolFault::Memory),
+                errors,
+            );
+        }
+    }
+}
+
+/// Says what a capture had.
+fn say_end<E: Target>(alloc: Global, end: &CaptureEnd, prefix: &[u8], errors: &mut E)
+    ensures { IsEndSaid prefix.now end.now (E.seen errors.old) (E.seen errors.new) }
+{
+    let line = ending_line(end.ending);
+    if is_unread(end.ending) {
+        say_after(alloc, end, prefix, line, errors);
+    } else {
+        say_after(alloc, end, b"", line, errors);
+    }
+}
+
 /// Says which fault ended the command, and returns the exit status.
 fn end_by<E: Target>(fault: CaptureFault, prefix: &[u8], is_gone: bool, errors: &mut E) -> u8
     ensures said { IsSaid (capture_fault_words is_gone prefix.now fault) (E.seen errors.old) (E.seen errors.new) }
     ensures status { result ≡ capture_fault_status is_gone fault }
 {
     match fault {
-        CaptureFault::File(fault) => {
-            say_both(prefix, file_line(fault), errors);
-            3
-        }
-        CaptureFault::Read => end_by_fault(ToolFault::Read, prefix, is_gone, errors),
         CaptureFault::Write => end_by_fault(ToolFault::Write, prefix, is_gone, errors),
         CaptureFault::Memory => end_by_fault(ToolFault::Memory, prefix, is_gone, errors),
         CaptureFault::Turns => end_by_fault(ToolFault::Turns, prefix, is_gone, errors),
@@ -259,7 +344,7 @@ pub fn end_capture<E: Target>(
 {
     match end {
         Ok(end) => {
-            say_end(alloc, &end, errors);
+            say_end(alloc, &end, prefix, errors);
             status_of(outcome_of(&end))
         }
         Err(fault) => end_by(fault, prefix, is_gone, errors),

@@ -1,10 +1,11 @@
-use Rattle.std.proofs.Common.{◌∙◌, length}
+use Rattle.std.proofs.Common.{◌∙◌, ap, length}
+use Rattle.bt_capture.specs.declared.connections.Losses.{Losses}
 use Rattle.bt_capture.specs.Following.{reports_of}
 use Rattle.bt_capture.proofs.Outcomes.{all_over, whole_written, texts_written, stream_told, rows_told, absent_by, begun_all}
 use Rattle.bt_capture.proofs.run.end_of.Goals as goal
 
-pub returns : goal.returns
-returns c o left before now i empty ended waits added =
+pub returns-clause-end : goal.returns-clause-end
+returns-clause-end c o left before now i empty ended added =
     let run = c.args.run.now in
     let r = c.args.packets.now in
     let known = i.follows.known in
@@ -15,10 +16,7 @@ returns c o left before now i empty ended waits added =
       packets = i.packets;
       r = r;
       read = i.read;
-      waits = waits;
-      file_end = c.args.end;
       ended = ended;
-      cut = c.is_cut.ensures;
       count = c.packets.ensures ∙ i.read.reading.count;
       skipped = i.skipped;
       fs = fs;
@@ -31,6 +29,7 @@ returns c o left before now i empty ended waits added =
       calm = added.1 ∙ known.tells.calm;
       torrents = c.torrents.ensures o.target before (reports_of fs) written known.tells;
       refused = c.is_refused.ensures o.target before (reports_of fs) written known.tells;
-      lost = known.lost;
+      lost = ap (λ (l : Losses). l.memory) known.lost;
+      unread = ap (λ (l : Losses). l.crowd) known.lost;
       absent = absent_by o.form run.teller.form (length fs) run.begun i.form begun _ c.absent.ensures;
     }

@@ -6,7 +6,7 @@ use Rattle.bt_capture.specs.Runs.{IsTellingIn}
 use Rattle.bt_capture.specs.Tables.{Held, IsApart}
 use Rattle.bt_capture.specs.declared.pair.Pair.{Pair}
 use Rattle.bt_capture.proofs.Entries.{apart_first, apart_rest}
-use Rattle.bt_capture.proofs.Outcomes.{partly, told_rest, fault_any}
+use Rattle.bt_capture.proofs.Outcomes.{partly, told_rest}
 use Rattle.bt_capture.proofs.run.finish.Goals as goal
 
 pub loop-connection-init : goal.loop-connection-init
@@ -44,8 +44,7 @@ returns-in-Err-clause-after g c o left r i =
     let told = told_rest o left (g.W.Target.seen c.args.writer.now) c.args.run.now c.rest.new.self c.in-Ok.rest.items r
     c.in-Ok.ensures.all c.in-Ok.ensures.sorted c.in-Ok.ensures.same i in
     let given = subst Q (sym c.into_iter-connection-iterator.ensures.into_iter_gives.0) told in
-    fault_any AtEnd _ o left (g.W.Target.seen c.tell_last.new.writer) rest [] c.tell_last.new.run r c.in-Err.ensures.fault
-    (c.in-Err.ensures.after o left e.0 rest r (apart_first e rest apart) (subst P c.in-Some.ensures.steps.0 (c.loop-connection.invariant.told o left r given)))
+    c.in-Err.ensures.after o left e.0 rest r (apart_first e rest apart) (subst P c.in-Some.ensures.steps.0 (c.loop-connection.invariant.told o left r given))
 
 pub returns-clause-after : goal.returns-clause-after
 returns-clause-after g c o left r i =

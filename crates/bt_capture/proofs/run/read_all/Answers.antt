@@ -38,5 +38,5 @@ returns-in-Ok-Some-clause-seen g c =
 
 pub returns-in-Err-clause-seen : goal.returns-in-Err-clause-seen
 returns-in-Err-clause-seen g c =
-    broken_on c.in-Err.fault (g.R.Source.seen c.args.reader.now) (g.R.Source.seen c.loop-turn.reader) (g.R.Source.seen c.turn.new.reader)
+    broken_on c.in-Err.stop (g.R.Source.seen c.args.reader.now) (g.R.Source.seen c.loop-turn.reader) (g.R.Source.seen c.turn.new.reader)
     c.loop-turn.invariant.gone c.in-Err.ensures.seen

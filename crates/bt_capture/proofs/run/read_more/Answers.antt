@@ -4,7 +4,7 @@ use Rattle.bt_capture.specs.Readings.{Waits}
 use Rattle.bt_capture.specs.Runs.{IsTelling}
 use Rattle.bt_capture.specs.Tables.{Held}
 use Rattle.bt_capture.specs.declared.pair.Pair.{Pair}
-use Rattle.bt_capture.proofs.Outcomes.{read_bytes, read_kept, told_read, partly, waits_on, fault_of_telling}
+use Rattle.bt_capture.proofs.Outcomes.{read_bytes, read_kept, told_read, partly, waits_on}
 use Rattle.bt_capture.proofs.run.read_more.Goals as goal
 
 pub returns-in-Ok-read-clause-after : goal.returns-in-Ok-read-clause-after
@@ -50,5 +50,6 @@ returns-in-Ok-eq0-clause-waits g c w is =
 pub returns-in-Err-Failed-clause-why : goal.returns-in-Err-Failed-clause-why
 returns-in-Err-Failed-clause-why g c w = subst (λ r. Waits r) (sym c.in-Err-Failed.ensures.err.0) w
 
-pub returns-in-Err-clause-why : goal.returns-in-Err-clause-why
-returns-in-Err-clause-why g c w = fault_of_telling c.in-Err.fault c.args.packets.now c.in-Err.ensures.fault
+pub returns-in-Err-clause-after : goal.returns-in-Err-clause-after
+returns-in-Err-clause-after g c o i =
+    c.in-Err.ensures.after During o (g.R.Source.seen c.args.reader.now).left c.args.run.now.table c.args.packets.now i

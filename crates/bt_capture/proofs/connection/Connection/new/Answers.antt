@@ -1,7 +1,8 @@
-use Rattle.std.proofs.Common.{Bool, [], refl, subst, sym}
+use Rattle.std.proofs.Common.{[], refl}
 use Rattle.bt_talk.specs.Pasts.{no_past}
-use Rattle.bt_talk.specs.Talks.{AreShownIn, of_side}
+use Rattle.bt_talk.specs.Talks.{of_side}
 use Rattle.bt_capture.proofs.Sending.{nothing_sent}
+use Rattle.bt_capture.proofs.Turns.{first_heard}
 use Rattle.bt_capture.proofs.connection.Connection.new.Goals as goal
 
 pub returns-clause-open : goal.returns-clause-open
@@ -14,14 +15,19 @@ returns-clause-open c when = record {
     b = no_past;
     made = record {
       begin = c.new.result;
+      turns = [];
       nothing = c.new.ensures.is;
       opening = c.new.ensures.opening;
       not_closed = c.new.ensures.closing;
       no_segment = c.new.ensures.segments;
-      has_taken = (refl, refl, refl);
+      has_taken = (refl, refl, refl, refl);
       is = c.new.ensures.is;
       ends = c.new.ensures.ends;
       terms_are = c.new.ensures.terms;
+      unmarked = c.new.ensures.marks;
+      unshut = c.new.ensures.not_shut;
+      watched = c.new.ensures.watched;
+      heard = first_heard c.new.result c.new.ensures.is c.new.ensures.opening;
     };
     next = tt;
   };
@@ -34,6 +40,4 @@ returns-clause-sent c when side there =
 
 pub returns-clause-shown : goal.returns-clause-shown
 unfolding returns-clause-open
-returns-clause-shown c when h there =
-    let P : Bool → Type 0 = λ o. AreShownIn o h no_past no_past c.new.result [] in
-    ((returns-clause-open c when).made there, subst P (sym c.new.ensures.opening) refl)
+returns-clause-shown c when h there = ((returns-clause-open c when).made there, refl)

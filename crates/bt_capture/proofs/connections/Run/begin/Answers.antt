@@ -10,7 +10,7 @@ use Rattle.bt_capture.proofs.Reported.{begun, stops_of, stops_same}
 use Rattle.bt_capture.proofs.connections.Run.begin.Goals as goal
 
 pub returns-in-Ok-clause-finds : goal.returns-in-Ok-clause-finds
-returns-in-Ok-clause-finds c start now came when p es absent i =
+returns-in-Ok-clause-finds c start now clock came when p es absent i =
     let x = arrived c.args.segment.now when in
     let Q : Connection → Type 0 = λ k. IsOpen c.args.self.now.terms [] (x ∷ []) k in
     let same : c.in-Ok.connection.value ≡ c.new-connection.result = search rules in
@@ -27,5 +27,5 @@ returns-in-Ok-clause-sent c = λ when side.
     subst Q (sym same) (c.new-connection.ensures.sent when side)
 
 pub returns-clause-finds : goal.returns-clause-finds
-returns-clause-finds c start now came when p es absent i =
+returns-clause-finds c start now clock came when p es absent i =
     stops_same start now came c.args.self.now _ refl refl refl refl (stops_of start now came es c.args.self.now i)

@@ -1,5 +1,7 @@
 use Rattle.std.proofs.Common.{◌≡◌, ◌∙◌, ◌-◌, None, refl, sym, ap, subst, List, ◌∷◌}
 use Rattle.std.specs.Map.{lookup}
+use Rattle.std.proofs.lemmas.List.Elements.{All-nil}
+use Rattle.bt_capture.specs.Arrivals.{Arrival, IsEarlier}
 use Rattle.bt_capture.specs.Following.{During, Ended, Follows, Goes}
 use Rattle.bt_capture.specs.Tables.{Held, same_pair}
 use Rattle.bt_capture.specs.declared.connection.Connection.{Connection}
@@ -12,25 +14,31 @@ use Rattle.bt_capture.proofs.Steps.{follows_out}
 use Rattle.bt_capture.proofs.connections.Run.end.Goals as goal
 
 pub returns-in-Some-clause-goes : goal.returns-in-Some-clause-goes
-returns-in-Some-clause-goes c start now came ended i =
+returns-in-Some-clause-goes c start now clock came at quiet there packet within i =
     let p = c.args.pair in
     let es : List (Pair × Held) = c.args.self.now.table in
     let left : List (Pair × Held) = c.take_out.new.self in
     let absent : lookup (same_pair p) left ≡ None =
     subst (λ l. lookup (same_pair p) l ≡ None) (sym c.in-Some.ensures.rest) (lookup_gone p es c.in-Some.ensures.apart) in
     let out = follows_out start now came p c.in-Some.connection es left c.args.self.now (sym c.in-Some.ensures.found) c.in-Some.ensures.rest i in
-    subst (λ l. Goes start now came l c.report.new.self c.report.result) (sym c.report.ensures.table)
-    (c.report.ensures.goes During start now came p left Ended absent
-    (record { may_be = refl; parted = tt; why = λ a b t. ended c.in-Some.connection (sym c.in-Some.ensures.found) }) refl
+    subst (λ l. Goes start now clock came l c.report.new.self c.report.result) (sym c.report.ensures.table)
+    (c.report.ensures.goes During start now clock came p left (Ended at) absent
+    (record {
+      may_be = refl;
+      parted = All-nil (λ (x : Arrival). IsEarlier at x.when.packet);
+      why = λ a b t. quiet c.in-Some.connection (sym c.in-Some.ensures.found);
+      timely = (there, within);
+      told_at = sym packet;
+    }) refl
     (follows_same start now came ((p, c.in-Some.connection) ∷ left) c.args.self.now _ refl refl refl refl refl out))
 
 pub returns-in-None-clause-goes : goal.returns-in-None-clause-goes
-returns-in-None-clause-goes c start now came ended i =
+returns-in-None-clause-goes c start now clock came at quiet there packet within i =
     let p = c.args.pair in
     let es : List (Pair × Held) = c.args.self.now.table in
     let left : List (Pair × Held) = c.take_out.new.self in
     let same : left ≡ es = c.in-None.ensures.rest ∙ lookup_kept p es (sym c.in-None.ensures.found) in
-    follows_same start now came left c.args.self.now _ refl refl refl refl refl (subst (λ l. Follows start now came l c.args.self.now) (sym same) i)
+    follows_same start now came left c.args.self.now _ refl refl refl refl refl (subst (λ l. Follows start now clock came l c.args.self.now) (sym same) i)
 
 pub returns-in-Some-clause-bounded : goal.returns-in-Some-clause-bounded
 returns-in-Some-clause-bounded c i =

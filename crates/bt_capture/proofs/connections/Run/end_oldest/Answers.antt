@@ -11,7 +11,7 @@ use Rattle.bt_capture.proofs.Steps.{follows_moved}
 use Rattle.bt_capture.proofs.connections.Run.end_oldest.Goals as goal
 
 pub returns-in-Some-clause-goes : goal.returns-in-Some-clause-goes
-returns-in-Some-clause-goes c start now came i =
+returns-in-Some-clause-goes c start now clock came i =
     let es : List (Pair × Held) = c.args.self.now.table in
     let left : List (Pair × Held) = c.take_oldest.new.self in
     let e : Pair × Held = (c.in-Some.field-0-0, c.in-Some.oldest) in
@@ -19,9 +19,11 @@ returns-in-Some-clause-goes c start now came i =
     let apart : IsApart (left ++ e ∷ []) = subst (λ l. IsApart l) is c.take_oldest.ensures.apart in
     let move : IsPermutation (left ++ e ∷ []) (e ∷ left) = IsPermutation-append_comm left (e ∷ []) in
     let absent = apart_first e left (apart_moved (left ++ e ∷ []) (e ∷ left) move apart) in
-    let same = follows_moved start now came (left ++ e ∷ []) (e ∷ left) c.args.self.now move (subst (λ l. Follows start now came l c.args.self.now) is i) in
-    subst (λ l. Goes start now came l c.report.new.self c.report.result) (sym c.report.ensures.table)
-    (c.report.ensures.goes During start now came e.0 left Crowded absent (record { may_be = refl; parted = tt; why = λ a b t. tt }) refl
+    let was = subst (λ l. Follows start now clock came l c.args.self.now) is i in
+    let same = follows_moved start now came (left ++ e ∷ []) (e ∷ left) c.args.self.now move was in
+    subst (λ l. Goes start now clock came l c.report.new.self c.report.result) (sym c.report.ensures.table)
+    (c.report.ensures.goes During start now clock came e.0 left Crowded absent
+    (record { may_be = refl; parted = tt; why = λ a b t. tt; timely = tt; told_at = tt }) refl
     (follows_same start now came (e ∷ left) c.args.self.now _ refl refl refl refl refl same))
 
 pub returns-in-Some-clause-shorter : goal.returns-in-Some-clause-shorter

@@ -14,28 +14,28 @@ abbrev Is : Bool → Arrival → Connection → Type 0
 Is opens x c = (a b : Past) → IsTalk a b c.talk → Begins opens x a b c.talk
 
 pub returns-in-Ok-clause-finds : goal.returns-in-Ok-clause-finds
-returns-in-Ok-clause-finds c start now came p es absent i =
+returns-in-Ok-clause-finds c start now clock came p es absent new packet i =
     let x = arrived c.args.segment.now c.args.when in
     let begins : c.begins_another.result ≡ true = search rules in
     let same : c.deref.result.now ≡ c.args.connection.value = search rules in
     let is = subst (λ k. Is true x k) same (subst (λ b. Is b x c.deref.result.now) begins c.begins_another.ensures) in
-    c.begin.ensures.finds start now came c.args.when p es absent
-    (c.in-Ok.ensures.goes (Coming p x) start now came p es (Before x) absent (may_before p x c.args.connection.value is) refl
-    (follows_coming start now came _ _ p x i))
+    c.begin.ensures.finds start now clock came c.args.when p es absent
+    (c.in-Ok.ensures.goes (Coming p x) start now clock came p es (Before x) absent (may_before clock came p x c.args.connection.value is packet) refl
+    (follows_coming start now came _ _ p x new i))
 
 pub returns-in-Err-clause-finds : goal.returns-in-Err-clause-finds
-returns-in-Err-clause-finds c start now came p es absent i =
+returns-in-Err-clause-finds c start now clock came p es absent new packet i =
     let x = arrived c.args.segment.now c.args.when in
     let begins : c.begins_another.result ≡ true = search rules in
     let same : c.deref.result.now ≡ c.args.connection.value = search rules in
     let is = subst (λ k. Is true x k) same (subst (λ b. Is b x c.deref.result.now) begins c.begins_another.ensures) in
-    c.in-Err.ensures.goes (Coming p x) start now came p es (Before x) absent (may_before p x c.args.connection.value is) refl
-    (follows_coming start now came _ _ p x i)
+    c.in-Err.ensures.goes (Coming p x) start now clock came p es (Before x) absent (may_before clock came p x c.args.connection.value is packet) refl
+    (follows_coming start now came _ _ p x new i)
 
 pub returns-then-not-begins_another-clause-finds : goal.returns-then-not-begins_another-clause-finds
-returns-then-not-begins_another-clause-finds c start now came p es absent i =
+returns-then-not-begins_another-clause-finds c start now clock came p es absent new packet i =
     let x = arrived c.args.segment.now c.args.when in
     let belongs : c.begins_another.result ≡ false = search rules in
     let same : c.deref.result.now ≡ c.args.connection.value = search rules in
     let is = subst (λ k. Is false x k) same (subst (λ b. Is b x c.deref.result.now) belongs c.begins_another.ensures) in
-    held start now came x p c.args.connection es c.args.self.now is absent (follows_coming start now came _ _ p x i)
+    held start now came x p c.args.connection es c.args.self.now is absent (follows_coming start now came _ _ p x new i)

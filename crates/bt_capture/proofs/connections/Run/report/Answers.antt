@@ -7,11 +7,14 @@ use Rattle.bt_remarks.specs.declared.events.Side.{Side}
 use Rattle.std.specs.List.{filter}
 use Rattle.bt_talk.specs.Rooms.{rows_in, sent_in, showing_in, wanted_in}
 use Rattle.bt_talk.specs.Sent.{IsSent, SendsOn}
-use Rattle.bt_talk.specs.Rows.{Shown, is_item, shown_texts}
-use Rattle.bt_talk.specs.Talks.{AreShown, AreShownIn, IsTalk, ShowsMore, is_in_opening, is_lost, of_side}
+use Rattle.bt_talk.specs.Rows.{is_item, shown_texts}
+use Rattle.bt_talk.specs.Shown.{AreTurnRows, Turn}
+use Rattle.bt_talk.specs.Talks.{HasHeard, IsTalk, is_in_opening, is_lost, of_side}
 use Rattle.bt_talk.specs.declared.talk.Talk.{Talk}
-use Rattle.bt_capture.specs.Following.{IsEnded}
+use Rattle.bt_capture.specs.Following.{IsEnded, with_left}
+use Rattle.bt_told.specs.declared.report.Left.{Left}
 use Rattle.bt_capture.specs.declared.connection.Connection.{Connection}
+use Rattle.bt_capture.specs.declared.connections.Losses.{Losses}
 use Rattle.bt_capture.specs.Forms.{handed, is_stream, showing_by, wanted_by}
 use Rattle.bt_capture.specs.Rowed.{heading_of}
 use Rattle.bt_capture.specs.Shown.{HasRows}
@@ -22,30 +25,45 @@ use Rattle.bt_capture.proofs.Shown.{has_first}
 use Rattle.bt_capture.specs.Tellings.{SaysAfter}
 use Rattle.bt_capture.proofs.Reported.{silent, lost_one, not_lost, reported}
 use Rattle.bt_capture.proofs.Taking.{has_some, silent_is}
+use Rattle.bt_capture.proofs.Turns.{ShowsTurns, ends_on}
 use Rattle.bt_capture.proofs.connections.Run.report.Goals as goal
 
 pub returns-then-is_silent-clause-goes : goal.returns-then-is_silent-clause-goes
-returns-then-is_silent-clause-goes c ph start now came p es cause absent may left i =
+returns-then-is_silent-clause-goes c ph start now clock came p es cause absent may left i =
     let connection = c.args.connection.value in
     let both = silent_is connection.has_payload (is_lost connection.talk) (search rules) in
-    silent start now came p c.args.connection es c.args.self.now cause may absent both.0 both.1 i
+    silent start now came p c.args.connection es c.args.self.now _ cause may absent both.0 both.1 refl refl refl refl
+    (c.with-self.ensures ∙ ap (λ (l : Left). with_left l c.args.self.now.lost) left) i
 
 pub returns-in-Ok-clause-goes : goal.returns-in-Ok-clause-goes
-returns-in-Ok-clause-goes c ph start now came p es cause absent may left i =
+returns-in-Ok-clause-goes c ph start now clock came p es cause absent may left i =
     let silent_not : (not c.args.connection.value.has_payload && not (is_lost c.args.connection.value.talk)) ≡ false = search rules in
     let old : c.deref_mut.result.now ≡ c.args.connection.value = search rules in
     let new : c.deref-in-Ok.result.now.talk ≡ c.end_opening.new.self = search rules in
     let talk = c.end_opening.new.self in
-    let Q : Connection → Type 0 = λ x. (a b : Past) → IsTalk a b x.talk → IsEnded a b x.talk talk in
-    let ends : Q c.deref_mut.result.now = λ a b t. record {
-      is = c.in-Ok.ensures.kept a b t;
-      flows = c.in-Ok.ensures.flows;
-      ends = c.in-Ok.ensures.ends;
-      terms = c.in-Ok.ensures.terms;
-      closing = c.in-Ok.ensures.closing;
-      cuts = λ side. c.in-Ok.ensures.cuts a b side t;
-      over = c.in-Ok.ensures.over;
-    } in
+    let rows = rows_in c.turn_to.new.self in
+    let rows' = rows_in c.end_opening.new.room in
+    let Q : Connection → Type 0 = λ x. (a b : Past) (turns : List Turn) → IsTalk a b x.talk → HasHeard turns a b x.talk
+    → (now : List Turn) × IsEnded a b x.talk talk turns now × ((packet : ℕ) → ShowsTurns packet rows rows' turns now) in
+    let ends : Q c.deref_mut.result.now = λ a b turns t heard.
+    let e = ends_on a b c.deref_mut.result.now.talk talk rows rows' turns c.in-Ok.ensures.over (c.in-Ok.ensures.opened a b t) c.in-Ok.ensures.open_already
+    c.in-Ok.ensures.watch c.in-Ok.ensures.directions heard in (
+      e.0,
+      record {
+        is = c.in-Ok.ensures.kept a b t;
+        flows = c.in-Ok.ensures.flows;
+        ends = c.in-Ok.ensures.ends;
+        terms = c.in-Ok.ensures.terms;
+        closing = c.in-Ok.ensures.closing;
+        cuts = λ side. c.in-Ok.ensures.cuts a b side t;
+        over = c.in-Ok.ensures.over;
+        heard = e.1;
+        opened = e.2;
+        after = e.3;
+      },
+      e.4,
+    ) in
+    let ended = subst Q old ends in
     let there : is_lost c.deref_mut.result.now.talk ≡ false = not_lost _ _ _ c.in-Ok.ensures.stays in
     let is_there : is_lost c.args.connection.value.talk ≡ false = subst (λ (x : Connection). is_lost x.talk ≡ false) old there in
     let some = has_some c.args.connection.value.has_payload (is_lost c.args.connection.value.talk) silent_not is_there in
@@ -64,32 +82,31 @@ returns-in-Ok-clause-goes c ph start now came p es cause absent may left i =
     let start_is : ℕ = unwrap_or c.args.self.now.start 0 in
     let more : List ℕ = handed form number room in
     let R : Talk → Type 0 = λ t.
-    OnOk c.report.result ((h : P) → SaysAfter c.args.self.now.teller c.report.new.self number c.unwrap_or-from.result c.args.left t more h.rows) in
-    let S : ℕ → Type 0 = λ n. OnOk c.report.result ((h : P) → SaysAfter c.args.self.now.teller c.report.new.self number n c.args.left talk more h.rows) in
-    let T : ℕ → Type 0 = λ n. OnOk c.report.result ((h : P) → SaysAfter c.args.self.now.teller c.report.new.self n start_is c.args.left talk more h.rows) in
-    let says = subst T same (subst S c.unwrap_or-from.ensures (subst R new c.report.ensures.told)) in
+    OnOk c.report-told.result ((h : P) → SaysAfter c.args.self.now.teller c.report-told.new.self number c.unwrap_or-from.result c.args.left t more h.rows) in
+    let S : ℕ → Type 0 = λ n.
+    OnOk c.report-told.result ((h : P) → SaysAfter c.args.self.now.teller c.report-told.new.self number n c.args.left talk more h.rows) in
+    let T : ℕ → Type 0 = λ n.
+    OnOk c.report-told.result ((h : P) → SaysAfter c.args.self.now.teller c.report-told.new.self n start_is c.args.left talk more h.rows) in
+    let says = subst T same (subst S c.unwrap_or-from.ensures (subst R new c.report-told.ensures.told)) in
     let heading : (rows_in c.turn_to.new.self).heading ≡ heading_of form connection.number start_is = search rules in
-    let V : Connection → Type 0 = λ x. (a b : Past) (before : List Shown) → IsTalk a b x.talk
-    → AreShownIn (is_in_opening x.talk) (rows_in c.turn_to.new.self).heading a b x.talk before
-    → ShowsMore false (rows_in c.turn_to.new.self).heading (rows_in c.turn_to.new.self) (rows_in room) a b talk before in
-    let ended = subst V old c.in-Ok.ensures.shown in
     let showing_is : showing_in c.turn_to.new.self ≡ showing = ap (λ (h : Heading). h.showing) c.turn_to.ensures.heading ∙ c.showing.ensures in
-    let reports = on_ok c.report.result (λ says a b before t sh.
-    let e = ended a b before t (subst (λ (h : Heading). AreShownIn (is_in_opening connection.talk) h a b connection.talk before) (sym heading) sh) in
-    let text : (rows_in room).text.items ≡ shown_texts showing e.0 =
-    e.1.text ∙ ap (λ (l : List ℕ). l ++ shown_texts (showing_in c.turn_to.new.self) e.0) c.turn_to.ensures.empty
-    ∙ ap (λ (s : Showing). shown_texts s e.0) showing_is in
-    let h : P = record { showing_is = ap (λ (k : Heading). k.showing) e.1.heading ∙ showing_is; rows = e.0; text = text } in
-    (e.0, subst (λ (k : Heading). AreShown k a b talk (before ++ filter is_item e.0)) heading e.2, says h)) says in
+    let reports = on_ok c.report-told.result (λ says packet a b turns before t heard sh.
+    let e = ended a b turns t heard in
+    let w = e.2 packet before (subst (λ (h : Heading). AreTurnRows h turns before) (sym heading) sh) in
+    let text : (rows_in room).text.items ≡ shown_texts showing w.0 =
+    w.1.text ∙ ap (λ (l : List ℕ). l ++ shown_texts (showing_in c.turn_to.new.self) w.0) c.turn_to.ensures.empty
+    ∙ ap (λ (s : Showing). shown_texts s w.0) showing_is in
+    let h : P = record { showing_is = ap (λ (k : Heading). k.showing) w.1.heading ∙ showing_is; rows = w.0; text = text } in
+    (e.0, e.1, (w.0, subst (λ (k : Heading). AreTurnRows k e.0 (before ++ filter is_item w.0)) heading w.2, w.3, says h))) says in
     let U : Connection → Type 0 = λ x. (a b : Past) (side : Side) → IsTalk a b x.talk → wanted_in c.turn_to.new.self ≡ Some side
     → SendsOn (is_in_opening x.talk) (of_side side a b) (is_in_opening talk) (of_side side a b) (sent_in room) in
     let sends = subst U old c.in-Ok.ensures.sent in
     let wanted : wanted_in c.turn_to.new.self ≡ wanted_by form connection.number = search rules in
-    reported c.report.result start now came p c.args.connection es c.args.self.now _ cause c.args.left may left absent some refl refl refl
-    c.report.ensures.form refl
-    is_there talk (subst Q old ends) P (subst Z old shown)
-    c.report.ensures.same more
-    c.report.ensures.text c.report.ensures.part (λ w. handed_none form number room (ap (λ n. wanted_by form n) same ∙ w))
+    reported c.report-told.result start now came p c.args.connection es c.args.self.now _ cause c.args.left may left absent some refl refl
+    c.with_told-self.ensures.some c.with_told-self.ensures.none c.report-told.ensures.form refl
+    is_there talk (λ a b turns t heard. let e = ended a b turns t heard in (e.0, e.1)) P (subst Z old shown)
+    c.report-told.ensures.same more
+    c.report-told.ensures.text c.report-told.ensures.part (λ w. handed_none form number room (ap (λ n. wanted_by form n) same ∙ w))
     (λ a b side before t w sent.
     let all : handed form number room ≡ sent_in room = handed_all form connection.number number room side same w in
     let V : List ℕ → Type 0 = λ l. IsSent false (of_side side a b) (before ++ l) in
@@ -98,8 +115,9 @@ returns-in-Ok-clause-goes c ph start now came p es cause absent may left i =
     reports i
 
 pub returns-clause-goes : goal.returns-clause-goes
-returns-clause-goes c ph start now came p es cause absent may left i =
-    lost_one start now came p c.args.connection es c.args.self.now _ absent refl refl refl c.saturating_add-self.ensures refl i
+returns-clause-goes c ph start now clock came p es cause absent may left i =
+    let with : ℕ → Losses = λ n. record { memory = n; crowd = c.args.self.now.lost.crowd } in
+    lost_one start now came p c.args.connection es c.args.self.now _ absent refl refl refl (ap with c.saturating_add-self.ensures) refl i
 
 pub returns-then-is_silent-clause-sent : goal.returns-then-is_silent-clause-sent
 returns-then-is_silent-clause-sent c terms taken side sent some =
@@ -132,7 +150,7 @@ returns-in-Ok-clause-sent c =
     → SendsOn (is_in_opening x.talk) (of_side side a b) (is_in_opening talk) (of_side side a b) (sent_in room) in
     let sends = subst S old c.in-Ok.ensures.sent in
     let wanted : wanted_in c.turn_to.new.self ≡ wanted_by form connection.number = search rules in
-    on_ok c.report.result (λ text terms taken side sent some w there h.
+    on_ok c.report-told.result (λ text terms taken side sent some w there h.
     let g = h there in
     let stream : is_stream form ≡ true = wants_stream connection.number form.stream (ap (λ (o : Option Side). is_some o) w) in
     let all : handed form number room ≡ sent_in room = handed_all form connection.number number room side same w in
@@ -142,7 +160,7 @@ returns-in-Ok-clause-sent c =
       more = handed form number room;
       text = text stream (subst Z old shown g.0.a g.0.b g.0.made.is);
       whole = inr (g.0, subst P (sym all) (subst Q c.in-Ok.ensures.over (sends g.0.a g.0.b side g.0.made.is (wanted ∙ w) sent g.1)));
-    }) c.report.ensures.text
+    }) c.report-told.ensures.text
 
 pub returns-in-Ok-clause-others : goal.returns-in-Ok-clause-others
 returns-in-Ok-clause-others c =
@@ -158,8 +176,8 @@ returns-in-Ok-clause-others c =
     let rows = c.in-Ok.ensures.rows a b t in
     subst (λ (s : Showing). HasRows s room) showing (has_first c.turn_to.new.self room rows.0 c.turn_to.ensures.empty rows.1) in
     let there : is_lost c.deref_mut.result.now.talk ≡ false = not_lost _ _ _ c.in-Ok.ensures.stays in
-    on_ok c.report.result (λ text stream w terms taken i.
+    on_ok c.report-told.result (λ text stream w terms taken i.
     let m = i.made (subst (λ (x : Connection). is_lost x.talk ≡ false) old there) in
     let before : List ℕ = c.args.self.now.teller.text.items in
     text stream (subst Z old shown m.a m.b m.made.is)
-    ∙ ap (λ (l : List ℕ). before ++ l) (handed_none form number room (ap (λ n. wanted_by form n) same ∙ w)) ∙ append-nil before) c.report.ensures.text
+    ∙ ap (λ (l : List ℕ). before ++ l) (handed_none form number room (ap (λ n. wanted_by form n) same ∙ w)) ∙ append-nil before) c.report-told.ensures.text

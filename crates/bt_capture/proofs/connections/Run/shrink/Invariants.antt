@@ -1,6 +1,6 @@
 use Rattle.std.proofs.Common.{◌≡◌, List, length}
 use Rattle.bt_io.specs.Seen.{TargetSeen}
-use Rattle.bt_capture.specs.Arrivals.{Arrival}
+use Rattle.bt_capture.specs.Arrivals.{Arrival, Clock}
 use Rattle.bt_capture.specs.Bounds.{IsCounted}
 use Rattle.bt_capture.specs.Following.{Follows}
 use Rattle.bt_capture.proofs.connections.Run.shrink.Given as goal
@@ -10,8 +10,8 @@ decreases-oldest l = length l.self.table
 
 abbrev pub invariant-oldest : goal.invariant-oldest
 invariant-oldest l = record {
-  told : (start now : TargetSeen) (came : List Arrival) → Follows start now came l.initial.self.table l.initial.self
-      → Follows start now came l.self.table l.self;
+  told : (start now : TargetSeen) (clock : Clock) (came : List Arrival) → Follows start now clock came l.initial.self.table l.initial.self
+      → Follows start now clock came l.self.table l.self;
   terms : l.self.terms ≡ l.initial.self.terms;
   form : l.self.teller.form ≡ l.initial.self.teller.form;
   start : l.self.start ≡ l.initial.self.start;

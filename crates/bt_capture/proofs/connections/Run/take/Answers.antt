@@ -1,13 +1,16 @@
-use Rattle.std.proofs.Common.{◌∙◌, ap, refl, sym, subst, List, [], ◌∷◌, ◌++◌}
+use Rattle.std.proofs.Common.{◌∙◌, ap, append-nil, arith, refl, sym, subst, List, [], ◌∷◌, ◌++◌}
 use Rattle.bt_io.specs.Counts.{counted}
 use Rattle.bt_pcap.specs.Formats.{Captured}
 use Rattle.bt_pcap.specs.Steps.{captured}
-use Rattle.bt_capture.specs.Arrivals.{Arrival, arrivals, arrivals_in, is_no_segment, is_skipped}
+use Rattle.std.specs.List.{Contains}
+use Rattle.std.proofs.lemmas.List.Elements.{Contains-push}
+use Rattle.bt_talk.specs.declared.closing.When.{When}
+use Rattle.bt_capture.specs.Arrivals.{Arrival, Clock, arrivals, arrivals_in, clock_of, is_no_segment, is_skipped}
 use Rattle.bt_utp.specs.States.{AreCounted}
 use Rattle.bt_capture.specs.FlowTexts.{datagrams, datagrams_in}
 use Rattle.bt_capture.specs.Following.{Follows, Stops}
 use Rattle.bt_capture.proofs.FlowLines.{datagrams_more, ok_any}
-use Rattle.bt_capture.proofs.Steps.{started, arrivals_more}
+use Rattle.bt_capture.proofs.Steps.{all_earlier, all_within, arrivals_more, clock_more, follows_later, number_of, number_up, started, stops_later}
 use Rattle.bt_capture.proofs.Skipping.{skipped_more}
 use Rattle.bt_capture.proofs.connections.Run.take.Goals as goal
 
@@ -15,22 +18,41 @@ pub returns-in-Ok-clause-goes : goal.returns-in-Ok-clause-goes
 returns-in-Ok-clause-goes c start now packets number time i =
     let run = c.take_sight.new.self in
     let nanos = c.args.packet.now.nanos in
-    let P : List Arrival → Type 0 = λ l. Follows start now l run.table run in
+    let p = captured c.args.packet.now in
+    let w : When = record { nanos = nanos; packet = c.args.number } in
+    let clock = clock_of packets in
+    let taken : Clock = record { packets = clock.packets; number = c.args.number } in
+    let all = clock_of (packets ++ p ∷ []) in
+    let now_on = clock_more packets p c.args.number number in
+    let packet = number_of packets p c.args.number number in
+    let begun = started start now packets c.args.self.now _ nanos time c.or-self.ensures refl refl refl refl refl i in
+    let P : List Arrival → Type 0 = λ l. Follows start now taken l run.table run in
     let same = ap (λ s. arrivals packets ++ arrivals_in c.args.number nanos s) c.sight_of.ensures in
-    c.end_quiet.ensures.goes start now (arrivals (packets ++ captured c.args.packet.now ∷ []))
-    (subst P (same ∙ sym (arrivals_more packets (captured c.args.packet.now) c.args.number number))
-    (c.in-Ok.ensures.goes start now (arrivals packets)
-    (started start now packets c.args.self.now _ nanos time c.or-self.ensures refl refl refl refl refl i)))
+    c.end_quiet.ensures.goes start now all (arrivals (packets ++ p ∷ [])) (subst (λ l. Contains l w) (sym now_on) (Contains-push clock.packets w)) packet
+    (all_within packets p c.args.number number)
+    (follows_later start now taken all (w ∷ []) (arrivals (packets ++ p ∷ [])) run.table run now_on (omega (arith, packet))
+    (subst P (same ∙ sym (arrivals_more packets p c.args.number number))
+    (c.in-Ok.ensures.goes start now taken (arrivals packets) (all_earlier packets c.args.number number) refl
+    (follows_later start now clock taken [] (arrivals packets) c.args.self.now.table _ (sym (append-nil clock.packets))
+    (number_up packets c.args.number number) begun))))
 
 pub returns-in-Err-clause-goes : goal.returns-in-Err-clause-goes
 returns-in-Err-clause-goes c start now packets number time i =
     let run = c.take_sight.new.self in
     let nanos = c.args.packet.now.nanos in
-    let P : List Arrival → Type 0 = λ l. Stops start now l run in
+    let p = captured c.args.packet.now in
+    let w : When = record { nanos = nanos; packet = c.args.number } in
+    let clock = clock_of packets in
+    let taken : Clock = record { packets = clock.packets; number = c.args.number } in
+    let now_on = clock_more packets p c.args.number number in
+    let begun = started start now packets c.args.self.now _ nanos time c.or-self.ensures refl refl refl refl refl i in
+    let P : List Arrival → Type 0 = λ l. Stops start now taken l run in
     let same = ap (λ s. arrivals packets ++ arrivals_in c.args.number nanos s) c.sight_of.ensures in
-    subst P (same ∙ sym (arrivals_more packets (captured c.args.packet.now) c.args.number number))
-    (c.in-Err.ensures.goes start now (arrivals packets)
-    (started start now packets c.args.self.now _ nanos time c.or-self.ensures refl refl refl refl refl i))
+    stops_later start now taken (clock_of (packets ++ p ∷ [])) (w ∷ []) (arrivals (packets ++ p ∷ [])) run now_on
+    (subst P (same ∙ sym (arrivals_more packets p c.args.number number))
+    (c.in-Err.ensures.goes start now taken (arrivals packets) (all_earlier packets c.args.number number) refl
+    (follows_later start now clock taken [] (arrivals packets) c.args.self.now.table _ (sym (append-nil clock.packets))
+    (number_up packets c.args.number number) begun)))
 
 pub returns-in-Ok-clause-utp : goal.returns-in-Ok-clause-utp
 returns-in-Ok-clause-utp c =

@@ -17,14 +17,14 @@ use Rattle.bt_capture.proofs.Sending.{handed_none}
 use Rattle.bt_capture.proofs.connections.Run.take_segment.Goals as goal
 
 pub returns-in-Ok-give-clause-goes : goal.returns-in-Ok-give-clause-goes
-returns-in-Ok-give-clause-goes c start now came i =
+returns-in-Ok-give-clause-goes c start now clock came new packet i =
     let x = arrived c.args.segment.now c.args.when in
     let run = c.connection_of.new.self in
     let es : List (Pair × Held) = run.table in
     let given = c.in-Ok.connection.value in
     let after = c.give.new.connection in
     let was : c.deref_mut.result.now ≡ given = search rules in
-    let h = c.in-Ok.ensures.finds start now came i in
+    let h = c.in-Ok.ensures.finds start now clock came new packet i in
     let rest = c.give.ensures.rest in
     let form = run.teller.form in
     let told = told_by h.written run in
@@ -42,20 +42,20 @@ returns-in-Ok-give-clause-goes c start now came i =
     → (rows : List Shown) × ShowsOn (heading_of form k.number from) before rows run.terms h.taken x after
     × (c.give.new.self.teller.text.items ≡ run.teller.text.items ++ (shown_texts (showing_by form) rows ++ more)) in
     let shows = subst S was (c.in-Ok-give.ensures.shown run.terms h.taken) in
-    c.put.ensures.goes start now (came ++ x ∷ [])
+    c.put.ensures.goes start now clock (came ++ x ∷ [])
     (follows_table start now (came ++ x ∷ []) _ _ es _ _ (ap (λ (k : Run). k.table) rest)
     (follows_took start now came x c.of-pair.result c.in-Ok.connection _ es run c.give.new.self (sym c.of-pair.ensures.key) (ap (λ (k : Run). k.terms) rest)
     (ap (λ (k : Run). k.start) rest) (ap (λ (k : Run). k.lost) rest) (ap (λ (k : Run). k.begun) rest) c.give.ensures.form tells number h
     (c.give.ensures.takes run.terms h.taken taking) more text (λ w. handed_none form after.number c.give.new.self.room (ap (λ n. wanted_by form n) number ∙ w))
-    sends shows))
+    sends shows packet))
 
 pub returns-in-Err-give-clause-goes : goal.returns-in-Err-give-clause-goes
-returns-in-Err-give-clause-goes c start now came i =
+returns-in-Err-give-clause-goes c start now clock came new packet i =
     let x = arrived c.args.segment.now c.args.when in
     let run = c.connection_of.new.self in
     let es : List (Pair × Held) = run.table in
     let was : c.deref_mut.result.now ≡ c.in-Ok.connection.value = search rules in
-    let h = c.in-Ok.ensures.finds start now came i in
+    let h = c.in-Ok.ensures.finds start now clock came new packet i in
     let rest = c.give.ensures.rest in
     let O : Connection → Type 0 = λ k. IsOpen run.terms h.taken (x ∷ []) k in
     let taking = subst O (sym was) h.is in
@@ -64,5 +64,5 @@ returns-in-Err-give-clause-goes c start now came i =
     (c.in-Err-give.ensures.kept run.terms h.taken taking) h
 
 pub returns-in-Err-clause-goes : goal.returns-in-Err-clause-goes
-returns-in-Err-clause-goes c start now came i =
-    stops_more start now came (arrived c.args.segment.now c.args.when ∷ []) _ (c.in-Err.ensures.finds start now came i)
+returns-in-Err-clause-goes c start now clock came new packet i =
+    stops_more start now came (arrived c.args.segment.now c.args.when ∷ []) _ (c.in-Err.ensures.finds start now clock came new packet i)
