@@ -7,8 +7,8 @@ use Rattle.bt_tcp.specs.Covered.{in_span, is_covered, AreApart, Adds, IsAlone}
 use Rattle.bt_tcp.specs.Segments.{Segment}
 use Rattle.bt_tcp.proofs.CoveredProofs.{apart-before, apart-less}
 use Rattle.bt_flow.specs.declared.noted.Noted.{Noted}
-use Rattle.bt_flow.specs.Notes.{spans_in, spans_noted, AddsBoth, NotesMore, HasNoRoom, HasNoRoomFor, ReachBase}
-use Rattle.bt_flow.specs.Flows.{is_captured, LacksRoom}
+use Rattle.bt_flow.specs.Notes.{spans_in, spans_noted, AddsIfRoom, NotesMore, HasNoRoom, HasNoRoomFor, ReachBase}
+use Rattle.bt_flow.specs.Flows.{is_captured, IsNotedIfRoom, LacksRoom, LacksRoomAmong}
 
 -- ---- a place and a span
 
@@ -34,29 +34,17 @@ goes_on s i a e = elim (cases_lt i s.from) [
   | inr l ↦ in_it s (i + 1) (omega (arith, l)) a
 ]
 
-covered_in : (s : Span) (spans : List Span) (i : ℕ) → s.from ≤ i → i < s.to → is_covered (s ∷ spans) i ≡ true
+pub covered_in : (s : Span) (spans : List Span) (i : ℕ) → s.from ≤ i → i < s.to → is_covered (s ∷ spans) i ≡ true
 covered_in s spans i a b = ap (λ c. if c then true else is_covered spans i) (in_it s i a b)
 
 -- ---- spans that begin before the base
 
-both_reach : (p c q f d : Bool) → (if p then true else c) ≡ true → (p ≡ true → q ≡ true) → (c ≡ true → d ≡ true)
-    → (if q then true else if f then true else d) ≡ true
-both_reach true c q f d e h k = ap (λ b. if b then true else if f then true else d) (h refl)
-both_reach false c true f d e h k = refl
-both_reach false c false true d e h k = refl
-both_reach false c false false d e h k = k e
+both_reach : (p c q d : Bool) → (if p then true else c) ≡ true → (p ≡ true → q ≡ true) → (c ≡ true → d ≡ true) → (if q then true else d) ≡ true
+both_reach true c q d e h k = ap (λ b. if b then true else d) (h refl)
+both_reach false c true d e h k = refl
+both_reach false c false d e h k = k e
 
-pub reach_both : (base next from to : ℕ) (spans spans' : List Span) → base ≤ next → next < to
-    → AddsBoth (record { from = base; to = next }) (record { from = from; to = to }) spans spans' → ReachBase base spans → ReachBase base spans'
-reach_both base next from to spans spans' h l a r i g e =
-    let s : Span = record { from = from; to = to } in
-    let f : Span = record { from = base; to = next } in
-    let old : (if in_span s i then true else is_covered spans i) ≡ true
-    = sym (ap (λ b. if in_span s i then true else if b then true else is_covered spans i) (before_it f i g)) ∙ sym (a i) ∙ e in
-    a (i + 1) ∙ both_reach (in_span s i) (is_covered spans i) (in_span s (i + 1)) (in_span f (i + 1)) (is_covered spans (i + 1)) old
-    (goes_on s i (omega (arith, g, h, l))) (r i g)
-
-one_reaches : (b c : Bool) → c ≡ true → (if b then true else c) ≡ true
+pub one_reaches : (b c : Bool) → c ≡ true → (if b then true else c) ≡ true
 one_reaches true c e = refl
 one_reaches false c e = e
 
@@ -65,6 +53,23 @@ reach_one base next spans spans' a r i g e =
     let f : Span = record { from = base; to = next } in
     let old : is_covered spans i ≡ true = sym (ap (λ b. if b then true else is_covered spans i) (before_it f i g)) ∙ sym (a i) ∙ e in
     a (i + 1) ∙ one_reaches (in_span f (i + 1)) (is_covered spans (i + 1)) (r i g old)
+
+-- A span that goes on past the base.
+reach_span : (base : ℕ) (s : Span) (spans spans' : List Span) → base < s.to → Adds s spans spans' → ReachBase base spans → ReachBase base spans'
+reach_span base s spans spans' l a r i g e =
+    a (i + 1) ∙ both_reach (in_span s i) (is_covered spans i) (in_span s (i + 1)) (is_covered spans (i + 1)) (sym (a i) ∙ e)
+    (goes_on s i (omega (arith, g, l))) (r i g)
+
+reach_first : (base next : ℕ) (spans between : List Span) → AddsIfRoom (record { from = base; to = next }) spans between → ReachBase base spans
+    → ReachBase base between
+reach_first base next spans between (inl a) r = reach_one base next spans between a r
+reach_first base next spans between (inr a) r = subst (ReachBase base) (sym a.0) r
+
+pub reach_second : (base next : ℕ) (s : Span) (spans between spans' : List Span) → base ≤ next → next < s.to
+    → AddsIfRoom (record { from = base; to = next }) spans between → AddsIfRoom s between spans' → ReachBase base spans → ReachBase base spans'
+reach_second base next s spans between spans' h l a (inl b) r =
+    reach_span base s between spans' (omega (arith, h, l)) b (reach_first base next spans between a r)
+reach_second base next s spans between spans' h l a (inr b) r = subst (ReachBase base) (sym b.0) (reach_first base next spans between a r)
 
 ends_past : (base : ℕ) (s : Span) (spans : List Span) → AreApart 0 (s ∷ spans) → ReachBase base (s ∷ spans) → base < s.to
 ends_past base s spans a r = elim (cases_lt base s.to) [
@@ -148,6 +153,42 @@ alone_from base s spans cut c a i g h = elim (cases_lt i base) [
   | inl l ↦ apart-before base cut i c.apart l
   | inr l ↦ c.same i l ∙ a i g h
 ]
+
+-- From the next place on there is none of what is before.
+between_past : (base next : ℕ) (spans between : List Span) → AddsIfRoom (record { from = base; to = next }) spans between → (i : ℕ) → next ≤ i
+    → is_covered between i ≡ is_covered spans i
+between_past base next spans between (inl a) i h = a i ∙ ap (λ c. if c then true else is_covered spans i) (past_it (record { from = base; to = next }) i h)
+between_past base next spans between (inr a) i h = ap (λ x. is_covered x i) a.0
+
+pub noted_if_room : (base next : ℕ) (s : Span) (o o' : Option Noted) (between : List Span) → ReachBase base (spans_noted o) → base ≤ next
+    → AreApart 0 between → AddsIfRoom (record { from = base; to = next }) (spans_noted o) between → AddsIfRoom s between (spans_noted o')
+    → IsNotedIfRoom base next s o o'
+noted_if_room base next s o o' between r h a first (inl b) =
+    inl (λ i g. b i ∙ ap (λ c. if in_span s i then true else c) (between_past base next (spans_noted o) between first i g))
+noted_if_room base next s o o' between r h a (inl f) (inr b) =
+    let cut = cut_at base between a (reach_one base next (spans_noted o) between f r) in
+    let room : LacksRoomAmong (is_covered (spans_noted o)) base s next = (
+      cut.0,
+      cut.1.long ∙ b.1.0,
+      alone_from base s between cut.0 cut.1 b.1.1,
+      inr (record {
+        apart = cut.1.apart;
+        covered = λ i g. cut.1.same i g ∙ f i ∙ ap (λ x. if x then true else is_covered (spans_noted o) i) (from_it (record { from = base; to = next }) i g);
+      }),
+    ) in
+    inr (room, λ i g. ap (λ x. is_covered x i) b.0 ∙ between_past base next (spans_noted o) between (inl f) i g)
+noted_if_room base next s o o' between r h a (inr f) (inr b) =
+    let past = all_past base next (spans_noted o) (apart_noted o) r h f.1.1 in
+    let room : LacksRoomAmong (is_covered (spans_noted o)) base s next = (
+      between,
+      b.1.0,
+      b.1.1,
+      inl (record {
+        apart = subst (AreApart next) (sym f.0) (apart-less next (next + 1) (spans_noted o) (omega arith) past);
+        covered = λ i _. ap (λ x. is_covered x i) f.0;
+      }),
+    ) in
+    inr (room, λ i g. ap (λ x. is_covered x i) b.0 ∙ between_past base next (spans_noted o) between (inr f) i g)
 
 pub no_room : (segs : List Segment) (base next : ℕ) (s : Span) (spans : List Span) → AreApart 0 spans → ReachBase base spans
     → ((i : ℕ) → next ≤ i → is_covered spans i ≡ is_captured segs i) → base ≤ next → HasNoRoomFor (record { from = base; to = next }) s spans

@@ -1,12 +1,15 @@
 -- What a direction has taken after a call.
 use Rattle.std.proofs.Common.{◌≡◌, ℕ, ◌+◌, ◌-◌, min, ◌<◌, ◌≤◌, ◌%◌, ◌^◌, Bool, true, false, List, [], ◌∷◌, ◌++◌, length}
 use Rattle.std.proofs.Common.{length-append, append_assoc, append-nil, refl, sym, ap, subst, ◌∙◌, arith, inl, inr}
-use Rattle.std.specs.Prelude.{Option, Some, None, unwrap_or, ◌⊎◌, if◌then◌else◌}
-use Rattle.bt_tcp.specs.Covered.{is_covered}
+use Rattle.std.specs.Prelude.{Option, Some, None, not, unwrap_or, ◌⊎◌, if◌then◌else◌, nat_lt}
+use Rattle.std.specs.Bool.{then_some}
+use Rattle.std.proofs.lemmas.Bool.{ltb-true}
+use Rattle.bt_tcp.specs.Covered.{in_span, is_covered}
 use Rattle.bt_tcp.specs.declared.halves.Half.{Half}
 use Rattle.bt_tcp.specs.Segments.{Segment}
-use Rattle.bt_tcp.specs.Heard.{Heard, Sent, Took, opening_of, IsBase, IsAfterSyn}
+use Rattle.bt_tcp.specs.Heard.{Heard, Sent, Took, opening_of, high_of, captured_end, raised, IsBase, IsAfterSyn}
 use Rattle.bt_tcp.specs.History.{conflicts, first_known, held, kept}
+use Rattle.bt_tcp.proofs.HeardProofs.{greatest-push}
 use Rattle.bt_tcp.proofs.HistoryProofs.{conflicts_add_up}
 use Rattle.bt_tcp.specs.Halves.{IsHalf, HearsMore, IsOutOfRange}
 use Rattle.bt_flow.specs.declared.stream.Stream.{Stream}
@@ -14,14 +17,15 @@ use Rattle.bt_flow.specs.declared.flow.Flow.{Flow}
 use Rattle.bt_flow.specs.declared.flow.Given.{Given}
 use Rattle.bt_flow.specs.declared.noted.Noted.{Noted}
 use Rattle.bt_flow.specs.Memory.{next_of, seen}
-use Rattle.bt_flow.specs.Notes.{AreNoted, NotesBoth, NotesOne, FillsOne, HasNoRoomFor, is_full, spans_in, spans_noted}
+use Rattle.bt_flow.specs.Notes.{AddsBothIfRoom, AreNoted, NotesBoth, NotesOne, FillsOne, HasNoRoomFor, is_full, spans_in, spans_noted}
 use Rattle.bt_flow.proofs.Filled.{apart_noted, no_room}
-use Rattle.bt_flow.proofs.Notes.{fills_first, notes_more, notes_none, noted_more}
+use Rattle.bt_flow.proofs.Notes.{captured_more, fills_first, first_if_room, notes_if_room, notes_more, notes_none, noted_more, same_if_room}
 use Rattle.bt_flow.proofs.Streams.{conflicts_none}
 use Rattle.bt_flow.specs.Counts.{counts}
 use Rattle.bt_flow.specs.Streams.{IsStreamOf, conflicts_with}
 use Rattle.bt_flow.specs.Flows.{has_bytes, AreQuiet, IsBaseOf, IsStreamFor, is_lost_stream, with_segment, sent_at, FlowTakes, BeginsAt, StreamsOnly}
 use Rattle.bt_flow.specs.Flows.{AreNotedFor, NotesIn, FillsIn, first_held, CountsMore, IsCounted, GivesUpLate, LacksRoom, FillsLate}
+use Rattle.bt_flow.specs.Flows.{is_captured, IsWithin, IsNotedIfRoom, NotesIfRoom, NotesSomeIn}
 
 quiet_more : (heard : List Heard) (e : Heard) → AreQuiet heard → has_bytes e ≡ false → AreQuiet (heard ++ e ∷ [])
 quiet_more [] e q h = (h, tt)
@@ -37,6 +41,45 @@ base_more heard e base b = record {
   bytes = b.bytes;
   base_is = b.base_is;
 }
+
+raised_least : (o : Option ℕ) (n : ℕ) → n ≤ raised o n
+raised_least None n = omega arith
+raised_least (Some m) n = omega arith
+
+high_more : (heard : List Heard) (e : Heard) → high_of heard ≤ high_of (heard ++ e ∷ [])
+high_more heard e = subst (λ x. high_of heard ≤ x) (sym (greatest-push 0 captured_end heard e)) (raised_least (captured_end e) (high_of heard))
+
+pub within_more : (heard : List Heard) (e : Heard) (segs : List Segment) → IsWithin segs (high_of heard) → IsWithin segs (high_of (heard ++ e ∷ []))
+within_more heard e segs w i c = omega (arith, w i c, high_more heard e)
+
+raised_to : (b : Bool) (m n : ℕ) → b ≡ true → m ≤ raised (then_some b m) n
+raised_to true m n e = omega arith
+raised_to false m n e = absurd (cc)
+
+both_are : (b c : Bool) → (if b then c else false) ≡ true → b ≡ true
+both_are true c e = refl
+both_are false c e = e
+
+last_is : (b c : Bool) → (if b then false else c) ≡ true → c ≡ true
+last_is true c e = absurd (cc)
+last_is false c e = e
+
+either_less : (b c : Bool) (i high : ℕ) → (b ≡ true → i < high) → (c ≡ true → i < high) → (if b then true else c) ≡ true → i < high
+either_less true c i high f g e = f refl
+either_less false c i high f g e = g e
+
+within_one : (g : Given) (at : ℕ) (heard : List Heard) (segs : List Segment) → counts at (length g.payload.now) ≡ true → IsWithin segs (high_of heard)
+    → IsWithin (segs ++ record { place = at; bytes = g.payload.now } ∷ []) (high_of (heard ++ Took (sent_at g at) ∷ []))
+within_one g at heard segs y w i c =
+    let size : ℕ = length g.payload.now in
+    let long : nat_lt 0 (length g.payload.now) ≡ true
+    = both_are (nat_lt 0 (length g.payload.now)) (not (nat_lt (2 ^ 62) (at + length g.payload.now))) y in
+    let to : at + length g.payload.now ≤ high_of (heard ++ Took (sent_at g at) ∷ [])
+    = subst (λ x. at + length g.payload.now ≤ x) (sym (greatest-push 0 captured_end heard (Took (sent_at g at))))
+    (raised_to (nat_lt 0 (length g.payload.now)) (at + length g.payload.now) (high_of heard) long) in
+    either_less (in_span (record { from = at; to = at + length g.payload.now }) i) (is_captured segs i) i (high_of (heard ++ Took (sent_at g at) ∷ []))
+    (λ e. omega (arith, to, ltb-true i (at + length g.payload.now) (last_is (nat_lt i at) (nat_lt i (at + length g.payload.now)) e)))
+    (λ e. omega (arith, w i e, high_more heard (Took (sent_at g at)))) (captured_more segs at g.payload.now i ∙ c)
 
 -- What has no bytes leaves the stream.
 pub stream_quiet : (heard : List Heard) (e : Heard) (segs : List Segment) (out : List ℕ) (o : Option Stream) → has_bytes e ≡ false
@@ -96,26 +139,33 @@ counted : (segs : List Segment) (out : List ℕ) (o : Option Stream) (at : ℕ) 
     → counts at (length bytes) ≡ true → CountsMore segs out o at bytes o' → IsCounted segs out o at bytes o'
 counted segs out o at bytes o' y m = (λ n. absurd (let z : true ≡ false = sym y ∙ n in cc), λ _. m)
 
-fills_same : (segs : List Segment) (out : List ℕ) (o : Option Stream) (at : ℕ) (bytes : List ℕ) (n n' : Option Noted) → n' ≡ n
-    → FillsLate segs out o at bytes n n'
-fills_same segs out o at bytes n n' e = (λ l. ap is_full e ∙ l, λ l x. absurd (let z : true ≡ false = sym x ∙ ap is_full e ∙ l in cc))
+fills_same : (segs : List Segment) (out : List ℕ) (o : Option Stream) (at : ℕ) (bytes : List ℕ) (n n' : Option Noted) → counts at (length bytes) ≡ false
+    → n' ≡ n → FillsLate segs out o at bytes n n'
+fills_same segs out o at bytes n n' u e = record {
+  full = λ l. ap is_full e ∙ l;
+  late = λ l x. absurd (let z : true ≡ false = sym x ∙ ap is_full e ∙ l in cc);
+  same = λ _. e;
+  noted = λ y. absurd (let z : true ≡ false = sym y ∙ u in cc);
+}
 
 stays_full : (b : Bool) (n n' : Option Noted) → is_full n' ≡ b → (is_full n' ≡ false → is_full n ≡ false) → is_full n ≡ true → is_full n' ≡ true
 stays_full true n n' e f l = e
 stays_full false n n' e f l = absurd (let z : true ≡ false = sym l ∙ f e in cc)
 
 fills_late : (segs : List Segment) (out : List ℕ) (s : Stream) (next at : ℕ) (bytes : List ℕ) (n n' : Option Noted)
-    → next_of s.window ≡ s.base + length out → next ≤ next_of s.window → AreNoted segs s.base next n
-    → NotesOne s.base (next_of s.window) (record { from = at; to = at + length bytes }) n n'
+    → counts at (length bytes) ≡ true → next_of s.window ≡ s.base + length out → next ≤ next_of s.window → AreNoted segs s.base next n
+    → NotesOne (next_of s.window) (record { from = at; to = at + length bytes }) n n'
+    → NotesIfRoom s.base (next_of s.window) (record { from = at; to = at + length bytes }) n n'
     → FillsOne s.base (next_of s.window) (record { from = at; to = at + length bytes }) n n' → FillsLate segs out (Some s) at bytes n n'
-fills_late segs out s next at bytes n n' e l a m f = (
-  stays_full (is_full n') n n' refl (λ x. (m x).0),
-  λ o full. (
-      let old = a o in
-      subst (λ k. LacksRoom segs s.base (record { from = at; to = at + length bytes }) k) e
-      (no_room segs s.base (next_of s.window) (record { from = at; to = at + length bytes }) (spans_noted n) (apart_noted n) old.1
-      (λ i h. old.0 i (omega (arith, l, h))) (omega (arith, e)) (f o full))),
-)
+fills_late segs out s next at bytes n n' k e l a m z f = record {
+  full = stays_full (is_full n') n n' refl (λ x. (m x).0);
+  late = λ o full. (
+      subst (λ x. LacksRoom segs s.base (record { from = at; to = at + length bytes }) x) e
+      (no_room segs s.base (next_of s.window) (record { from = at; to = at + length bytes }) (spans_noted n) (apart_noted n) a.reach
+      (λ i h. a.all o i (omega (arith, l, h))) (omega (arith, e)) (f o full)));
+  same = λ x. absurd (let y : true ≡ false = sym k ∙ x in cc);
+  noted = λ _. subst (λ x. IsNotedIfRoom s.base x (record { from = at; to = at + length bytes }) n n') e (z.room (omega (arith, e)) a.reach);
+}
 
 late_same : (out : List ℕ) (o : Option Stream) (at : ℕ) (bytes : List ℕ) (o' : Option Stream) → o' ≡ o → GivesUpLate out o at bytes o'
 late_same out o at bytes None e = tt
@@ -140,16 +190,21 @@ takes_quiet g flow given flow' at s m h n = record {
           half = h heard f.half;
           stream = subst (λ x. IsStreamFor (heard ++ Took (sent_at g at) ∷ []) x (out ++ []) flow'.stream) e more;
           noted = subst (λ x. AreNotedFor x flow'.stream flow'.noted) e (same_noted segs flow.stream flow'.stream flow.noted flow'.noted s m f.noted);
+          within = subst (λ x. IsWithin x (high_of (heard ++ Took (sent_at g at) ∷ []))) e (within_more heard (Took (sent_at g at)) segs f.within);
         },
         uncounted segs out flow.stream at g.payload.now flow'.stream n s,
         late_same out flow.stream at g.payload.now flow'.stream s,
-        fills_same segs (out ++ []) flow'.stream at g.payload.now flow.noted flow'.noted m,
+        fills_same segs (out ++ []) flow'.stream at g.payload.now flow.noted flow'.noted n m,
       ));
 }
 
 noted_none : (segs : List Segment) (base next : ℕ) (n : Option Noted) → segs ≡ [] → n ≡ None → AreNoted segs base next n
 noted_none segs base next n s e =
-    let z : AreNoted [] base next None = λ full. (λ k h. refl, λ i h x. absurd (let y : true ≡ false = sym x in cc)) in
+    let z : AreNoted [] base next None = record {
+      only = λ i h x. x;
+      all = λ full k h. refl;
+      reach = λ i h x. absurd (let y : true ≡ false = sym x in cc);
+    } in
     subst (λ x. AreNoted x base next n) (sym s) (subst (λ x. AreNoted [] base next x) (sym e) z)
 
 record TakesBytes (at : ℕ) (bytes : List ℕ) (sent : Sent) (half : Half) (o : Option Stream) (more : List ℕ) (o' : Option Stream)
@@ -166,13 +221,14 @@ record TakesBytes (at : ℕ) (bytes : List ℕ) (sent : Sent) (half : Half) (o :
 
 takes_bytes : (at : ℕ) (bytes : List ℕ) (sent : Sent) (flow : Flow) (o o1 : Option Stream) (more : List ℕ) (o2 : Option Stream)
     (n n' : Option Noted)
-    → has_bytes (Took sent) ≡ true → sent.place ≡ at → BeginsAt at flow o o1 → StreamsOnly at bytes o1 more o2
-    → NotesIn at (at + length bytes) o2 n n' → FillsIn at (at + length bytes) o2 n n' → TakesBytes at bytes sent flow.half o more o2 n n'
-takes_bytes at bytes sent flow None None more o2 n n' y p b t w q = absurd b
-takes_bytes at bytes sent flow (Some s) None more o2 n n' y p b t w q = absurd b
-takes_bytes at bytes sent flow None (Some s1) more None n n' y p b t w q = absurd t
-takes_bytes at bytes sent flow (Some s) (Some s1) more None n n' y p b t w q = absurd t
-takes_bytes at bytes sent flow (Some s) (Some s1) more (Some s2) n n' y p b t w q = record {
+    → counts at (length bytes) ≡ true → has_bytes (Took sent) ≡ true → sent.place ≡ at → BeginsAt at flow o o1 → StreamsOnly at bytes o1 more o2
+    → NotesIn at (at + length bytes) o2 n n' → NotesSomeIn at (at + length bytes) o2 n n' → FillsIn at (at + length bytes) o2 n n'
+    → TakesBytes at bytes sent flow.half o more o2 n n'
+takes_bytes at bytes sent flow None None more o2 n n' u y p b t w z q = absurd b
+takes_bytes at bytes sent flow (Some s) None more o2 n n' u y p b t w z q = absurd b
+takes_bytes at bytes sent flow None (Some s1) more None n n' u y p b t w z q = absurd t
+takes_bytes at bytes sent flow (Some s) (Some s1) more None n n' u y p b t w z q = absurd t
+takes_bytes at bytes sent flow (Some s) (Some s1) more (Some s2) n n' u y p b t w z q = record {
   none = λ l. (let l1 : s1.is_lost ≡ true = ap (λ x. x.is_lost) b ∙ l in (t.none l1, t.final l1));
   taken = λ heard segs out i h. (
       let e : s2.base ≡ s.base = t.base ∙ ap (λ x. x.base) b in (
@@ -185,7 +241,7 @@ takes_bytes at bytes sent flow (Some s) (Some s1) more (Some s2) n n' y p b t w 
       let j = t.taken segs out (subst (λ x. IsStreamOf segs out x) (sym b) i.1) in
       let l : next_of s.window ≤ next_of s2.window = omega (arith, e, i.1.next_is, j.next_is, length-append out more) in
       let a2 : AreNoted segs s2.base (next_of s.window) n = subst (λ x. AreNoted segs x (next_of s.window) n) (sym e) a in
-      noted_more segs at bytes s2.base (next_of s.window) (next_of s2.window) n n' l (omega (arith, j.next_is)) a2 w);
+      noted_more segs at bytes s2.base (next_of s.window) (next_of s2.window) n n' l (omega (arith, j.next_is)) a2 w z);
   counted = λ heard segs out i. (
       let i1 : IsStreamOf segs out s1 = subst (λ x. IsStreamOf segs out x) (sym b) i.1 in
       counted_more s1.is_lost segs out s1 s2 at bytes i1 refl t.base (t.counted segs out i1)
@@ -195,12 +251,12 @@ takes_bytes at bytes sent flow (Some s) (Some s1) more (Some s2) n n' y p b t w 
       let j = t.taken segs out (subst (λ x. IsStreamOf segs out x) (sym b) i.1) in
       let l : next_of s.window ≤ next_of s2.window = omega (arith, e, i.1.next_is, j.next_is, length-append out more) in
       let a2 : AreNoted segs s2.base (next_of s.window) n = subst (λ x. AreNoted segs x (next_of s.window) n) (sym e) a in
-      fills_late segs (out ++ more) s2 (next_of s.window) at bytes n n' j.next_is l a2 w q);
+      fills_late segs (out ++ more) s2 (next_of s.window) at bytes n n' u j.next_is l a2 w z q);
   late = λ heard segs out i l x. (
       let i1 : IsStreamOf segs out s1 = subst (λ x. IsStreamOf segs out x) (sym b) i.1 in
       omega (arith, t.lost (ap (λ x. x.is_lost) b ∙ l) x, i1.next_is, t.base));
 }
-takes_bytes at bytes sent flow None (Some s1) more (Some s2) n n' y p b t w q = record {
+takes_bytes at bytes sent flow None (Some s1) more (Some s2) n n' u y p b t w z q = record {
   none = λ l. absurd (let e : false ≡ true = l in cc);
   taken = λ heard segs out i h. (
       let u = b.3 (heard ++ Took sent ∷ []) h in
@@ -225,7 +281,7 @@ takes_bytes at bytes sent flow None (Some s1) more (Some s2) n n' y p b t w q = 
       let j = t.taken [] [] b.0 in
       let l : next_of s1.window ≤ next_of s2.window = omega (arith, t.base, b.0.next_is, j.next_is, length-append [] more) in
       noted_more segs at bytes s2.base (next_of s1.window) (next_of s2.window) n n' l (omega (arith, j.next_is))
-      (noted_none segs s2.base (next_of s1.window) n i.1 a) w);
+      (noted_none segs s2.base (next_of s1.window) n i.1 a) w z);
   counted = λ heard segs out i. (
       let i1 : IsStreamOf segs out s1 = subst (λ x. IsStreamOf segs x s1) (sym i.2) (subst (λ x. IsStreamOf x [] s1) (sym i.1) b.0) in
       counted_more false segs out s1 s2 at bytes i1 b.1 t.base (t.counted segs out i1)
@@ -234,8 +290,8 @@ takes_bytes at bytes sent flow None (Some s1) more (Some s2) n n' y p b t w q = 
       let i1 : IsStreamOf segs out s1 = subst (λ x. IsStreamOf segs x s1) (sym i.2) (subst (λ x. IsStreamOf x [] s1) (sym i.1) b.0) in
       let j = t.taken segs out i1 in
       let l : next_of s1.window ≤ next_of s2.window = omega (arith, t.base, i1.next_is, j.next_is, length-append out more) in
-      fills_late segs (out ++ more) s2 (next_of s1.window) at bytes n n' j.next_is l
-      (noted_none segs s2.base (next_of s1.window) n i.1 a) w q);
+      fills_late segs (out ++ more) s2 (next_of s1.window) at bytes n n' u j.next_is l
+      (noted_none segs s2.base (next_of s1.window) n i.1 a) w z q);
   late = λ heard segs out i l x. (
       let i1 : IsStreamOf segs out s1 = subst (λ x. IsStreamOf segs x s1) (sym i.2) (subst (λ x. IsStreamOf x [] s1) (sym i.1) b.0) in
       omega (arith, t.lost b.1 x, i1.next_is, t.base));
@@ -243,13 +299,14 @@ takes_bytes at bytes sent flow None (Some s1) more (Some s2) n n' y p b t w q = 
 
 pub takes_counted : (g : Given) (flow : Flow) (given more : List ℕ) (flow0 flow1 flow2 flow3 : Flow) (at : ℕ)
     → flow3.half ≡ flow2.half → flow3.stream ≡ flow2.stream → NotesIn at (at + length g.payload.now) flow2.stream flow2.noted flow3.noted
+    → NotesSomeIn at (at + length g.payload.now) flow2.stream flow2.noted flow3.noted
     → FillsIn at (at + length g.payload.now) flow2.stream flow2.noted flow3.noted
     → flow2.noted ≡ flow1.noted → flow1.noted ≡ flow.noted → flow0.stream ≡ flow.stream → HearsMore flow.half (Took (sent_at g at)) flow0.half
     → counts at (length g.payload.now) ≡ true → BeginsAt at flow0 flow0.stream flow1.stream → flow1.half ≡ flow0.half → flow2.half ≡ flow1.half
     → StreamsOnly at g.payload.now flow1.stream more flow2.stream → FlowTakes g flow given flow3 (given ++ more)
-takes_counted g flow given more flow0 flow1 flow2 flow3 at u v w q m1 m0 s h y b e f t =
+takes_counted g flow given more flow0 flow1 flow2 flow3 at u v w z q m1 m0 s h y b e f t =
     let r : TakesBytes at g.payload.now (sent_at g at) flow0.half flow0.stream more flow2.stream flow2.noted flow3.noted
-    = takes_bytes at g.payload.now (sent_at g at) flow0 flow0.stream flow1.stream more flow2.stream flow2.noted flow3.noted y refl b t w q in
+    = takes_bytes at g.payload.now (sent_at g at) flow0 flow0.stream flow1.stream more flow2.stream flow2.noted flow3.noted y y refl b t w z q in
     record {
       more = more;
       is = refl;
@@ -273,6 +330,7 @@ takes_counted g flow given more flow0 flow1 flow2 flow3 at u v w q m1 m0 s h y b
               } ∷ []) o flow3.noted) (sym v)
                   (r.noted heard segs out (subst (λ o. IsStreamFor heard segs out o) (sym s) i.stream)
                   (same_noted segs flow.stream flow0.stream flow.noted flow2.noted s (m1 ∙ m0) i.noted)));
+              within = subst (λ x. IsWithin x (high_of (heard ++ Took (sent_at g at) ∷ []))) k (within_one g at heard segs y i.within);
             },
             counted segs out flow.stream at g.payload.now flow3.stream y
                 (subst (λ o. CountsMore segs out flow.stream at g.payload.now o) (sym v) (subst (λ o. CountsMore segs out o at g.payload.now flow2.stream) s
@@ -300,6 +358,7 @@ takes_refused g flow given flow' s m h r = record {
       half = subst (λ x. IsHalf heard x) (sym h) f.half;
       stream = subst (λ o. IsStreamFor heard segs out o) (sym s) f.stream;
       noted = same_noted segs flow.stream flow'.stream flow.noted flow'.noted s m f.noted;
+      within = f.within;
     },
     s,
     m,
@@ -307,18 +366,39 @@ takes_refused g flow given flow' s m h r = record {
 }
 
 pub notes_at_end : (at «end» : ℕ) (s : Stream) (o : Option Stream) (n : Option Noted) → o ≡ Some s → «end» ≤ next_of s.window → NotesIn at «end» o n n
-notes_at_end at «end» s o n e h = subst (λ x. NotesIn at «end» x n n) (sym e) (notes_none s.base (next_of s.window) at «end» n h)
+notes_at_end at «end» s o n e h = subst (λ x. NotesIn at «end» x n n) (sym e) (notes_none (next_of s.window) at «end» n h)
 
 -- what is noted now, at the places of the stream
 placed : (P : ℕ → ℕ → Type 0) (base next : ℕ) (s : Stream) → base ≡ s.base → next ≡ next_of s.window → P base next → P s.base (next_of s.window)
 placed P base next s b n p = subst (λ k. P k (next_of s.window)) b (subst (λ k. P base k) n p)
 
 pub notes_there : (at «end» base next : ℕ) (o : Option Stream) (s : Stream) (m : Option Noted) (n n1 : Noted) → o ≡ Some s → base ≡ s.base
-    → next ≡ next_of s.window → m ≡ Some n → next < «end»
+    → next ≡ next_of s.window → m ≡ Some n
     → NotesBoth (record { from = base; to = next }) (record { from = at; to = «end» }) n n1 → NotesIn at «end» o m (Some n1)
-notes_there at «end» base next o s m n n1 e b k f l both =
+notes_there at «end» base next o s m n n1 e b k f both =
     subst (λ x. NotesIn at «end» x m (Some n1)) (sym e) (subst (λ x. NotesIn at «end» (Some s) x (Some n1)) (sym f)
-    (placed (λ x y. NotesOne x y (record { from = at; to = «end» }) (Some n) (Some n1)) base next s b k (notes_more base next at «end» n n1 l both)))
+    (placed (λ x y. NotesOne y (record { from = at; to = «end» }) (Some n) (Some n1)) base next s b k (notes_more base next at «end» n n1 both)))
+
+pub some_at_end : (at «end» : ℕ) (s : Stream) (o : Option Stream) (n : Option Noted) → o ≡ Some s → «end» ≤ next_of s.window → NotesSomeIn at «end» o n n
+some_at_end at «end» s o n e h = subst (λ x. NotesSomeIn at «end» x n n) (sym e) (same_if_room s.base (next_of s.window) at «end» n h)
+
+pub some_there : (at «end» base next : ℕ) (o : Option Stream) (s : Stream) (m : Option Noted) (n n1 : Noted) → o ≡ Some s → base ≡ s.base
+    → next ≡ next_of s.window → m ≡ Some n → next < «end»
+    → AddsBothIfRoom (record { from = base; to = next }) (record { from = at; to = «end» }) (spans_in n) (spans_in n1)
+    → NotesSomeIn at «end» o m (Some n1)
+some_there at «end» base next o s m n n1 e b k f l a =
+    subst (λ x. NotesSomeIn at «end» x m (Some n1)) (sym e) (subst (λ x. NotesSomeIn at «end» (Some s) x (Some n1)) (sym f)
+    (placed (λ x y. NotesIfRoom x y (record { from = at; to = «end» }) (Some n) (Some n1)) base next s b k
+    (notes_if_room base next at «end» (Some n) (Some n1) l a)))
+
+pub some_at_first : (at «end» base next : ℕ) (o : Option Stream) (s : Stream) (m : Option Noted) (n n1 : Noted) → o ≡ Some s → base ≡ s.base
+    → next ≡ next_of s.window → m ≡ None → next < «end» → ((i : ℕ) → is_covered (spans_in n) i ≡ false)
+    → AddsBothIfRoom (record { from = base; to = next }) (record { from = at; to = «end» }) (spans_in n) (spans_in n1)
+    → NotesSomeIn at «end» o m (Some n1)
+some_at_first at «end» base next o s m n n1 e b k f l z a =
+    subst (λ x. NotesSomeIn at «end» x m (Some n1)) (sym e) (subst (λ x. NotesSomeIn at «end» (Some s) x (Some n1)) (sym f)
+    (placed (λ x y. NotesIfRoom x y (record { from = at; to = «end» }) None (Some n1)) base next s b k
+    (first_if_room base next at «end» n n1 l z a)))
 
 pub fills_at_first : (at «end» base next : ℕ) (o : Option Stream) (s : Stream) (m : Option Noted) (n n1 : Noted) → o ≡ Some s → base ≡ s.base
     → next ≡ next_of s.window → m ≡ None → n.is_full ≡ false → ((i : ℕ) → is_covered (spans_in n) i ≡ false)

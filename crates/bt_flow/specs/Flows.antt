@@ -4,13 +4,14 @@ use Rattle.std.specs.Prelude.{Option, Some, None, ◌⊎◌, is_some, min, max, 
 use Rattle.bt_tcp.specs.Segments.{Segment, byte_at}
 use Rattle.bt_tcp.specs.History.{conflicts, first_known, kept}
 use Rattle.bt_tcp.specs.declared.covered.Span.{Span}
-use Rattle.bt_tcp.specs.Covered.{AreApart, AreGaps, IsAlone, is_covered, sent_end, no_gaps}
+use Rattle.bt_tcp.specs.Covered.{AreApart, AreGaps, IsAlone, in_span, is_covered, no_gaps}
+use Rattle.bt_tcp.specs.declared.covered.Gap.{Gap}
 use Rattle.bt_tcp.specs.declared.covered.Gaps.{Gaps}
 use Rattle.bt_tcp.specs.Heard.{Heard, Sent, Took, Acked, opening_of, high_of, fin_of, acked_of, sent_of, IsStart, IsAfterSyn}
 use Rattle.bt_tcp.specs.Halves.{IsHalf, IsOutOfRange}
 use Rattle.bt_flow.specs.declared.stream.Stream.{Stream}
 use Rattle.bt_flow.specs.declared.noted.Noted.{Noted}
-use Rattle.bt_flow.specs.Notes.{AreNoted, NotesOne, FillsOne, spans_noted, is_full}
+use Rattle.bt_flow.specs.Notes.{AddsSome, AreNoted, NotesOne, FillsOne, ReachBase, spans_noted, is_full}
 use Rattle.bt_flow.specs.Memory.{next_of, capacity_of}
 use Rattle.bt_flow.specs.declared.flow.Flow.{Flow}
 use Rattle.bt_flow.specs.declared.flow.Given.{Given}
@@ -41,6 +42,13 @@ abbrev pub IsStreamFor : List Heard → List Segment → List ℕ → Option Str
 IsStreamFor heard segs out None = AreQuiet heard × (segs ≡ []) × (out ≡ [])
 IsStreamFor heard segs out (Some s) = IsBaseOf heard s.base × IsStreamOf segs out s
 
+abbrev pub is_captured : List Segment → ℕ → Bool
+is_captured segs i = is_some (byte_at segs i)
+
+-- Captured places are before this one.
+abbrev pub IsWithin : List Segment → ℕ → Type 0
+IsWithin segs high = (i : ℕ) → is_captured segs i ≡ true → i < high
+
 -- Before the first captured byte nothing is noted.
 abbrev pub AreNotedFor : List Segment → Option Stream → Option Noted → Type 0
 AreNotedFor segs None o = o ≡ None
@@ -51,6 +59,8 @@ pub record IsFlow (heard : List Heard) (segs : List Segment) (out : List ℕ) (f
   pub half : IsHalf heard flow.half
   pub stream : IsStreamFor heard segs out flow.stream
   pub noted : AreNotedFor segs flow.stream flow.noted
+  -- No captured place is past the greatest that was heard of.
+  pub within : IsWithin segs (high_of heard)
 
 abbrev pub is_lost_stream : Option Stream → Bool
 is_lost_stream None = false
@@ -98,9 +108,6 @@ abbrev pub GivesUpLate : List ℕ → Option Stream → ℕ → List ℕ → Opt
 GivesUpLate out o at bytes None = Unit {0}
 GivesUpLate out o at bytes (Some s') = is_lost_stream o ≡ false → s'.is_lost ≡ true → s'.base + length out + 15728640 < at + length bytes
 
-abbrev pub is_captured : List Segment → ℕ → Bool
-is_captured segs i = is_some (byte_at segs i)
-
 -- handed out, since it is before the next place, or captured
 abbrev pub is_taken : List Segment → ℕ → ℕ → Bool
 is_taken segs next i = if nat_lt i next then true else is_captured segs i
@@ -121,10 +128,33 @@ abbrev pub LacksRoomFor : List Segment → List ℕ → Option Stream → ℕ �
 LacksRoomFor segs out None at bytes = ⊥
 LacksRoomFor segs out (Some s) at bytes = LacksRoom segs s.base (record { from = at; to = at + length bytes }) (s.base + length out)
 
--- The table of captured places becomes full only if it has no room for a segment. Then it stays full, and some of them aren't noted.
-abbrev pub FillsLate : List Segment → List ℕ → Option Stream → ℕ → List ℕ → Option Noted → Option Noted → Type 0
-FillsLate segs out o at bytes n n' =
-    (is_full n ≡ true → is_full n' ≡ true) × (is_full n ≡ false → is_full n' ≡ true → LacksRoomFor segs out o at bytes)
+-- handed out, since it is before the next place, or such
+abbrev pub or_before : ℕ → (ℕ → Bool) → ℕ → Bool
+or_before next is_such i = if nat_lt i next then true else is_such i
+
+-- There are 1,024 spans of such places from the next one on, or with those handed out as one of them, and another span touches none of them.
+abbrev pub LacksRoomAmong : (ℕ → Bool) → ℕ → Span → ℕ → Type 0
+LacksRoomAmong is_such base s next =
+    (spans : List Span) × (length spans ≡ 1024) × IsAlone s spans × (AreSpansOf is_such next spans ⊎ AreSpansOf (or_before next is_such) base spans)
+
+-- From the next place on all of a span is noted, or nothing, since there is no room for it among what was noted.
+abbrev pub IsNotedIfRoom : ℕ → ℕ → Span → Option Noted → Option Noted → Type 0
+IsNotedIfRoom base next s n n' =
+    ((i : ℕ) → next ≤ i → is_covered (spans_noted n') i ≡ (if in_span s i then true else is_covered (spans_noted n) i))
+    ⊎ (LacksRoomAmong (is_covered (spans_noted n)) base s next × ((i : ℕ) → next ≤ i → is_covered (spans_noted n') i ≡ is_covered (spans_noted n) i))
+
+abbrev pub IsSegmentNoted : List ℕ → Option Stream → ℕ → List ℕ → Option Noted → Option Noted → Type 0
+IsSegmentNoted out None at bytes n n' = n' ≡ n
+IsSegmentNoted out (Some s) at bytes n n' = IsNotedIfRoom s.base (s.base + length out) (record { from = at; to = at + length bytes }) n n'
+
+-- How the table of captured places goes on. Once it is full, some of them aren't noted.
+pub record FillsLate (segs : List Segment) (out : List ℕ) (o : Option Stream) (at : ℕ) (bytes : List ℕ) (n n' : Option Noted) : Type 0 where
+  -- It stays full, and becomes full only if it has no room for a segment.
+  pub full : is_full n ≡ true → is_full n' ≡ true
+  pub late : is_full n ≡ false → is_full n' ≡ true → LacksRoomFor segs out o at bytes
+  -- Bytes that don't count leave it as it is. A segment whose bytes count is noted, if there is room for it.
+  pub same : counts at (length bytes) ≡ false → n' ≡ n
+  pub noted : counts at (length bytes) ≡ true → IsSegmentNoted out o at bytes n n'
 
 -- The segment was taken at its place, or its place is out of range and nothing has changed.
 abbrev pub HasTaken : Given → List Heard → List Segment → List ℕ → Flow → List ℕ → Flow → Type 0
@@ -170,15 +200,29 @@ abbrev pub IsClosed : List Heard → List ℕ → Option Stream → Bool → Typ
 IsClosed heard out stream closed = (place : Option ℕ) × IsPlaceNow heard out stream place × (closed ≡ is_closed_at (fin_of heard) place (acked_of heard))
 
 -- Gaps end where what was sent ends, or the last captured bytes, if that is later.
-abbrev pub gaps_end : List Heard → Option Noted → ℕ → ℕ
-gaps_end heard o next = sent_end (spans_noted o) (sent_of heard (max next (high_of heard)))
+abbrev pub gaps_end : List Heard → ℕ → ℕ
+gaps_end heard next = max (high_of heard) (sent_of heard (max next (high_of heard)))
 
--- the runs of places from the next one on that no segment covers
+abbrev pub is_noted : Flow → ℕ → Bool
+is_noted flow = is_covered (spans_noted flow.noted)
+
+-- the runs of places from the next one on that aren't noted
+pub record AreGapsFrom (heard : List Heard) (segs : List Segment) (flow : Flow) (next : ℕ) (gaps : Gaps) : Type 0 where
+  -- Only captured places are noted, and all of them, unless the table is full.
+  pub only : (i : ℕ) → next ≤ i → is_noted flow i ≡ true → is_captured segs i ≡ true
+  pub all : is_full flow.noted ≡ false → (i : ℕ) → next ≤ i → is_noted flow i ≡ is_captured segs i
+  -- the gaps by their places, and by their offsets from the base
+  pub base : ℕ
+  pub found : Gaps
+  pub base_is : IsBaseNow heard flow.stream (Some base)
+  pub found_are : AreGaps (is_noted flow) next (gaps_end heard next) found
+  pub is : gaps ≡ from_base base found
+  -- Unless a gap is final, the first one begins at the next place, if bytes are known to be sent from there on.
+  pub first : is_lost_stream flow.stream ≡ false → next < gaps_end heard next → (gap : Gap) × (gaps.first ≡ Some gap) × (gap.place ≡ next - base)
+
 abbrev pub AreGapsAt : List Heard → List Segment → Flow → Option ℕ → Gaps → Type 0
 AreGapsAt heard segs flow None gaps = gaps ≡ no_gaps
-AreGapsAt heard segs flow (Some next) gaps =
-    is_full flow.noted ≡ false → (base : ℕ) × (found : Gaps) × IsBaseNow heard flow.stream (Some base)
-    × AreGaps (is_captured segs) next (gaps_end heard flow.noted next) found × (gaps ≡ from_base base found)
+AreGapsAt heard segs flow (Some next) gaps = AreGapsFrom heard segs flow next gaps
 
 abbrev pub AreGapsOf : List Heard → List Segment → List ℕ → Flow → Gaps → Type 0
 AreGapsOf heard segs out flow gaps = (place : Option ℕ) × IsPlaceNow heard out flow.stream place × AreGapsAt heard segs flow place gaps
@@ -210,7 +254,17 @@ StreamOnly at bytes flow more flow' = StreamsOnly at bytes flow.stream more flow
 
 abbrev pub NotesIn : ℕ → ℕ → Option Stream → Option Noted → Option Noted → Type 0
 NotesIn at «end» None o o' = o' ≡ o
-NotesIn at «end» (Some s) o o' = NotesOne s.base (next_of s.window) (record { from = at; to = «end» }) o o'
+NotesIn at «end» (Some s) o o' = NotesOne (next_of s.window) (record { from = at; to = «end» }) o o'
+
+-- What was noted still is, and of the span no other places, but all, if there is room for it.
+pub record NotesIfRoom (base next : ℕ) (s : Span) (o o' : Option Noted) : Type 0 where
+  pub some : AddsSome next s (spans_noted o) (spans_noted o')
+  pub reach : base ≤ next → ReachBase base (spans_noted o) → ReachBase base (spans_noted o')
+  pub room : base ≤ next → ReachBase base (spans_noted o) → IsNotedIfRoom base next s o o'
+
+abbrev pub NotesSomeIn : ℕ → ℕ → Option Stream → Option Noted → Option Noted → Type 0
+NotesSomeIn at «end» None o o' = o' ≡ o
+NotesSomeIn at «end» (Some s) o o' = NotesIfRoom s.base (next_of s.window) (record { from = at; to = «end» }) o o'
 
 abbrev pub FillsIn : ℕ → ℕ → Option Stream → Option Noted → Option Noted → Type 0
 FillsIn at «end» None o o' = o' ≡ o

@@ -12,6 +12,11 @@ spans_in n = spans_of n.spans n.table.items
 abbrev pub NotesMore : Span → Noted → Noted → Type 0
 NotesMore s n n' = n'.is_full ≡ false → (n.is_full ≡ false) × Adds s (spans_in n) (spans_in n')
 
+-- From a place on: what was covered still is, and besides it only places of the span are.
+pub record AddsSome (least : ℕ) (s : Span) (spans spans' : List Span) : Type 0 where
+  pub stays : (i : ℕ) → least ≤ i → is_covered spans i ≡ true → is_covered spans' i ≡ true
+  pub only : (i : ℕ) → least ≤ i → is_covered spans' i ≡ true → (if in_span s i then true else is_covered spans i) ≡ true
+
 -- A place is covered now if it was before, or is in one of two spans.
 abbrev pub AddsBoth : Span → Span → List Span → List Span → Type 0
 AddsBoth first second spans spans' =
@@ -24,6 +29,15 @@ NotesBoth first second n n' = n'.is_full ≡ false → (n.is_full ≡ false) × 
 -- There are 1,024 spans, and another one touches none of them.
 abbrev pub HasNoRoom : Span → List Span → Type 0
 HasNoRoom s spans = (length spans ≡ 1024) × IsAlone s spans
+
+-- The span is noted, or there is no room for it and nothing has changed.
+abbrev pub AddsIfRoom : Span → List Span → List Span → Type 0
+AddsIfRoom s spans spans' = Adds s spans spans' ⊎ ((spans' ≡ spans) × HasNoRoom s spans)
+
+-- the same of two spans, one after the other
+abbrev pub AddsBothIfRoom : Span → Span → List Span → List Span → Type 0
+AddsBothIfRoom first second spans spans' =
+    (between : List Span) × AreApart 0 between × AddsIfRoom first spans between × AddsIfRoom second between spans'
 
 -- There is no room for the first span, or none for the second beside it.
 abbrev pub HasNoRoomFor : Span → Span → List Span → Type 0
@@ -44,17 +58,17 @@ is_full None = false
 is_full (Some n) = n.is_full
 
 -- Only places from the next one on matter.
-abbrev pub NotesOne : ℕ → ℕ → Span → Option Noted → Option Noted → Type 0
-NotesOne base next s o o' =
+abbrev pub NotesOne : ℕ → Span → Option Noted → Option Noted → Type 0
+NotesOne next s o o' =
     is_full o' ≡ false → (is_full o ≡ false)
     × ((i : ℕ) → next ≤ i → is_covered (spans_noted o') i ≡ (if in_span s i then true else is_covered (spans_noted o) i))
-    × (base ≤ next → ReachBase base (spans_noted o) → ReachBase base (spans_noted o'))
 
 -- The table becomes full only if there is no room for what was handed out, as a span, or for the new one beside it.
 abbrev pub FillsOne : ℕ → ℕ → Span → Option Noted → Option Noted → Type 0
 FillsOne base next s o o' = is_full o ≡ false → is_full o' ≡ true → HasNoRoomFor (record { from = base; to = next }) s (spans_noted o)
 
--- From the next place on the captured places are noted, and no others, unless the table is full.
-abbrev pub AreNoted : List Segment → ℕ → ℕ → Option Noted → Type 0
-AreNoted segs base next o =
-    is_full o ≡ false → ((i : ℕ) → next ≤ i → is_covered (spans_noted o) i ≡ is_some (byte_at segs i)) × ReachBase base (spans_noted o)
+-- From the next place on only captured places are noted, and all of them, unless the table is full.
+pub record AreNoted (segs : List Segment) (base next : ℕ) (o : Option Noted) : Type 0 where
+  pub only : (i : ℕ) → next ≤ i → is_covered (spans_noted o) i ≡ true → is_some (byte_at segs i) ≡ true
+  pub all : is_full o ≡ false → (i : ℕ) → next ≤ i → is_covered (spans_noted o) i ≡ is_some (byte_at segs i)
+  pub reach : ReachBase base (spans_noted o)

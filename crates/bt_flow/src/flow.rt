@@ -79,10 +79,10 @@ fn offsets(gaps: Gaps, base: u64) -> Gaps
 impl Flow {
     ghost use Rattle.bt_tcp.specs.Heard.{Heard, Acked, opening_of};
     ghost use Rattle.bt_tcp.specs.Segments.{Segment};
-    ghost use Rattle.bt_flow.specs.Flows.{IsFlow, FlowTakes, FlowTakesNext, IsLost, Begins, StreamOnly, IsBaseNow, IsPlaceNow, HasHole, IsClosed, conflicts_in, held_in, high_in, NotesIn, FillsIn, AreGapsOf, gaps_end};
+    ghost use Rattle.bt_flow.specs.Flows.{IsFlow, FlowTakes, FlowTakesNext, IsLost, Begins, StreamOnly, IsBaseNow, IsPlaceNow, HasHole, IsClosed, conflicts_in, held_in, high_in, NotesIn, NotesSomeIn, FillsIn, AreGapsOf, gaps_end};
     ghost use Rattle.bt_flow.specs.Views.{AppendsAfter};
     ghost use Rattle.bt_flow.specs.Notes.{spans_noted};
-    ghost use Rattle.bt_tcp.specs.Covered.{is_covered, AreGaps};
+    ghost use Rattle.bt_tcp.specs.Covered.{is_covered, AreGaps, sent_end};
     ghost use Rattle.bt_tcp.specs.Halves.{IsHalf};
 
     /// Returns a direction of which nothing was captured.
@@ -140,6 +140,7 @@ impl Flow {
         ensures half { self.new.half ≡ self.old.half }
         ensures stream { self.new.stream ≡ self.old.stream }
         ensures noted { OnOk result (NotesIn at end self.old.stream self.old.noted self.new.noted) }
+        ensures some { OnOk result (NotesSomeIn at end self.old.stream self.old.noted self.new.noted) }
         ensures full { OnOk result (FillsIn at end self.old.stream self.old.noted self.new.noted) }
     {
         let Some(stream) = &self.stream else {
@@ -264,9 +265,10 @@ impl Flow {
 
     /// Returns the gaps from a place on.
     fn gaps_from(&self, next: u64) -> Gaps
-        ensures { (heard : List Heard) → IsHalf heard self.now.half → AreGaps (is_covered (spans_noted self.now.noted)) next (gaps_end heard self.now.noted next) result }
+        ensures { (heard : List Heard) → IsHalf heard self.now.half → AreGaps (is_covered (spans_noted self.now.noted)) next (sent_end (spans_noted self.now.noted) (gaps_end heard next)) result }
     {
-        let sent = self.half.sent(next.max(self.half.high()));
+        let high = self.half.high();
+        let sent = self.half.sent(next.max(high)).max(high);
         match &self.noted {
             Some(noted) => noted.gaps(next, sent),
             None => Spans::new(&[]).gaps(&[], next, sent),
@@ -275,7 +277,8 @@ impl Flow {
 
     /// Returns the runs of bytes that were sent but not captured, with offsets from the base.
     ///
-    /// If more than 1,024 spans of captured bytes lie past the first gap, some aren't noted and count as not captured.
+    /// Once there were 1,024 spans of captured bytes past the next one, some that were captured may not be noted. These count as
+    /// not captured.
     pub fn gaps(&self) -> Gaps
         ensures { (heard : List Heard) → (segs : List Segment) → (out : List ℕ) → IsFlow heard segs out self.now → AreGapsOf heard segs out self.now result }
     {

@@ -24,7 +24,7 @@ pub struct Noted {
 
 impl Noted {
     ghost use Rattle.bt_tcp.specs.Covered.{is_covered, AreGaps, sent_end};
-    ghost use Rattle.bt_flow.specs.Notes.{spans_in, NotesMore, NotesBoth, HasNoRoom, HasNoRoomFor};
+    ghost use Rattle.bt_flow.specs.Notes.{spans_in, NotesMore, NotesBoth, HasNoRoom, HasNoRoomFor, AddsIfRoom, AddsBothIfRoom};
 
     /// Returns no spans.
     ///
@@ -47,6 +47,7 @@ impl Noted {
     /// Notes the places from `from` on and before `to`.
     fn add(&mut self, from: u64, to: u64)
         ensures noted { NotesMore (record { from = from; to = to }) self.old self.new }
+        ensures some { AddsIfRoom (record { from = from; to = to }) (spans_in self.old) (spans_in self.new) }
         ensures full { self.old.is_full ≡ false → self.new.is_full ≡ true → HasNoRoom (record { from = from; to = to }) (spans_in self.old) }
     {
         if self.spans.add(&mut self.table, from, to).is_err() {
@@ -57,6 +58,7 @@ impl Noted {
     /// Notes the places from `from` on and before `to`, and joins those before `next`, which no longer matter.
     pub fn note(&mut self, base: u64, next: u64, from: u64, to: u64)
         ensures noted { NotesBoth (record { from = base; to = next }) (record { from = from; to = to }) self.old self.new }
+        ensures some { AddsBothIfRoom (record { from = base; to = next }) (record { from = from; to = to }) (spans_in self.old) (spans_in self.new) }
         ensures full { self.old.is_full ≡ false → self.new.is_full ≡ true → HasNoRoomFor (record { from = base; to = next }) (record { from = from; to = to }) (spans_in self.old) }
     {
         self.add(base, next);

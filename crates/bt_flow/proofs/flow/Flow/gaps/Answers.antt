@@ -1,23 +1,32 @@
-use Rattle.std.proofs.Common.{Some}
+use Rattle.std.proofs.Common.{Some, arith}
 use Rattle.bt_tcp.specs.Covered.{is_covered}
 use Rattle.bt_flow.specs.Notes.{spans_noted}
 use Rattle.bt_flow.specs.Flows.{is_captured, gaps_end}
-use Rattle.bt_flow.proofs.Gaps.{gaps_alike}
-use Rattle.bt_flow.proofs.Told.{base_there, noted_from}
+use Rattle.bt_flow.proofs.Filled.{apart_noted}
+use Rattle.bt_flow.proofs.Told.{base_there, noted_from, only_from, next_missing, gaps_within, first_at, not_noted}
 use Rattle.bt_flow.proofs.flow.Flow.gaps.Goals as goal
 
 pub returns-in-Some : goal.returns-in-Some
 returns-in-Some c = λ heard segs out f.
+    let stream = c.args.self.now.stream in
+    let noted = c.args.self.now.noted in
+    let next = c.in-Some.next in
     let p = c.in-Some.ensures heard segs out f in
-    let noted = c.args.self.now.noted in (
-      Some c.in-Some.next,
+    let only = only_from heard segs out stream noted next p f.stream f.noted in
+    let found = gaps_within (spans_noted noted) next (gaps_end heard next) c.gaps_from.result (apart_noted noted)
+    (λ i h e. omega (arith, f.within i (only i h e))) (c.gaps_from.ensures heard f.half) in (
+      Some next,
       p,
-      λ full. (
-        c.unwrap_or.result,
-        c.gaps_from.result,
-        base_there heard out c.args.self.now.stream c.base.result c.in-Some.next c.unwrap_or.result p (c.base.ensures heard segs out f) c.unwrap_or.ensures,
-        gaps_alike (is_covered (spans_noted noted)) (is_captured segs) c.in-Some.next (gaps_end heard noted c.in-Some.next) c.gaps_from.result
-            (noted_from heard segs out c.args.self.now.stream noted c.in-Some.next p f.stream f.noted full) (c.gaps_from.ensures heard f.half),
-        c.offsets.ensures,
-      ),
+      record {
+        only = only;
+        all = noted_from heard segs out stream noted next p f.stream f.noted;
+        base = c.unwrap_or.result;
+        found = c.gaps_from.result;
+        base_is = base_there heard out stream c.base.result next c.unwrap_or.result p (c.base.ensures heard segs out f) c.unwrap_or.ensures;
+        found_are = found;
+        is = c.offsets.ensures;
+        first = λ l h. first_at (is_covered (spans_noted noted)) c.unwrap_or.result next (gaps_end heard next) c.gaps_from.result _ found c.offsets.ensures
+            (not_noted (is_covered (spans_noted noted) next) (is_captured segs next) (only next (omega arith))
+            (next_missing heard segs out stream next p f.stream l)) h;
+      },
     )

@@ -1,5 +1,5 @@
 use Rattle.std.proofs.Common.{refl}
-use Rattle.bt_flow.proofs.Flows.{stream_quiet}
+use Rattle.bt_flow.proofs.Flows.{stream_quiet, within_more}
 use Rattle.bt_flow.proofs.flow.Flow.hear.Goals as goal
 
 pub returns-clause-heard : goal.returns-clause-heard
@@ -10,5 +10,6 @@ returns-clause-heard c = λ heard segs out f. (
     stream
         = stream_quiet heard _ segs out c.args.self.now.stream refl f.stream;
     noted = f.noted;
+    within = within_more heard _ segs f.within;
   },
 )

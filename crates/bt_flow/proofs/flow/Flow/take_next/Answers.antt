@@ -26,7 +26,7 @@ returns c =
             noted
                 = c.args.self.now.noted;
           }) c.begin.new.self c.go_on.new.self c.note.new.self c.in-Ok.at
-          c.note.ensures.half c.note.ensures.stream c.in_ok-note.ensures.noted c.in_ok-note.ensures.full c.go_on.ensures.noted
+          c.note.ensures.half c.note.ensures.stream c.in_ok-note.ensures.noted c.in_ok-note.ensures.some c.in_ok-note.ensures.full c.go_on.ensures.noted
           c.begin.ensures.noted refl c.in-Ok.ensures.taken
           (sym c.has_bytes.ensures ∙ c.if-not-has_bytes.false) c.in_ok-begin.ensures.begins c.begin.ensures.half c.go_on.ensures.half
           t.more;
