@@ -722,6 +722,12 @@ def left_differs(program):
     yield "" if numbers == [0, 1] else "crowded: these aren't read further: %s" % numbers
     closed = [it["connection"] for it in objects if "closed" in it]
     yield "" if closed == [1] and "\n  B closed first, by FIN, at " in told[1] else "crowded: these are closed: %s" % closed
+    # (one that a RST ended isn't one that wasn't read further)
+    reset = writer.frames([packet, writer.Packet("B", RST, 7, 0, b"", 0)], ends=(("10.0.0.0", 6881), ("10.1.0.1", 6881)))[1]
+    done = subprocess.run([program, "capture", "--json", "-"], input=writer.pcap((link, reset + frames[1:])), capture_output=True, timeout=100)
+    found = [it["connection"] for it in map(json.loads, done.stdout.splitlines()) if it.get("not_read_further")], done.stderr.decode()
+    wanted = [1], "capture: 1 connection was not read further: too many at once\n"
+    yield "" if found == wanted else "crowded: with one that ended: got %s\nexpected %s" % (found, wanted)
     first, second = (writer.Talk(start=start).say("A", hello).packets for start in (7, 70_000))
     objects = map(json.loads, run(program, writer.pcap(writer.frames(first + second)), "--json", "-")[0].splitlines())
     found = [it.get("replaced") for it in objects]

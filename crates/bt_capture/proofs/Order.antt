@@ -37,7 +37,12 @@ at_more place came more taken begun n i small =
     let at = i small in
     (at.0, subst (IsFirstAt (came ++ more) (place n)) (append-nil taken) (first_more came more taken [] (place n) at.1))
 
-in_order_more : (place : ℕ → ℕ) (came more : List Arrival) (begun : ℕ) (fs : List Finished) → AreInOrder place came begun fs
+-- It may have taken more segments.
+pub at_later : (place : ℕ → ℕ) (came more taken later : List Arrival) (begun n : ℕ) → IsBegunAt place came begun n taken
+    → IsBegunAt place (came ++ more) begun n (taken ++ later)
+at_later place came more taken later begun n i small = let at = i small in (at.0, first_more came more taken later (place n) at.1)
+
+pub in_order_more : (place : ℕ → ℕ) (came more : List Arrival) (begun : ℕ) (fs : List Finished) → AreInOrder place came begun fs
     → AreInOrder place (came ++ more) begun fs
 in_order_more place came more begun fs i = record {
   ascending = i.ascending;

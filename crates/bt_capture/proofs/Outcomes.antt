@@ -8,7 +8,7 @@ use Rattle.std.proofs.lemmas.List.{nil_from_length}
 use Rattle.std.proofs.lemmas.List.Elements.{All-contains, All-nil}
 use Rattle.std.proofs.KnownBytes.{Appends-nil, Appends-trans, Consumes-nil, Consumes-trans, Consumes-kept}
 use Rattle.bt_io.specs.Counts.{Grew}
-use Rattle.bt_io.specs.Seen.{TargetSeen, AppendsPrefix, WriteFailed}
+use Rattle.bt_io.specs.Seen.{SourceSeen, TargetSeen, AppendsPrefix, WriteFailed}
 use Rattle.bt_pcap.specs.Formats.{Captured}
 use Rattle.bt_pcap.specs.Steps.{captured}
 use Rattle.bt_pcap.specs.declared.fault.FileFault.{FileFault}
@@ -22,17 +22,14 @@ use Rattle.bt_capture.specs.declared.ending.CaptureEnd.{CaptureEnd}
 use Rattle.bt_capture.specs.declared.ending.CaptureFault.{CaptureFault}
 use Rattle.bt_capture.specs.declared.ending.CaptureFault.TheVariants.{Write, Memory, Turns}
 use Rattle.bt_capture.specs.declared.ending.Form.{Form}
-use Rattle.bt_capture.specs.declared.packets.FileEnd.{FileEnd}
-use Rattle.bt_capture.specs.declared.packets.FileEnd.TheVariants.{Whole, Cut}
 use Rattle.bt_capture.specs.declared.pair.Pair.{Pair}
 use Rattle.bt_capture.specs.Arrivals.{arrivals, clock_of, first_time}
-use Rattle.bt_capture.specs.Ends.{HasEndedSo, IsBroken, IsEnded, ending_by}
 use Rattle.bt_capture.specs.FlowTexts.{datagrams, flow_texts}
 use Rattle.bt_capture.specs.Following.{AreInOrder, IsTimely, numbers}
 use Rattle.bt_capture.specs.Following.{AtEnd, Finished, IsFinished, IsSentBy, IsShared, IsStreaming, IsStreamSoFar, Follows, Phase, Stops, Streams}
 use Rattle.bt_capture.specs.Following.{reports_of, told_by}
 use Rattle.bt_capture.specs.Forms.{absent_from, is_stream, wanted_by}
-use Rattle.bt_capture.specs.Readings.{Reading, IsReading, GoesOn, Hands, Waits, nothing_read, shown, with_bytes}
+use Rattle.bt_capture.specs.Readings.{Reading, IsReading, GoesOn, Hands, IsFaulty, Waits, nothing_read, shown, with_bytes}
 use Rattle.bt_capture.specs.Tables.{Held}
 use Rattle.bt_capture.specs.Tellings.{Tells, IsStopped, IsEmpty, AreTexts}
 use Rattle.bt_capture.specs.Runs.{Origin, HasRead, IsTelling, IsTellingIn, IsLeft, IsEndOf, AreOver, AreAllOver, AreToldSoFar, ArePartlyWritten, Adds}
@@ -41,17 +38,18 @@ use Rattle.bt_capture.proofs.Going.{fresh}
 use Rattle.bt_capture.proofs.InOrder.{no_texts}
 use Rattle.bt_capture.proofs.Numbers.{one_if_began}
 use Rattle.bt_capture.proofs.Parting.{parted_all}
+use Rattle.bt_capture.proofs.Order.{order_nothing}
 use Rattle.bt_capture.proofs.Reported.{follows_end, follows_flushed, follows_same, follows_so_far, stops_of}
 use Rattle.bt_capture.proofs.Steps.{follows_moved}
-use Rattle.bt_capture.proofs.Rowing.{rows_same}
+use Rattle.bt_capture.proofs.Rowing.{going_of, rows_same}
 use Rattle.bt_capture.proofs.SoFar.{so_far_same}
 use Rattle.bt_capture.proofs.Streaming.{find_over, numbered_end, streaming_same, untold_end}
 use Rattle.bt_capture.proofs.Wants.{absent_before, begun_or_absent, wanted_if_asked}
 
 -- ---- what was read
 
-pub read_nothing : (o : Origin) → HasRead o o.left [] nothing_read
-read_nothing o = record { all = []; consumed = Consumes-nil o.left; reading = fresh }
+pub read_nothing : (o : Origin) → HasRead o o.source.left [] nothing_read
+read_nothing o = record { all = []; consumed = Consumes-nil o.source.left; reading = fresh }
 
 pub read_packet : (o : Origin) (left : Option (List ℕ)) (packets given : List Captured) (r r' : Reading) → GoesOn r [] given r' → HasRead o left packets r
     → HasRead o left (packets ++ given) r'
@@ -78,8 +76,8 @@ hands_fault r r' x f e h = (subst (λ y. Hands r (shown y) r') e h).0
 pub hands_more : (r r' : Reading) (x : Result (Option Packet) FileFault) → x ≡ Ok None → Hands r (shown x) r' → Waits r'
 hands_more r r' x e h = (subst (λ y. Hands r (shown y) r') e h).1
 
-pub hands_broken : (r r' : Reading) (x : Result (Option Packet) FileFault) (f : FileFault) → x ≡ Err f → Hands r (shown x) r' → IsBroken f r'
-hands_broken r r' x f e h = inl (subst (λ y. Hands r (shown y) r') e h).1
+pub hands_faulty : (r r' : Reading) (x : Result (Option Packet) FileFault) (f : FileFault) → x ≡ Err f → Hands r (shown x) r' → IsFaulty r' f
+hands_faulty r r' x f e h = (subst (λ y. Hands r (shown y) r') e h).1
 
 -- No byte came: what is held is the same.
 pub waits_on : (r r' : Reading) (bytes : List ℕ) → length bytes ≡ 0 → r' ≡ with_bytes r bytes → Waits r → Waits r'
@@ -98,7 +96,7 @@ pub read_bytes : (o : Origin) (left left' : Option (List ℕ)) (packets : List C
     → Consumes left left' bytes → HasRead o left packets r → HasRead o left' packets r'
 read_bytes o left left' packets r r' bytes goes more i = record {
   all = i.all ++ bytes;
-  consumed = Consumes-trans o.left left left' i.all bytes i.consumed more;
+  consumed = Consumes-trans o.source.left left left' i.all bytes i.consumed more;
   reading = subst (λ l. IsReading (i.all ++ bytes) l r') (append-nil packets) (goes.reads i.all packets i.reading);
 }
 
@@ -106,7 +104,7 @@ pub read_kept : (o : Origin) (left left' : Option (List ℕ)) (packets : List Ca
     → HasRead o left' packets r'
 read_kept o left left' packets r r' same keeps i = record {
   all = i.all;
-  consumed = Consumes-kept o.left left left' i.all i.consumed keeps;
+  consumed = Consumes-kept o.source.left left left' i.all i.consumed keeps;
   reading = subst (λ x. IsReading i.all packets x) (sym same) i.reading;
 }
 
@@ -186,7 +184,7 @@ told_so_far : {ph : Phase} (o : Origin) (left : Option (List ℕ)) (now : Target
 told_so_far {ph} o left now es run r i =
     let f = i.follows in
     let text = told_by f.written run in
-    let rows = rows_same run.teller.form o.form f.parts text text run.terms o.terms (unwrap_or run.start 0) (unwrap_or (first_time i.packets) 0)
+    let rows = rows_same run.teller.form o.form f.packet f.parts text text run.terms o.terms (unwrap_or run.start 0) (unwrap_or (first_time i.packets) 0)
     run.begun run.begun (arrivals i.packets) f.fs es (sym i.form) refl (sym i.terms) (ap (λ x. unwrap_or x 0) (sym i.time)) refl f.rows in
     record {
       begun = run.begun;
@@ -198,6 +196,8 @@ told_so_far {ph} o left now es run r i =
       parts_are = rows.rowed.parts_are;
       rows = rows.rowed.over;
       none = rows.rowed.none;
+      going = going_of o.form f.packet f.parts text o.terms (unwrap_or (first_time i.packets) 0) run.begun (arrivals i.packets) f.fs es f.apart
+          f.streams.numbered rows;
       packet = f.packet;
       times = f.times;
     }
@@ -256,7 +256,7 @@ pub partly : {ph : Phase} (o : Origin) (left : Option (List ℕ)) (now : TargetS
 partly o left now es run r i =
     given_up o left now i.packets run r i.read i.terms i.form i.time (stops_of o.target now (arrivals i.packets) es run i.follows)
 
-pub nothing_told : (o : Origin) → ArePartlyWritten o o.left o.target
+pub nothing_told : (o : Origin) → ArePartlyWritten o o.source.left o.target
 nothing_told o = record {
   packets = [];
   r = nothing_read;
@@ -267,7 +267,15 @@ nothing_told o = record {
   texts_are = no_texts o.form;
   lines = [];
   are_lines = inl refl;
-  stream = record { over = All-nil (IsSentBy o.form [] o.terms 0); left = λ n side asked small none. inl refl };
+  stream =
+      let none = order_nothing [] 0 refl refl in
+      record {
+        over = All-nil (IsSentBy o.form [] o.terms 0);
+        begun = 0;
+        place = none.place;
+        order = none.order;
+        left = λ n side asked small none. inl refl;
+      };
   front = ([], [], refl, Appends-nil o.target.held);
 }
 
@@ -322,7 +330,7 @@ pub rows_told : (o : Origin) (left : Option (List ℕ)) (now : TargetSeen) (run 
     → (i : IsTellingIn AtEnd o left now [] run r) → AreRowsTold o i.packets i.follows.fs i.follows.written
 rows_told o left now run r empty i =
     let f = i.follows in
-    let rows = rows_same run.teller.form o.form f.parts (told_by f.written run) f.written run.terms o.terms (unwrap_or run.start 0)
+    let rows = rows_same run.teller.form o.form f.packet f.parts (told_by f.written run) f.written run.terms o.terms (unwrap_or run.start 0)
     (unwrap_or (first_time i.packets) 0) run.begun run.begun (arrivals i.packets) f.fs [] (sym i.form) (sym (all_told f.written run empty)) (sym i.terms)
     (ap (λ x. unwrap_or x 0) (sym i.time)) refl f.rows in
     record {
@@ -382,11 +390,6 @@ not_added T Write o left before now run r empty i a = part_written o left before
 not_added T Memory o left before now run r empty i a = subst (ArePartlyWritten o left) (sym a) (partly o left before [] run r i)
 not_added T Turns o left before now run r empty i a = absurd a
 
--- The end that the file's end tells of.
-pub ended_so : (end : FileEnd) (r : Reading) → IsEnded r (Ok end) → Waits r → HasEndedSo (ending_by end) r
-ended_so Whole r ended waits = (waits, ended)
-ended_so Cut r ended waits = (waits, ended)
-
 -- Those that are left are taken out of the table.
 pub told_rest : (o : Origin) (left : Option (List ℕ)) (now : TargetSeen) (old new : Run) (es : List (Pair × Held)) (r : Reading)
     → IsPermutation old.table es → IsNonDecreasing (numbers es) → new ≡ record old { table = new.table } → IsTelling o left now old.table old r
@@ -410,10 +413,10 @@ told_rest o left now old new es r all up same i =
 
 pub begins : (o : Origin) (run : Run) (r : Reading) → run.terms ≡ o.terms → run.teller.form ≡ o.form → run.start ≡ None
     → Follows o.target o.target (clock_of []) [] run.table run → AreCounted [] run.utp → run.skipped ≡ 0 → r ≡ nothing_read
-    → IsTelling o o.left o.target run.table run r
+    → IsTelling o o.source.left o.target run.table run r
 begins o run r terms form begin follows utp skipped same = record {
   packets = [];
-  read = subst (HasRead o o.left []) (sym same) (read_nothing o);
+  read = subst (HasRead o o.source.left []) (sym same) (read_nothing o);
   terms = terms;
   form = form;
   time = begin;
@@ -433,9 +436,9 @@ absent_by form form' n begun same count o is = is ∙ ap (λ (k : Form). absent_
 no_utp : (form : Form) (packets : List Captured) → is_stream form ≡ true → utp_lines form packets ≡ []
 no_utp form packets e = ap (λ (b : Bool). if b then [] else flow_texts form.json (flows (datagrams packets))) e
 
-pub stream_only : (o : Origin) (left : Option (List ℕ)) (now : TargetSeen) (end : CaptureEnd) (n : ℕ) (side : Side) → o.form.stream ≡ Some (n, side)
-    → n < 2 ^ 64 - 1 → (i : IsEndOf o left now end) → IsOnlyStream o now end i.packets i.fs n side
-stream_only o left now end n side asked small i =
+pub stream_only : (o : Origin) (after : SourceSeen) (now : TargetSeen) (end : CaptureEnd) (n : ℕ) (side : Side) → o.form.stream ≡ Some (n, side)
+    → n < 2 ^ 64 - 1 → (i : IsEndOf o after now end) → IsOnlyStream o now end i.packets i.fs n side
+stream_only o after now end n side asked small i =
     let stream : is_stream o.form ≡ true = ap (λ (s : Option (ℕ × Side)). is_some s) asked in
     let none : utp_lines o.form i.packets ≡ [] = no_utp o.form i.packets stream in
     let bytes : i.text ++ utp_lines o.form i.packets ≡ i.text = ap (λ (l : List ℕ). i.text ++ l) none ∙ append-nil i.text in

@@ -36,13 +36,18 @@ parted_over (g ∷ gs) f rest p i = (subst (IsParted g.cause) (taken_last gs f r
 abbrev IsNew : Clock → Arrival → Type 0
 IsNew clock x = AreEarlier clock x.when.packet
 
+-- These segments come after one of the packets, and so do more that come after all of them.
+all_later : (clock : Clock) (at : When) (l more : List Arrival) → Contains clock.packets at → All (IsNew clock) more
+    → All (λ x. IsEarlier at x.when.packet) l → All (λ x. IsEarlier at x.when.packet) (l ++ more)
+all_later clock at l more there new i =
+    let P : Arrival → Type 0 = λ x. IsEarlier at x.when.packet in
+    All-append P l more i (All-weaker (IsNew clock) P (λ x later. All-contains (λ w. IsEarlier w x.when.packet) clock.packets at later there) more new)
+
 one_more : (clock : Clock) (taken : List Arrival) (c : Cause) (l more : List Arrival) → is_final c ≡ false → IsTimelyBy clock taken c
     → All (IsNew clock) more → IsParted c l → IsParted c (l ++ more)
 one_more clock taken Final l more e t new i = cc
-one_more clock taken (Ended at) l more e t new i =
-    let P : Arrival → Type 0 = λ x. IsEarlier at x.when.packet in
-    All-append P l more i (All-weaker (IsNew clock) P (λ x later. All-contains (λ w. IsEarlier w x.when.packet) clock.packets at later t.0) more new)
-one_more clock taken Crowded l more e t new i = tt
+one_more clock taken (Ended at) l more e t new i = all_later clock at l more t.0 new i
+one_more clock taken (Crowded ended at) l more e t new i = all_later clock at l more t.0 new i
 one_more clock taken Unknown l more e t new i = tt
 one_more clock taken (Before x) [] more e t new i = absurd i
 one_more clock taken (Before x) (y ∷ ys) more e t new i = i
@@ -68,14 +73,18 @@ all_back : (P : Arrival → Type 0) (xs ys : List Arrival) → All P (xs ++ ys) 
 all_back P [] ys a = a
 all_back P (x ∷ xs) ys a = all_back P xs ys (All-tail P x (xs ++ ys) a)
 
+own_within : (at : When) (k : Pair) (came : List Arrival) (fs : List Finished) (taken : List Arrival) → IsShared k came fs taken
+    → All (λ x. x.when.packet ≤ at.packet) came → All (λ x. x.when.packet ≤ at.packet) taken
+own_within at k came fs taken share all =
+    let P : Arrival → Type 0 = λ x. x.when.packet ≤ at.packet in
+    all_back P (taken_between k fs) taken (subst (All P) share (All-filter (is_between k) P came all))
+
 -- None of the connection's own segments came after a packet after which none came.
 pub timely_own : (clock : Clock) (k : Pair) (came : List Arrival) (fs : List Finished) (taken : List Arrival) (c : Cause) → IsShared k came fs taken
     → IsTimelyBy clock came c → IsTimelyBy clock taken c
 timely_own clock k came fs taken Final share t = tt
-timely_own clock k came fs taken (Ended at) share t =
-    let P : Arrival → Type 0 = λ x. x.when.packet ≤ at.packet in
-    (t.0, all_back P (taken_between k fs) taken (subst (All P) share (All-filter (is_between k) P came t.1)))
-timely_own clock k came fs taken Crowded share t = tt
+timely_own clock k came fs taken (Ended at) share t = (t.0, own_within at k came fs taken share t.1)
+timely_own clock k came fs taken (Crowded ended at) share t = (t.0, own_within at k came fs taken share t.1)
 timely_own clock k came fs taken Unknown share t = tt
 timely_own clock k came fs taken (Before x) share t = tt
 
@@ -85,7 +94,8 @@ timely_on : (clock later : Clock) (more : List When) (taken : List Arrival) (c :
 timely_on clock later more taken Final e t = tt
 timely_on clock later more taken (Ended at) e t =
     (subst (λ l. Contains l at) (sym e) (Contains-append_left clock.packets more at t.0), t.1)
-timely_on clock later more taken Crowded e t = tt
+timely_on clock later more taken (Crowded ended at) e t =
+    (subst (λ l. Contains l at) (sym e) (Contains-append_left clock.packets more at t.0), t.1)
 timely_on clock later more taken Unknown e t = tt
 timely_on clock later more taken (Before x) e t = tt
 

@@ -16,6 +16,10 @@ pub on_ok : {T E P Q : Type 0} (r : Result T E) → (P → Q) → OnOk r P → O
 on_ok (Ok x) f p = f p
 on_ok (Err x) f p = p
 
+pub on_two : {T E P Q R : Type 0} (r : Result T E) → (P → Q → R) → OnOk r P → OnOk r Q → OnOk r R
+on_two (Ok x) f p q = f p q
+on_two (Err x) f p q = p
+
 module _ {X : Type 0} where
   -- ---- a look-up in both
 

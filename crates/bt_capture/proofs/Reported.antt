@@ -12,7 +12,7 @@ use Rattle.bt_remarks.specs.declared.events.Side.{Side}
 use Rattle.bt_talk.specs.Pasts.{Past}
 use Rattle.bt_talk.specs.Sent.{IsSent}
 use Rattle.bt_talk.specs.declared.rows.Heading.{Heading}
-use Rattle.bt_talk.specs.Rows.{Shown, is_item, shown_texts}
+use Rattle.bt_talk.specs.Rows.{Shown, shown_texts}
 use Rattle.bt_talk.specs.Shown.{AreTurnRows, Turn}
 use Rattle.bt_talk.specs.Talks.{HasHeard, IsTalk, is_in_opening, is_lost, of_side}
 use Rattle.bt_talk.specs.declared.talk.Talk.{Talk}
@@ -21,16 +21,16 @@ use Rattle.bt_told.specs.declared.report.Report.{Report}
 use Rattle.bt_capture.specs.Arrivals.{AreEarlier, Arrival, Clock, is_between, pair_of}
 use Rattle.bt_capture.specs.Connections.{IsFirst, IsMade, IsOpen}
 use Rattle.bt_capture.specs.Following.{AreRowsOf, AtEnd, Cause, Coming, During, FollowsIn, GoesIn, IsOverBy, IsParted, MayBe, MayEnd, Phase, Rows}
-use Rattle.bt_capture.specs.Following.{AreOfPacket, AreToldWith, IsTimely, IsTimelyBy}
-use Rattle.bt_capture.specs.Following.{Ended, Final, Before, Crowded, Unknown, coming, is_crowded, left_by, losses_of, with_left}
+use Rattle.bt_capture.specs.Following.{AreToldWith, IsTimely, IsTimelyBy}
+use Rattle.bt_capture.specs.Following.{Ended, Final, Before, Crowded, Unknown, coming, is_unread, left_by, losses_of, with_left}
 use Rattle.bt_capture.specs.Following.{Finished, Fate, Reported, Silent, Lost, IsFinished, IsKnown, IsReported, IsSentBy, IsShared, IsEnded}
 use Rattle.bt_capture.specs.Following.{IsStreamSoFar, Follows, Stops, Holds, Shares, Streams, count_lost, count_open, count_unread, is_lost_by}
 use Rattle.bt_capture.specs.Following.{report_in, reports_of, taken_between, told_by}
 use Rattle.bt_capture.specs.Forms.{is_stream, showing_by, wanted_by}
 use Rattle.bt_capture.specs.Sending.{HasSent, IsSending}
-use Rattle.bt_capture.specs.Rowed.{HasShown, IsShowing, ShowsOn, heading_of}
+use Rattle.bt_capture.specs.Rowed.{AreRowsSoFar, HasShown, IsShowing, ShowsOn, heading_of}
 use Rattle.bt_capture.specs.Tables.{Held, same_pair}
-use Rattle.bt_capture.specs.Tellings.{ArePartsOf, Part, SaysAfter, Tells, TellsOn, item_rows, report_by}
+use Rattle.bt_capture.specs.Tellings.{ArePartsOf, OfBytes, Part, SaysAfter, Tells, TellsOn, is_row_of, report_by, rows_of}
 use Rattle.bt_capture.specs.declared.connection.Connection.{Connection}
 use Rattle.bt_capture.specs.declared.connections.Losses.{Losses}
 use Rattle.bt_capture.specs.declared.connections.Run.{Run}
@@ -38,7 +38,7 @@ use Rattle.bt_capture.specs.declared.ending.Form.{Form}
 use Rattle.bt_capture.specs.declared.pair.Pair.{Pair}
 use Rattle.bt_capture.specs.declared.telling.Teller.{Teller}
 use Rattle.bt_capture.proofs.Entries.{apart_put, apart_rest}
-use Rattle.bt_capture.proofs.Rowing.{AddsRows, adds_by, adds_nothing, items_of_report, items_of_segment, more_of, own_rows_of, parts_more, parts_of_report}
+use Rattle.bt_capture.proofs.Rowing.{AddsRows, adds_by, adds_nothing, more_and_end, own_rows_of, parts_more, parts_of_report, rows_of_report, rows_of_segment}
 use Rattle.bt_capture.proofs.Rowing.{parts_of_segment, parts_same, rows_begun, rows_held, rows_over, rows_same}
 use Rattle.bt_capture.proofs.Parting.{parts_coming, parts_end, parts_over, parts_took, timely_own}
 use Rattle.bt_capture.proofs.Rowing.{rows_to_same, rows_took, text_of_report, text_of_segment}
@@ -50,10 +50,10 @@ use Rattle.bt_capture.proofs.Streaming.{streaming_over, streaming_same, streamin
 use Rattle.bt_capture.proofs.Wants.{wanted_stream}
 use Rattle.std.specs.List.Sorted.{IsNonDecreasing}
 use Rattle.bt_capture.specs.Following.{AreParts, ComeLast, numbers}
-use Rattle.bt_capture.proofs.Order.{last_begins, last_over, order_begun, order_held, order_over, order_same, order_took, placed}
-use Rattle.bt_capture.proofs.Rowing.{after_rows}
+use Rattle.bt_capture.proofs.Order.{last_begins, last_over, order_begun, order_held, order_over, order_same, order_took, placed, placed_now}
+use Rattle.bt_capture.proofs.Rowing.{after_rows, in_time_of, in_time_on, in_time_took, so_far_gone, so_far_lost}
 use Rattle.bt_capture.proofs.Silent.{nothing_came, nothing_sent, nothing_shown}
-use Rattle.bt_capture.proofs.Timing.{next_segment, of_packet, told_more, told_reported, told_unreported}
+use Rattle.bt_capture.proofs.Timing.{told_more, told_reported, told_unreported}
 
 pub reports_more : (fs : List Finished) (f : Finished) → reports_of (fs ++ f ∷ []) ≡ reports_of fs ++ report_in f.fate
 reports_more fs f = flat_map-append (λ g. report_in g.fate) fs (f ∷ []) ∙ ap (λ l. reports_of fs ++ l) (append-nil (report_in f.fate))
@@ -82,26 +82,27 @@ losses_by : (a b c d : ℕ) → a ≡ c → b ≡ d → ◌≡◌ {A = Losses} (
 losses_by a b c d e f = cc
 
 -- Memory ran out with the last one.
-lost_more : (fs : List Finished) (f : Finished) → is_lost_by f.fate ≡ true → is_crowded f.cause ≡ false
+lost_more : (fs : List Finished) (f : Finished) → is_lost_by f.fate ≡ true → is_unread f.cause ≡ false
     → ◌≡◌ {A = Losses} (record { memory = min (count_lost fs + 1) (2 ^ 64 - 1); crowd = count_unread fs }) (losses_of (fs ++ f ∷ []))
 lost_more fs f lost crowded =
     losses_by (min (count_lost fs + 1) (2 ^ 64 - 1)) (count_unread fs) (count_lost (fs ++ f ∷ [])) (count_unread (fs ++ f ∷ []))
-    (count_one (λ g. is_lost_by g.fate) fs f lost) (count_none (λ g. is_crowded g.cause) fs f crowded)
+    (count_one (λ g. is_lost_by g.fate) fs f lost) (count_none (λ g. is_unread g.cause) fs f crowded)
 
-kept_uncrowded : (fs : List Finished) (f : Finished) → is_crowded f.cause ≡ false → is_lost_by f.fate ≡ false → losses_of fs ≡ losses_of (fs ++ f ∷ [])
+kept_uncrowded : (fs : List Finished) (f : Finished) → is_unread f.cause ≡ false → is_lost_by f.fate ≡ false → losses_of fs ≡ losses_of (fs ++ f ∷ [])
 kept_uncrowded fs f crowded kept =
     losses_by (count_lost fs) (count_unread fs) (count_lost (fs ++ f ∷ [])) (count_unread (fs ++ f ∷ []))
-    (count_none (λ g. is_lost_by g.fate) fs f kept) (count_none (λ g. is_crowded g.cause) fs f crowded)
+    (count_none (λ g. is_lost_by g.fate) fs f kept) (count_none (λ g. is_unread g.cause) fs f crowded)
 
 kept_for : (cause : Cause) (fs : List Finished) (f : Finished) → f.cause ≡ cause → is_lost_by f.fate ≡ false
     → with_left (left_by cause) (losses_of fs) ≡ losses_of (fs ++ f ∷ [])
-kept_for Final fs f why kept = kept_uncrowded fs f (ap is_crowded why) kept
-kept_for (Ended at) fs f why kept = kept_uncrowded fs f (ap is_crowded why) kept
-kept_for Unknown fs f why kept = kept_uncrowded fs f (ap is_crowded why) kept
-kept_for (Before x) fs f why kept = kept_uncrowded fs f (ap is_crowded why) kept
-kept_for Crowded fs f why kept =
+kept_for Final fs f why kept = kept_uncrowded fs f (ap is_unread why) kept
+kept_for (Ended at) fs f why kept = kept_uncrowded fs f (ap is_unread why) kept
+kept_for Unknown fs f why kept = kept_uncrowded fs f (ap is_unread why) kept
+kept_for (Before x) fs f why kept = kept_uncrowded fs f (ap is_unread why) kept
+kept_for (Crowded true at) fs f why kept = kept_uncrowded fs f (ap is_unread why) kept
+kept_for (Crowded false at) fs f why kept =
     losses_by (count_lost fs) (min (count_unread fs + 1) (2 ^ 64 - 1)) (count_lost (fs ++ f ∷ [])) (count_unread (fs ++ f ∷ []))
-    (count_none (λ g. is_lost_by g.fate) fs f kept) (count_one (λ g. is_crowded g.cause) fs f (ap is_crowded why))
+    (count_none (λ g. is_lost_by g.fate) fs f kept) (count_one (λ g. is_unread g.cause) fs f (ap is_unread why))
 
 -- The last one isn't lost.
 lost_same : (fs : List Finished) (f : Finished) → is_lost_by f.fate ≡ false → with_left (left_by f.cause) (losses_of fs) ≡ losses_of (fs ++ f ∷ [])
@@ -145,11 +146,11 @@ streams_same written written' fs es old new terms begin form count told i =
     streaming_same old.teller.form new.teller.form (told_by written old) (told_by written' new) old.terms new.terms (unwrap_or old.start 0)
     (unwrap_or new.start 0) old.begun new.begun fs es form told terms (ap (λ o. unwrap_or o 0) begin) count i
 
-rows_as : (parts : List Part) (written written' : List ℕ) (came : List Arrival) (fs : List Finished) (es : List (Pair × Held)) (old new : Run)
+rows_as : (packet : ℕ → ℕ) (parts : List Part) (written written' : List ℕ) (came : List Arrival) (fs : List Finished) (es : List (Pair × Held)) (old new : Run)
     → new.terms ≡ old.terms → new.start ≡ old.start → new.teller.form ≡ old.teller.form → new.begun ≡ old.begun → told_by written' new ≡ told_by written old
-    → Rows parts written came fs es old → Rows parts written' came fs es new
-rows_as parts written written' came fs es old new terms begin form count told i =
-    rows_same old.teller.form new.teller.form parts (told_by written old) (told_by written' new) old.terms new.terms (unwrap_or old.start 0)
+    → Rows packet parts written came fs es old → Rows packet parts written' came fs es new
+rows_as packet parts written written' came fs es old new terms begin form count told i =
+    rows_same old.teller.form new.teller.form packet parts (told_by written old) (told_by written' new) old.terms new.terms (unwrap_or old.start 0)
     (unwrap_or new.start 0) old.begun new.begun came fs es form told terms (ap (λ o. unwrap_or o 0) begin) count i
 
 pub shares_same : (written written' : List ℕ) (came : List Arrival) (fs : List Finished) (old new : Run) (k : Pair) (o : Option Held)
@@ -166,12 +167,12 @@ pub follows_over : {ph : Phase} {clock : Clock} (start now : TargetSeen) (came :
     → AddsFor old.teller.form c.value.number (told_by i.written old) (told_by i.written new)
     → Tells start now new.teller (reports_of i.fs ++ report_in f.fate) i.written → new.lost ≡ losses_of (i.fs ++ f ∷ [])
     → IsFinished old.terms (unwrap_or old.start 0) f → IsSentBy old.teller.form (told_by i.written new) old.terms (unwrap_or old.start 0) f
-    → (parts : List Part) (rows : List Shown) → AddsRows c.value.number rows i.parts parts
+    → (packet : ℕ → ℕ) (parts : List Part) (rows : List Shown) → AddsRows c.value.number rows i.packet packet i.parts parts
     → ArePartsOf old.teller.form (reports_of (i.fs ++ f ∷ [])) (told_by i.written new) parts
-    → AreRowsOf old.teller.form parts old.terms (unwrap_or old.start 0) f
-    → (packet : ℕ → ℕ) → AreToldWith packet clock.number parts (i.fs ++ f ∷ []) → FollowsIn ph start now clock came es new
-follows_over {ph} {clock} start now came p c es old new absent terms begin form count i f number ends share parted may timely adds tells lost is sent parts
-    rows gets parts_are shows packet times =
+    → AreRowsOf old.teller.form packet parts old.terms (unwrap_or old.start 0) f
+    → AreToldWith packet clock.number parts (i.fs ++ f ∷ []) → FollowsIn ph start now clock came es new
+follows_over {ph} {clock} start now came p c es old new absent terms begin form count i f number ends share parted may timely adds tells lost is sent packet
+    parts rows gets parts_are shows times =
     let n = c.value.number in
     let shown = old.teller.form in
     let told = told_by i.written old in
@@ -191,9 +192,10 @@ follows_over {ph} {clock} start now came p c es old new absent terms begin form 
       shared = λ k. share_same shown new.teller.form told' told' old.terms new.terms came (i.fs ++ f ∷ []) k (lookup (same_pair k) es) form refl terms
           (over shown old.terms came i.fs told' p es f ends absent share others k);
       parts = parts;
-      rows = rows_same shown new.teller.form parts told' told' old.terms new.terms from (unwrap_or new.start 0) old.begun new.begun came (i.fs ++ f ∷ []) es
+      rows = rows_same shown new.teller.form packet parts told' told' old.terms new.terms from (unwrap_or new.start 0) old.begun new.begun came
+          (i.fs ++ f ∷ []) es
           form refl terms (ap (λ o. unwrap_or o 0) begin) count
-          (rows_over shown old.terms from i.parts parts told told' old.begun came i.fs f p c es rows ends absent share
+          (rows_over shown old.terms from i.packet packet i.parts parts told told' old.begun came i.fs f p c es rows ends absent share
           (alone_over old.begun i.fs p c es i.streams.numbered) alone (has_begun old.begun i.fs p c es i.streams.numbered) gets parts_are shows i.rows);
       parting = parts_over ph came i.fs p f ends share parted may i.parting;
       order = order_same came (i.fs ++ f ∷ []) es old.begun new.begun count (order_over came i.fs f p c es old.begun number ends absent share i.order);
@@ -233,7 +235,7 @@ follows_same start now came es old new terms begin lost teller count i =
       streams = streams_same i.written i.written i.fs es old new terms begin form count told i.streams;
       shared = λ k. shares_same i.written i.written came i.fs old new k (lookup (same_pair k) es) terms form told (i.shared k);
       parts = i.parts;
-      rows = rows_as i.parts i.written i.written came i.fs es old new terms begin form count told i.rows;
+      rows = rows_as i.packet i.parts i.written i.written came i.fs es old new terms begin form count told i.rows;
       parting = i.parting;
       order = order_same came i.fs es old.begun new.begun count i.order;
       last = i.last;
@@ -260,7 +262,7 @@ pub follows_so_far : {ph : Phase} {clock : Clock} (start now : TargetSeen) (came
     → (i : FollowsIn ph start now clock came es run)
     → IsStreamSoFar run.teller.form (told_by i.written run) run.terms (unwrap_or run.start 0) came i.fs
 follows_so_far start now came es run i =
-    open_so_far run.teller.form (told_by i.written run) run.terms (unwrap_or run.start 0) run.begun came i.fs es i.apart i.streams i.shared
+    open_so_far run.teller.form (told_by i.written run) run.terms (unwrap_or run.start 0) run.begun came i.fs es i.apart i.streams i.order i.shared
 
 pub stops_of : {ph : Phase} {clock : Clock} (start now : TargetSeen) (came : List Arrival) (es : List (Pair × Held)) (run : Run)
     → FollowsIn ph start now clock came es run → Stops start now clock came run
@@ -298,7 +300,7 @@ follows_flushed start now after came es old new terms begin lost count form empt
       streams = streams_same i.written written i.fs es old new terms begin form count told i.streams;
       shared = λ k. shares_same i.written written came i.fs old new k (lookup (same_pair k) es) terms form told (i.shared k);
       parts = i.parts;
-      rows = rows_as i.parts i.written written came i.fs es old new terms begin form count told i.rows;
+      rows = rows_as i.packet i.parts i.written written came i.fs es old new terms begin form count told i.rows;
       parting = i.parting;
       order = order_same came i.fs es old.begun new.begun count i.order;
       last = i.last;
@@ -320,7 +322,7 @@ unreported : {ph : Phase} {clock : Clock} (start now : TargetSeen) (came : List 
     → (f : Finished) → f ≡ record { number = c.value.number; pair = p; taken = (own start now came p c es old i).taken; fate = end; cause = cause }
     → new.lost ≡ losses_of (i.fs ++ f ∷ []) → IsFinished old.terms (unwrap_or old.start 0) f
     → IsSentBy old.teller.form (told_by i.written old) old.terms (unwrap_or old.start 0) f
-    → AreRowsOf old.teller.form i.parts old.terms (unwrap_or old.start 0) f → FollowsIn ph start now clock came es new
+    → AreRowsOf old.teller.form i.packet i.parts old.terms (unwrap_or old.start 0) f → FollowsIn ph start now clock came es new
 unreported {ph} {clock} start now came p c es old new end cause parted may timely absent terms begin teller count none i f is lost finished sent shows =
     let told = told_same i.written old new teller in
     let P : List ℕ → Type 0 = λ l. IsSentBy old.teller.form l old.terms (unwrap_or old.start 0) f in
@@ -334,9 +336,9 @@ unreported {ph} {clock} start now came p c es old new end cause parted may timel
     (subst (λ (x : Cause). IsParted x (coming ph p)) (sym why) parted) (subst (λ (x : Cause). MayBe ph x) (sym why) may)
     (let s = own start now came p c es old i in subst (IsTimely clock) (sym is) (timely_own clock p came i.fs s.taken cause s.share timely))
     (λ stream w. told) (subst (λ l. Tells start now new.teller l i.written) reports tells) lost finished (subst P (sym told) sent)
-    i.parts [] (adds_nothing c.value.number i.parts)
+    i.packet i.parts [] (adds_nothing c.value.number i.packet i.parts)
     (parts_same old.teller.form old.teller.form (reports_of i.fs) (reports_of (i.fs ++ f ∷ [])) (told_by i.written old) (told_by i.written new) i.parts refl
-    (reports_more i.fs f ∙ sym reports) told i.rows.rowed.parts_are) shows i.packet
+    (reports_more i.fs f ∙ sym reports) told i.rows.rowed.parts_are) shows
     (told_unreported i.packet clock.number i.parts i.fs f (ap (λ (g : Finished). report_in g.fate) is ∙ none) i.times)
 
 may_unknown : (ph : Phase) → MayBe ph Unknown
@@ -369,16 +371,16 @@ silent {ph} {clock} start now came p c es run new cause may absent none there te
     let told = told_by i.written run in
     let from = unwrap_or run.start 0 in
     let no_data = sym s.is.0.has_payload ∙ none in
-    let rows = own_rows_of form run.terms from i.parts told run.begun came i.fs p c es s.taken s.share i.rows in
+    let rows = own_rows_of form run.terms from i.packet i.parts told run.begun came i.fs p c es s.taken s.share i.rows in
     let g = rows.1 there in
     let out = nothing_came run.terms s.taken talk no_data g.0 in
-    let no_rows = nothing_shown (heading_of form n from) g.0.a g.0.b talk g.0.made.turns rows.0 g.0.made.is g.0.made.heard out.0 out.1 g.1 in
+    let no_rows = nothing_shown (heading_of form n from) g.0.a g.0.b talk g.0.made.turns rows.0 g.0.made.is g.0.made.heard out.0 out.1 out.2 g.1 in
     let f : Finished = record { number = n; pair = p; taken = s.taken; fate = Silent; cause = cause } in
     unreported start now came p c es run new Silent cause may.parted may.may_be may.timely absent terms begin teller count refl i f refl
     (lost ∙ ap (with_left (left_by cause)) i.known.lost ∙ lost_same i.fs f refl)
     (no_data, over_by run.terms s.taken ph clock came p c.value cause may (s.is.0.made there))
     (λ side small w.
-    let h = s.is.1 side small w there in
+    let h = (s.is.1 side small w).all there in
     let none_out = nothing_came run.terms s.taken talk no_data h.0 in
     nothing_sent (is_in_opening talk) side h.0.a h.0.b told none_out.0 none_out.1 h.1) (λ small. rows.2 small ∙ no_rows)
 
@@ -389,10 +391,13 @@ pub lost_one : {ph : Phase} {clock : Clock} (start now : TargetSeen) (came : Lis
     → FollowsIn ph start now clock came ((p, c) ∷ es) old → FollowsIn ph start now clock came es new
 lost_one {ph} start now came p c es old new absent terms begin teller lost count i =
     let s = own start now came p c es old i in
+    let from = unwrap_or old.start 0 in
+    let rows = own_rows_of old.teller.form old.terms from i.packet i.parts (told_by i.written old) old.begun came i.fs p c es s.taken s.share i.rows in
     let f : Finished = record { number = c.value.number; pair = p; taken = s.taken; fate = Lost; cause = Unknown } in
     let more : Losses → Losses = λ l. record { memory = min (l.memory + 1) (2 ^ 64 - 1); crowd = l.crowd } in
     unreported start now came p c es old new Lost Unknown tt (may_unknown ph) tt absent terms begin teller count refl i f refl
-    (lost ∙ ap more i.known.lost ∙ lost_more i.fs f refl refl) (tt, refl) (λ side small w. tt) (λ small. tt)
+    (lost ∙ ap more i.known.lost ∙ lost_more i.fs f refl refl) (tt, refl) (λ side small w. (s.is.1 side small w).early)
+    (λ small. (is_lost c.value.talk, rows.3 small))
 
 -- What is told after these bytes were appended, if a stream is told.
 appended : (written more : List ℕ) (old new : Run) → new.teller.text.items ≡ old.teller.text.items ++ more → told_by written new ≡ told_by written old ++ more
@@ -406,12 +411,11 @@ adds_more form n told told' more is none stream w = is stream ∙ ap (λ (l : Li
 abbrev pub Ends : Talk → Talk → Type 0
 Ends last talk = (a b : Past) (turns : List Turn) → IsTalk a b last → HasHeard turns a b last → (now : List Turn) × IsEnded a b last talk turns now
 
--- Its opening is ended, and its report told: bytes of a stream come first, and rows, which show the last items.
+-- Its opening is ended, and its report told: bytes of a stream come first, and rows, those of its last turns.
 abbrev pub Reports : Teller → Teller → Heading → Left → Talk → Talk → List ℕ → Type 0
-Reports t t' h left last talk bytes = (packet : ℕ) (a b : Past) (turns : List Turn) (before : List Shown) → IsTalk a b last → HasHeard turns a b last
+Reports t t' h left last talk bytes = (a b : Past) (turns : List Turn) (before : List Shown) → IsTalk a b last → HasHeard turns a b last
     → AreTurnRows h turns before → (now : List Turn) × IsEnded a b last talk turns now
-    × ((rows : List Shown) × AreTurnRows h now (before ++ filter is_item rows)
-    × ((All (λ s. s.packet ≡ packet) (filter is_item rows)) ⊎ (before ≡ [])) × SaysAfter t t' h.connection h.start left talk bytes rows)
+    × ((rows : List Shown) × AreTurnRows h now (before ++ rows) × SaysAfter t t' h.connection h.start left talk bytes rows)
 
 pub reported : {A E : Type 0} {ph : Phase} {clock : Clock} (r : Result A E) (start now : TargetSeen) (came : List Arrival) (p : Pair) (c : Held)
     (es : List (Pair × Held)) (old new : Run) (cause : Cause) (left : Left) → MayEnd ph clock came cause p c.value → left ≡ left_by cause
@@ -436,23 +440,22 @@ reported {A} {E} {ph} {clock} (Ok x) start now came p c es old new cause left ma
     let number = clock.number in
     let head = heading_of old.teller.form n from in
     let told = told_by i.written old in
-    let own = own_rows_of old.teller.form old.terms from i.parts told old.begun came i.fs p c es s.taken s.share i.rows in
+    let own = own_rows_of old.teller.form old.terms from i.packet i.parts told old.begun came i.fs p c es s.taken s.share i.rows in
     let g = own.1 there in
-    let all_of = reports number g.0.a g.0.b g.0.made.turns own.0 g.0.made.is g.0.made.heard g.1 in
+    let all_of = reports g.0.a g.0.b g.0.made.turns own.0 g.0.made.is g.0.made.heard g.1 in
     let w = all_of.2 in
-    let said = w.3 in
-    let others = said.3 in
+    let said = w.2 in
+    let end = said.4 g.0.a g.0.b all_of.1.is in
     let told' = told_by i.written new in
     let f : Finished = record { number = n; pair = p; taken = s.taken; fate = Reported said.0; cause = cause } in
     let is : is_stream old.teller.form ≡ true → told' ≡ told ++ more = λ stream. appended i.written more old new (text stream q) in
-    let all = w.0 ++ others in
+    let all = w.0 ++ said.3 in
     let last : List ℕ = (more ++ shown_texts (showing_by old.teller.form) all) ++ report_by old.teller.form said.0 in
     let parts = i.parts ++ parts_of_report more all said.0 in
-    let are_of = more_of head all_of.0 own.0 (filter is_item w.0) w.1 in
-    let items : filter is_item all ≡ filter is_item w.0 =
-    filter-append is_item w.0 others ∙ ap (λ (l : List Shown). filter is_item w.0 ++ l) said.4 ∙ append-nil (filter is_item w.0) in
-    let gets : AddsRows n (filter is_item w.0) i.parts parts =
-    adds_by n (filter is_item w.0) i.parts (parts_of_report more all said.0) (items_of_report more w.0 others said.0 said.4) are_of in
+    let are_of = more_and_end head all_of.0 own.0 w.0 g.0.a g.0.b talk said.3 w.1 end in
+    let packet = placed i.packet (length i.parts) number in
+    let gets : AddsRows n all i.packet packet i.parts parts =
+    adds_by n all i.packet number i.parts (parts_of_report more all said.0) (rows_of_report more all said.0) are_of in
     let parts_are : ArePartsOf old.teller.form (reports_of (i.fs ++ f ∷ [])) told' parts =
     parts_same old.teller.form old.teller.form (reports_of i.fs ++ said.0 ∷ []) (reports_of (i.fs ++ f ∷ [])) (told ++ last) told' parts refl
     (reports_more i.fs f) (appended i.written last old new said.5)
@@ -482,17 +485,24 @@ reported {A} {E} {ph} {clock} (Ok x) start now came p c es old new cause left ma
     (lost ∙ ap (λ (l : Left). with_left l old.lost) left_is ∙ ap (with_left (left_by cause)) i.known.lost ∙ lost_same i.fs f refl)
     ((sym s.is.0.has_payload ∙ some, report m, left_is), over_by old.terms s.taken ph clock came p c.value cause may m)
     (λ side small w.
-    let h = s.is.1 side small w there in
+    let h = (s.is.1 side small w).all there in
     let k = h.0 in
     let R : List ℕ → Type 0 = λ l. IsSent false (of_side side k.a k.b) l in
     (report k, subst R (sym (is (wanted_stream old.teller.form n side w))) (ends k.a k.b side told k.made.is w h.1)))
-    parts (filter is_item w.0) gets parts_are (λ small. (
+    packet parts all gets parts_are (λ small. (
       report_by g.0 all_of.0 all_of.1,
-      subst (λ l. AreTurnRows head all_of.0 l) (sym (gets.0 ∙ ap (λ (l : List Shown). l ++ filter is_item w.0) (own.2 small))) w.1,
-      after_rows n said.0 i.parts more all,
-    )) (placed i.packet (length i.parts) number)
-    (told_reported i.packet number i.parts i.fs f more all said.0 refl may.told_at
-    (subst (AreOfPacket number i.parts) (sym items) (of_packet number n i.parts own.0 (filter is_item w.0) are_of own.2 w.2)) i.times)
+      record {
+        shown = own.0 ++ w.0;
+        last = said.3;
+        is = gets.own ∙ ap (λ (l : List Shown). l ++ all) (own.2 small) ∙ sym (append_assoc own.0 w.0 said.3);
+        are_shown = w.1;
+        are_last = end;
+      },
+      after_rows head old.terms i.packet number i.parts s.taken more all said.0
+          (c.value.talk, g.0, subst (AreTurnRows head g.0.made.turns) (sym (own.2 small)) g.1),
+      in_time_on head old.terms i.packet packet i.parts (parts_of_report more all said.0) s.taken gets.same
+          (in_time_of head old.terms i.packet i.parts s.taken [] (is_lost c.value.talk) there (own.3 small)),
+    )) (told_reported i.packet number i.parts i.fs f more all said.0 refl may.told_at i.times)
 reported (Err x) start now came p c es old new cause left may left_is absent some terms begin more_lost lost form count there talk ended Q shown nothing more
     text part none ends reports i =
     let m = (own start now came p c es old i).is.0.made there in
@@ -510,8 +520,8 @@ reported (Err x) start now came p c es old new cause left may left_is absent som
       known = known_same start now i.fs i.written i.written old new terms begin lost (nothing q start now (reports_of i.fs) i.written i.known.tells) i.known;
       so_far = so_far_same old.teller.form new.teller.form told' told' old.terms new.terms from (unwrap_or new.start 0) came i.fs form refl terms
           (ap (λ o. unwrap_or o 0) begin)
-          (ended_so_far old.teller.form told told' more old.terms from old.begun came i.fs p c es absent (apart_rest (p, c) es i.apart) i.streams i.shared is
-          none ends);
+          (ended_so_far old.teller.form told told' more old.terms from old.begun came i.fs p c es absent (apart_rest (p, c) es i.apart) i.streams i.order
+          i.shared is none there ends);
       shared = λ k. ((i.shared k).taken, (i.shared k).share);
       timely = i.timely;
     }
@@ -528,9 +538,10 @@ begun_most a n e = omega (arith, e)
 pub begun : {clock : Clock} (start now : TargetSeen) (came : List Arrival) (x : Arrival) (p : Pair) (c : Held) (es : List (Pair × Held)) (old new : Run)
     → lookup (same_pair p) es ≡ None → new.terms ≡ old.terms → new.start ≡ old.start → new.lost ≡ old.lost → new.teller ≡ old.teller
     → new.begun ≡ min (old.begun + 1) (2 ^ 64 - 1) → IsOpen old.terms [] (x ∷ []) c.value → c.value.number ≡ old.begun
-    → ((side : Side) → HasSent side [] old.terms [] (x ∷ []) c.value) → ((h : Heading) → HasShown h [] old.terms [] (x ∷ []) c.value)
+    → ((side : Side) → HasSent side [] old.terms [] (x ∷ []) c.value) → is_lost c.value.talk ≡ false
+    → ((h : Heading) → HasShown h [] old.terms [] (x ∷ []) c.value)
     → FollowsIn (Coming p x) start now clock came es old → Holds start now clock came x p c es new
-begun start now came x p c es old new absent terms begin lost teller count is number sent shown i =
+begun start now came x p c es old new absent terms begin lost teller count is number sent there shown i =
     let form = ap (λ (t : Teller). t.form) teller in
     let told = told_by i.written old in
     let told' = told_by i.written new in
@@ -554,9 +565,10 @@ begun start now came x p c es old new absent terms begin lost teller count is nu
       apart = i.apart;
       others = λ k e. shares_same i.written i.written came i.fs old new k (lookup (same_pair k) es) terms form same (i.shared k);
       parts = i.parts;
-      rows = rows_to_same old.teller.form new.teller.form i.parts told told' old.terms new.terms from (unwrap_or new.start 0) new.begun came i.fs x p []
+      rows = rows_to_same old.teller.form new.teller.form i.packet i.parts told told' old.terms new.terms from
+          (unwrap_or new.start 0) new.begun came i.fs x p []
           c.value es form same terms (ap (λ o. unwrap_or o 0) begin)
-          (rows_begun old.teller.form old.terms from i.parts told old.begun new.begun came i.fs x p c.value es number count shown i.rows);
+          (rows_begun old.teller.form old.terms from i.packet i.parts told old.begun new.begun came i.fs x p c.value es number count there shown i.rows);
       parting = i.parting;
       order = order_begun came i.fs x p c.value.number es old.begun new.begun number count most i.order;
       last = i.last;
@@ -583,7 +595,8 @@ held start now came x p c es run its absent i =
       apart = apart_rest (p, c) es i.apart;
       others = others_of run.teller.form run.terms came i.fs (told_by i.written run) p c es i.shared;
       parts = i.parts;
-      rows = rows_held run.teller.form run.terms (unwrap_or run.start 0) i.parts (told_by i.written run) run.begun came i.fs x p c es s.taken its s.share
+      rows = rows_held run.teller.form run.terms (unwrap_or run.start 0) i.packet i.parts
+          (told_by i.written run) run.begun came i.fs x p c es s.taken its s.share
           i.rows;
       parting = i.parting;
       order = order_held came i.fs x p c s.taken es run.begun s.share i.order;
@@ -625,6 +638,18 @@ pub follows_end : {clock : Clock} (start now : TargetSeen) (came : List Arrival)
     → Follows start now clock came es run → FollowsIn AtEnd start now clock came es run
 follows_end start now came es run up i = follows_with start now came es run i (parts_end came i.fs i.parting) (last_begins i.fs es up i.last)
 
+was_or_now : (h : Heading) (terms : Terms) (packet packet' : ℕ → ℕ) (parts parts' more_parts : List Part) (taken : List Arrival) (x : Arrival)
+    → parts' ≡ parts ++ more_parts → rows_of h.connection more_parts ≡ [] → ((m : ℕ) → m < length parts → packet' m ≡ packet m) → (ran_out : Bool)
+    → AreRowsSoFar h terms packet parts taken (x ∷ []) ran_out → AreRowsSoFar h terms packet' parts' (taken ++ x ∷ []) [] true
+was_or_now h terms packet packet' parts parts' more_parts taken x e none same true r =
+    so_far_gone h terms packet packet' parts parts' more_parts taken x e none same r
+was_or_now h terms packet packet' parts parts' more_parts taken x e none same false r =
+    so_far_lost h terms packet packet' parts parts' more_parts taken x e none same r
+
+by_loss : (P : Bool → Type 0) (b : Bool) → (b ≡ true → P true) → (b ≡ false → P false) → P b
+by_loss P true lost there = lost refl
+by_loss P false lost there = there refl
+
 -- The connection takes the segment.
 pub follows_took : {clock : Clock} (start now : TargetSeen) (came : List Arrival) (x : Arrival) (p : Pair) (c c' : Held) (es : List (Pair × Held))
     (old new : Run) → pair_of x ≡ p → new.terms ≡ old.terms → new.start ≡ old.start → new.lost ≡ old.lost → new.begun ≡ old.begun
@@ -636,7 +661,7 @@ pub follows_took : {clock : Clock} (start now : TargetSeen) (came : List Arrival
     → HasSent side (told_by i.written old) old.terms i.taken (x ∷ []) c.value
     → HasSent side (told_by i.written old ++ more) old.terms (i.taken ++ x ∷ []) [] c'.value)
     → ((before : List Shown) → let h = heading_of old.teller.form c.value.number (unwrap_or old.start 0) in HasShown h before old.terms i.taken (x ∷ []) c.value
-    → (rows : List Shown) × ShowsOn h before rows old.terms i.taken x c'.value
+    → (rows : List Shown) × ShowsOn h before rows old.terms i.taken x c.value c'.value
     × (new.teller.text.items ≡ old.teller.text.items ++ (shown_texts (showing_by old.teller.form) rows ++ more)))
     → x.when.packet ≡ clock.number → Follows start now clock (came ++ x ∷ []) ((p, c') ∷ es) new
 follows_took {clock} start now came x p c c' es old new ends terms begin lost count form tells number i is more text none sends shows packet_is =
@@ -655,21 +680,58 @@ follows_took {clock} start now came x p c c' es old new ends terms begin lost co
     let R : List ℕ → Type 0 = λ l. HasSent side l old.terms (i.taken ++ x ∷ []) [] c'.value in
     subst R (sym (same (wanted_stream shown n side w'))) (sends side w' (i.sends side below w')) in
     let own = i.rows.own in
+    let head = heading_of shown n from in
     let w = shows own.0 own.1 in
-    let items = filter is_item w.0 in
-    let of = subst (λ (k : ℕ). (All (λ s. s.packet ≡ k) items) ⊎ (own.0 ≡ [])) packet_is w.1.of_packet in
     let rows_text : List ℕ = shown_texts (showing_by shown) w.0 ++ more in
     let parts = i.parts ++ parts_of_segment more w.0 in
-    let gets : AddsRows n items i.parts parts = adds_by n items i.parts (parts_of_segment more w.0) (items_of_segment more w.0) w.1.are_of in
+    let packet = placed i.packet (length i.parts) clock.number in
+    let gets : AddsRows n w.0 i.packet packet i.parts parts =
+    adds_by n w.0 i.packet clock.number i.parts (parts_of_segment more w.0) (rows_of_segment more w.0) w.1.are_of in
     let parts_are : ArePartsOf shown (reports_of i.fs) told' parts =
     parts_same shown shown (reports_of i.fs ++ []) (reports_of i.fs) (told ++ rows_text) told' parts refl (sym (append-nil (reports_of i.fs)))
     (appended i.written rows_text old new w.2)
     (parts_more shown (reports_of i.fs) [] told rows_text i.parts (parts_of_segment more w.0) refl (text_of_segment shown n more w.0 none)
     i.rows.rowed.parts_are) in
     let N : ℕ → Type 0 = λ k.
-    (rows : List Shown) × HasShown (heading_of shown k from) rows old.terms (i.taken ++ x ∷ []) [] c'.value × (k < 2 ^ 64 - 1 → item_rows k parts ≡ rows) in
-    let shows_now : IsShowing shown parts old.terms from (i.taken ++ x ∷ []) [] c'.value =
-    subst N (sym number) (own.0 ++ items, w.1.shown, λ small. gets.0 ∙ ap (λ (l : List Shown). l ++ items) (own.2 small)) in
+    (rows : List Shown) × HasShown (heading_of shown k from) rows old.terms (i.taken ++ x ∷ []) [] c'.value × (k < 2 ^ 64 - 1 → rows_of k parts ≡ rows)
+    × (k < 2 ^ 64 - 1 → AreRowsSoFar (heading_of shown k from) old.terms packet parts (i.taken ++ x ∷ []) [] (is_lost c'.value.talk)) in
+    let shows_now : IsShowing shown packet parts old.terms from (i.taken ++ x ∷ []) [] c'.value =
+    subst N (sym number) (
+      own.0 ++ w.0,
+      w.1.shown,
+      λ small. gets.own ∙ ap (λ (l : List Shown). l ++ w.0) (own.2 small),
+      λ small.
+          let more_parts = parts_of_segment more w.0 in
+          let lost : is_lost c'.value.talk ≡ true → AreRowsSoFar head old.terms packet parts (i.taken ++ x ∷ []) [] true = λ gone.
+          let none : rows_of n more_parts ≡ [] = ap (filter (is_row_of n)) (rows_of_segment more w.0 ∙ w.1.none gone) in
+          was_or_now head old.terms i.packet packet i.parts parts more_parts i.taken x refl none gets.same (is_lost c.value.talk) (own.3 small) in
+          let there : is_lost c'.value.talk ≡ false → AreRowsSoFar head old.terms packet parts (i.taken ++ x ∷ []) [] false = λ there.
+          let was = w.1.there there in
+          let g = own.1 was in
+          let m = w.1.shown there in
+          let in_time = in_time_of head old.terms i.packet i.parts i.taken (x ∷ []) (is_lost c.value.talk) was (own.3 small) in
+          record {
+            kept = i.taken ++ x ∷ [];
+            gone = [];
+            is = sym (append-nil (i.taken ++ x ∷ []));
+            are_gone = refl;
+            rows = (
+              c'.value.talk,
+              m.0,
+              subst (AreTurnRows head m.0.made.turns) (sym (gets.own ∙ ap (λ (l : List Shown). l ++ w.0) (own.2 small))) m.1,
+            );
+            in_time = in_time_took head old.terms i.packet packet i.parts more_parts i.taken x gets.same in_time (record {
+              before = i.parts;
+              rows = w.0;
+              after = OfBytes more ∷ [];
+              is = refl;
+              told_with = placed_now i.packet (length i.parts) clock.number (length i.parts) (omega arith) ∙ sym packet_is;
+              had = (c.value.talk, g.0, subst (AreTurnRows head g.0.made.turns) (sym (own.2 small)) g.1);
+              has = (c'.value.talk, m.0, subst (λ l. AreTurnRows head m.0.made.turns (l ++ w.0)) (sym (own.2 small)) m.1);
+            });
+          } in
+          by_loss (AreRowsSoFar head old.terms packet parts (i.taken ++ x ∷ []) []) (is_lost c'.value.talk) lost there,
+    ) in
     record {
       fs = i.fs;
       written = i.written;
@@ -682,18 +744,17 @@ follows_took {clock} start now came x p c c' es old new ends terms begin lost co
       shared = λ k. share_same shown new.teller.form told' told' old.terms new.terms (came ++ x ∷ []) i.fs k (lookup (same_pair k) ((p, c') ∷ es)) form
           refl terms (took shown old.terms came i.fs told' p c' es i.taken x ends i.share is sent others k);
       parts = parts;
-      rows = rows_same shown new.teller.form parts told' told' old.terms new.terms from (unwrap_or new.start 0) old.begun new.begun (came ++ x ∷ []) i.fs
+      rows = rows_same shown new.teller.form packet parts told' told' old.terms new.terms from (unwrap_or new.start 0) old.begun new.begun (came ++ x ∷ []) i.fs
           ((p, c') ∷ es) form refl terms (ap (λ o. unwrap_or o 0) begin) count
-          (rows_took shown old.terms from i.parts parts told told' old.begun came i.fs x p i.taken c c' es items ends i.share
+          (rows_took shown old.terms from i.packet packet i.parts parts told told' old.begun came i.fs x p i.taken c c' es w.0 ends i.share
           (alone_over old.begun i.fs p c es i.streams.numbered) alone (has_begun old.begun i.fs p c es i.streams.numbered) gets parts_are shows_now i.rows);
       parting = parts_took came i.fs p x ends i.parting;
       order = order_same (came ++ x ∷ []) i.fs ((p, c') ∷ es) old.begun new.begun count
           (order_took came i.fs x p c.value.number c' i.taken es old.begun ends number i.share i.order);
       last = i.last;
       timely = i.timely;
-      packet = placed i.packet (length i.parts) clock.number;
-      times = told_more i.packet clock.number clock.number i.parts (parts_of_segment more w.0) i.fs (omega arith)
-          (next_segment clock.number i.parts more w.0 (of_packet clock.number n i.parts own.0 items w.1.are_of own.2 of)) i.times;
+      packet = packet;
+      times = told_more i.packet clock.number i.parts (parts_of_segment more w.0) i.fs i.times;
     }
 
 pub more_shared : (k : Pair) (came more : List Arrival) (fs : List Finished) (rest : List Arrival) → IsShared k came fs rest

@@ -19,6 +19,7 @@ use Rattle.bt_capture.specs.declared.connection.Connection.{Connection}
 use Rattle.bt_capture.specs.declared.ending.Form.{Form}
 use Rattle.bt_capture.specs.declared.pair.Pair.{Pair}
 use Rattle.bt_capture.proofs.Entries.{same_is, same_self}
+use Rattle.bt_capture.proofs.Sending.{was_before}
 use Rattle.bt_capture.proofs.Streaming.{AddsFor, other_open, sending_on}
 
 pub filter_and : {X : Type 0} (p : X → Bool) (xs : List X) (x : X) → p x ≡ true → filter p (xs ++ x ∷ []) ≡ filter p xs ++ x ∷ []
@@ -151,4 +152,9 @@ ready terms taken x c its i = record { has_payload = i.has_payload; made = λ th
 
 pub ready_sent : (form : Form) (told : List ℕ) (terms : Terms) (taken : List Arrival) (x : Arrival) (c : Connection)
     → IsIts x c → IsSending form told terms taken [] c → IsSending form told terms taken (x ∷ []) c
-ready_sent form told terms taken x c its i side small w there = let s = i side small w there in (made_ready terms taken x c its s.0, s.1)
+ready_sent form told terms taken x c its i side small w =
+    let s = i side small w in
+    record {
+      early = was_before false side told terms taken (x ∷ []) s.early;
+      all = λ there. let g = s.all there in (made_ready terms taken x c its g.0, g.1);
+    }

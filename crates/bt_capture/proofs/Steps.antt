@@ -36,14 +36,11 @@ use Rattle.bt_capture.proofs.Streaming.{streaming_moved, streaming_nothing, stre
 use Rattle.bt_capture.proofs.Streaming.{streaming_same, streaming_started}
 use Rattle.bt_capture.specs.Following.{AreBegun, IsTimely, is_final}
 use Rattle.bt_capture.proofs.Order.{order_moved, order_nothing, order_same}
+use Rattle.bt_capture.proofs.Silent.{parts_none}
 use Rattle.bt_capture.proofs.Timing.{told_later, told_nothing}
 use Rattle.bt_capture.proofs.Reported.{told_same, shares_same, known_same, follows_same, more_shared}
 
 -- ---- the first packet
-
-parts_none : {X : Type 0} (xs ys : List X) → xs ++ ys ≡ [] → (xs ≡ []) × (ys ≡ [])
-parts_none [] ys e = (refl, e)
-parts_none (x ∷ xs) ys e = cc
 
 none_taken : (fs : List Finished) → ((k : Pair) → taken_between k fs ≡ []) → All (λ f. f.taken ≡ []) fs
 none_taken [] none = All-nil (λ f. f.taken ≡ [])
@@ -102,8 +99,8 @@ started {clock} start now [] old new time is begin terms lost teller table count
           refl count (streaming_started old.teller.form told old.terms from from' old.begun i.fs old.table none i.streams);
       shared = λ k. shares_same i.written i.written [] i.fs old new k (lookup (same_pair k) old.table) terms form same (i.shared k);
       parts = i.parts;
-      rows = rows_same old.teller.form new.teller.form i.parts told told' old.terms new.terms from' from' old.begun new.begun [] i.fs old.table form same
-          terms refl count (rows_started old.teller.form i.parts told old.terms from from' old.begun i.fs old.table none i.rows);
+      rows = rows_same old.teller.form new.teller.form i.packet i.parts told told' old.terms new.terms from' from' old.begun new.begun [] i.fs old.table
+          form same terms refl count (rows_started old.teller.form i.packet i.parts told old.terms from from' old.begun i.fs old.table none i.rows);
       parting = i.parting;
       order = order_same [] i.fs old.table old.begun new.begun count i.order;
       last = i.last;
@@ -194,6 +191,11 @@ pub all_within : (packets : List Captured) (p : Captured) (number : ℕ) → num
     → All (λ x. x.when.packet ≤ number) (arrivals (packets ++ p ∷ []))
 all_within packets p number e = within_after 0 (packets ++ p ∷ []) number (omega (arith, e, length-append packets (p ∷ [])))
 
+-- None came after the next packet.
+pub all_until : (packets : List Captured) (number : ℕ) → number ≡ min (length packets + 1) (2 ^ 64 - 1)
+    → All (λ x. x.when.packet ≤ number) (arrivals packets)
+all_until packets number e = within_after 0 packets number (omega (arith, e))
+
 -- Time goes on.
 pub follows_later : (start now : TargetSeen) (clock later : Clock) (more : List When) (came : List Arrival) (es : List (Pair × Held)) (run : Run)
     → later.packets ≡ clock.packets ++ more → clock.number ≤ later.number → Follows start now clock came es run → Follows start now later came es run
@@ -212,7 +214,7 @@ follows_later start now clock later more came es run e up i = record {
   last = i.last;
   timely = timely_more clock later more i.fs e i.timely;
   packet = i.packet;
-  times = told_later i.packet clock.number later.number i.parts i.fs up i.times;
+  times = told_later i.packet clock.number later.number i.parts i.fs up i.last i.times;
 }
 
 pub stops_later : (start now : TargetSeen) (clock later : Clock) (more : List When) (came : List Arrival) (run : Run)
@@ -258,8 +260,8 @@ follows_out start now came p c es out run found is i =
       shared = subst (λ l. (k : Pair) → Shares i.written came i.fs run k (lookup (same_pair k) ((p, c) ∷ l))) (sym is)
           (moved form run.terms came i.fs told es ((p, c) ∷ gone) (lookup_back p c es found) i.shared);
       parts = i.parts;
-      rows = subst (λ l. Rows i.parts i.written came i.fs ((p, c) ∷ l) run) (sym is)
-          (rows_moved form run.terms (unwrap_or run.start 0) i.parts told run.begun came i.fs es ((p, c) ∷ gone) (lookup_back p c es found) i.rows);
+      rows = subst (λ l. Rows i.packet i.parts i.written came i.fs ((p, c) ∷ l) run) (sym is)
+          (rows_moved form run.terms (unwrap_or run.start 0) i.packet i.parts told run.begun came i.fs es ((p, c) ∷ gone) (lookup_back p c es found) i.rows);
       parting = i.parting;
       order = subst (λ l. AreBegun came i.fs ((p, c) ∷ l) run.begun) (sym is)
           (order_moved came i.fs es ((p, c) ∷ gone) run.begun (lookup_back p c es found) i.order);
@@ -284,7 +286,7 @@ follows_moved start now came es gs run moves i =
       streams = streaming_moved form told run.terms (unwrap_or run.start 0) run.begun i.fs es gs moves i.streams;
       shared = moved form run.terms came i.fs told es gs (lookup_moved es gs moves i.apart) i.shared;
       parts = i.parts;
-      rows = rows_moved form run.terms (unwrap_or run.start 0) i.parts told run.begun came i.fs es gs (lookup_moved es gs moves i.apart) i.rows;
+      rows = rows_moved form run.terms (unwrap_or run.start 0) i.packet i.parts told run.begun came i.fs es gs (lookup_moved es gs moves i.apart) i.rows;
       parting = i.parting;
       order = order_moved came i.fs es gs run.begun (lookup_moved es gs moves i.apart) i.order;
       last = i.last;
@@ -304,7 +306,8 @@ holds_stop start now came x p c es old new ends terms begin lost form tells kept
     let told' = told_by i.written new in
     let from = unwrap_or old.start 0 in
     let is : is_stream shown ≡ true → told' ≡ told = λ stream. ap (λ (l : List ℕ). i.written ++ l) (kept stream) in
-    let so_far = held_so_far shown told old.terms from old.begun came x i.fs p c es i.taken ends i.absent i.apart i.streams i.share i.sends i.others in
+    let so_far = held_so_far shown told old.terms from old.begun came x i.fs p c es i.taken ends i.absent i.apart i.streams i.order i.share i.sends
+    i.others in
     record {
       fs = i.fs;
       written = i.written;
@@ -339,8 +342,8 @@ follows_nothing start run tells empty lost count none =
       streams = subst Q (sym count) (streaming_nothing run.teller.form (told_by [] run) run.terms from empty);
       shared = λ k. record { taken = []; is = refl; share = refl };
       parts = [];
-      rows = subst (λ n. IsRowing run.teller.form [] (told_by [] run) run.terms from n [] [] []) (sym count)
-          (rows_nothing run.teller.form (told_by [] run) run.terms from empty);
+      rows = subst (λ n. IsRowing run.teller.form (λ m. 0) [] (told_by [] run) run.terms from n [] [] []) (sym count)
+          (rows_nothing run.teller.form (λ m. 0) (told_by [] run) run.terms from empty);
       parting = parts_nothing;
       order = order_nothing [] run.begun refl count;
       last = All-nil (λ (f : Finished). is_final f.cause ≡ false);

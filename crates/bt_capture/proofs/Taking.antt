@@ -113,6 +113,8 @@ made_more terms taken s x t t' e ends same i took now turned = record {
     unmarked = i.made.unmarked;
     unshut = i.made.unshut;
     watched = i.made.watched;
+    unbegun = i.made.unbegun;
+    ungrown = i.made.ungrown;
     heard = turned.heard;
   };
   next = tt;

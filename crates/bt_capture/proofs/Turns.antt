@@ -1,16 +1,13 @@
--- The turns of a connection, and the rows that show their items.
-use Rattle.std.proofs.Common.{◌≡◌, ◌⊎◌, ◌∙◌, ℕ, Bool, true, false, List, [], ◌∷◌, ◌++◌, append-nil, Option, refl, sym, ap, subst, inl, inr}
-use Rattle.std.specs.List.{All, filter}
+-- The turns of a connection, and their rows.
+use Rattle.std.proofs.Common.{◌≡◌, ◌∙◌, ℕ, true, false, List, [], ◌∷◌, ◌++◌, append-nil, Option, refl, sym, ap, subst, inl, inr}
 use Rattle.std.proofs.lemmas.Bool.{cases_Bool}
-use Rattle.std.proofs.lemmas.List.Elements.{All-cons, All-nil, filter-append}
 use Rattle.bt_packet.specs.declared.tcp.Segment.{Segment}
 use Rattle.bt_remarks.specs.declared.events.Side.{Side}
 use Rattle.bt_remarks.specs.declared.events.Side.TheVariants.{A, B}
 use Rattle.bt_remarks.specs.Said.{Told}
 use Rattle.bt_wire.specs.declared.item.Item.{Item}
 use Rattle.bt_talk.proofs.Items.{no_items, opening_items}
-use Rattle.bt_talk.proofs.Shown.{all_items, appends_none, appends_same, no_events}
-use Rattle.bt_talk.proofs.Talks.{sender_same}
+use Rattle.bt_talk.proofs.Shown.{appends_none, appends_same, no_events}
 use Rattle.bt_talk.specs.declared.closing.When.{When}
 use Rattle.bt_talk.specs.declared.direction.Direction.{Direction}
 use Rattle.bt_talk.specs.declared.rows.Heading.{Heading}
@@ -19,16 +16,17 @@ use Rattle.bt_talk.specs.declared.talk.Talk.{Talk}
 use Rattle.bt_talk.specs.declared.watch.Watch.{Watch}
 use Rattle.bt_talk.specs.Pasts.{Past, no_past}
 use Rattle.bt_talk.specs.Replays.{HasOpened}
-use Rattle.bt_talk.specs.Rows.{Shown, is_item}
-use Rattle.bt_talk.specs.Shown.{AreItemRows, AreTurnRows, Turn, items_by, told_by}
+use Rattle.bt_talk.specs.Rows.{Shown}
+use Rattle.bt_talk.specs.Shown.{AreTurnRows, Turn, items_by, told_by}
 use Rattle.bt_talk.specs.Shows.{Appends}
 use Rattle.bt_talk.specs.Stages.{AreItemsIn}
-use Rattle.bt_talk.specs.Talks.{AreItemsOf, HasHeard, HasSettled, IsTalk, Shows, ShowsSaid, Takes, TakesAll}
+use Rattle.bt_talk.specs.Talks.{AreItemsOf, HasHeard, HasSettled, IsTalk, ShowsTurn, Takes, TakesAll, turn_by}
 use Rattle.bt_talk.specs.Talks.{AreOpened, direction_of, is_in_opening, marks_of, of_side, watch_of}
 use Rattle.bt_talk.specs.declared.replay.Mark.{Mark}
-use Rattle.bt_talk.specs.Watching.{AreNoted, IsWatched, messages_of, notes_of, told_of}
+use Rattle.bt_talk.specs.Watching.{AreNoted, IsWatched, messages_of, notes_of}
 use Rattle.bt_remarks.specs.Matched.{IsMatched}
-use Rattle.bt_capture.specs.Connections.{HasTurned, turn_of}
+use Rattle.bt_capture.specs.Connections.{HasTurned}
+use Rattle.bt_capture.proofs.Silent.{both_sides}
 
 -- ---- what was heard
 
@@ -38,10 +36,6 @@ watched_by events events' items items' w e f i = record {
   matched = subst (λ l. IsMatched l w.matcher) e i.matched;
   notes = λ s. subst (λ xs. AreNoted s events' xs (notes_of s w)) (f s) (subst (λ l. AreNoted s l (items s) (notes_of s w)) e (i.notes s));
 }
-
-both_sides : (P : Side → Type 0) → P A → P B → (s : Side) → P s
-both_sides P i j A = i
-both_sides P i j B = j
 
 -- in the opening
 nothing_heard : (a b : Past) (t : Talk) → IsTalk a b t → is_in_opening t ≡ true → HasHeard [] a b t
@@ -84,25 +78,25 @@ with_turns turns a b t h i = record {
 none_before : (h : Heading) (turns : List Turn) (rows : List Shown) → turns ≡ [] → AreTurnRows h turns rows → rows ≡ []
 none_before h turns rows e i = subst (λ l. AreTurnRows h l rows) e i
 
--- Rows of no item, and then others.
+-- There were no rows before.
 first_rows : (h : Heading) (turns now : List Turn) (before more : List Shown) → turns ≡ [] → AreTurnRows h turns before → AreTurnRows h now more
     → AreTurnRows h now (before ++ more)
 first_rows h turns now before more e i j = subst (λ l. AreTurnRows h now (l ++ more)) (sym (none_before h turns before e i)) j
 
--- The rows of this packet are told after those of the turns before, and they are appended. Those of items have its number, or there were none before.
-abbrev pub ShowsTurns : ℕ → Rows → Rows → List Turn → List Turn → Type 0
-ShowsTurns packet r r' turns now = (before : List Shown) → AreTurnRows r.heading turns before
-    → (rows : List Shown) × Appends rows r r' × AreTurnRows r.heading now (before ++ filter is_item rows)
-    × ((All (λ s. s.packet ≡ packet) (filter is_item rows)) ⊎ (before ≡ []))
+-- Rows are appended: after those of the turns before these are those of the turns now.
+abbrev pub ShowsTurns : Rows → Rows → List Turn → List Turn → Type 0
+ShowsTurns r r' turns now = (before : List Shown) → AreTurnRows r.heading turns before
+    → (rows : List Shown) × Appends rows r r' × AreTurnRows r.heading now (before ++ rows)
 
 abbrev pub GoesOn : {s : Segment} {when : When} {a b : Past} {t t' : Talk} → Takes s when a b t t' → Rows → Rows → List Turn → Type 0
 GoesOn {s} {when} {a} {b} {t} {t'} took r r' turns =
-    (now : List Turn) × HasTurned s when a b t t' took turns now × ShowsTurns when.packet r r' turns now
+    (now : List Turn) × HasTurned s when a b t t' took turns now × ShowsTurns r r' turns now
 
 in_opening : (s : Segment) (when : When) (a b : Past) (t t' : Talk) (r r' : Rows) (turns : List Turn) (took : Takes s when a b t t')
     → HasHeard turns a b t → is_in_opening t ≡ true → HasSettled s when a b t t' took r r' → GoesOn took r r' turns
 in_opening s when a b t t' r r' turns took h o settled =
-    let after : (e : is_in_opening t ≡ false) → (now : List Turn) → (p : is_in_opening t ≡ false) × (now ≡ turn_of when (took.said p) ∷ turns) =
+    let after : (e : is_in_opening t ≡ false) → (now : List Turn)
+    → (p : is_in_opening t ≡ false) × (now ≡ turn_by when (took.said p) (took.did p) ∷ turns) =
     λ e now. absurd (let f : true ≡ false = sym o ∙ e in cc) in
     let empty = h.quiet o in
     elim (cases_Bool (is_in_opening t')) [
@@ -113,7 +107,7 @@ in_opening s when a b t t' r r' turns took h o settled =
           opened = λ _ e. absurd (let f : true ≡ false = sym q ∙ e in cc);
           after = λ e. after e [];
         },
-        λ before i. ([], settled.quiet q, first_rows r.heading turns [] before [] empty i refl, inr (none_before r.heading turns before empty i)),
+        λ before i. ([], settled.quiet q, first_rows r.heading turns [] before [] empty i refl),
       )
       | inr q ↦
           let op = settled.opened q in (
@@ -123,38 +117,17 @@ in_opening s when a b t t' r r' turns took h o settled =
               opened = λ _ _. op.opened_by;
               after = λ e. after e op.turns;
             },
-            λ before i. (
-              op.rows,
-              op.appends,
-              first_rows r.heading turns op.turns before (filter is_item op.rows) empty i op.shown,
-              inr (none_before r.heading turns before empty i),
-            ),
+            λ before i. (op.rows, op.appends, first_rows r.heading turns op.turns before op.rows empty i op.shown),
           )
     ]
 
-all_of_packet : (h : Heading) (when : When) (side : Side) (known : Bool) (xs : List (ℕ × Item)) (events : List Told) (rows : List Shown)
-    → AreItemRows h when side known xs events rows → All (λ s. s.packet ≡ when.packet) rows
-all_of_packet h when side known [] events rows i = subst (λ l. All (λ s. s.packet ≡ when.packet) l) (sym i) (All-nil (λ s. s.packet ≡ when.packet))
-all_of_packet h when side known (x ∷ xs) events [] i = absurd i
-all_of_packet h when side known (x ∷ xs) events (r ∷ rs) i =
-    All-cons (λ s. s.packet ≡ when.packet) r rs (ap (λ (s : Shown). s.packet) i.0.is)
-    (all_of_packet h when side known xs (told_of side known x ∷ events) rs i.1)
-
 after_opening : (s : Segment) (when : When) (a b : Past) (t t' : Talk) (r r' : Rows) (turns : List Turn) (took : Takes s when a b t t')
-    → HasHeard turns a b t → (o : is_in_opening t ≡ false) → (shows : Shows s when t t' r r')
-    → ShowsSaid s when took.side a b took.a' took.b' t t' r r' (took.said o) shows → GoesOn took r r' turns
-after_opening s when a b t t' r r' turns took h o shows says =
+    → HasHeard turns a b t → (o : is_in_opening t ≡ false) → ShowsTurn (turn_by when (took.said o) (took.did o)) t r r' → GoesOn took r r' turns
+after_opening s when a b t t' r r' turns took h o shows =
     let said = took.said o in
-    let turn : Turn = turn_of when said in
+    let turn : Turn = turn_by when said (took.did o) in
     let events = told_by turns in
-    let w = shows.follow events (λ k. items_by k turns) h.watched in
-    let mine : AreItemRows r.heading when turn.side turn.known turn.items events w.0 =
-    subst (λ x. AreItemRows r.heading when x turn.known turn.items events w.0) (sender_same s t shows.side took.side shows.is_side took.is_side)
-    (subst (λ x. AreItemRows r.heading when shows.side x turn.items events w.0) says.known
-    (subst (λ x. AreItemRows r.heading when shows.side shows.known x events w.0) says.items w.1.shown)) in
-    let items : filter is_item (w.0 ++ shows.others) ≡ w.0 =
-    filter-append is_item w.0 shows.others ∙ ap (λ l. filter is_item w.0 ++ l) shows.no_item ∙ append-nil (filter is_item w.0)
-    ∙ all_items r.heading when turn.side turn.known turn.items events w.0 mine in (
+    let w = shows.shown events (λ k. items_by k turns) h.watched in (
       turn ∷ turns,
       record {
         heard = record {
@@ -165,13 +138,7 @@ after_opening s when a b t t' r r' turns took h o shows says =
         opened = λ e _. absurd (let f : false ≡ true = sym o ∙ e in cc);
         after = λ _. (o, refl);
       },
-      λ before i. (
-        w.0 ++ shows.others,
-        w.2,
-        (before, w.0, ap (λ l. before ++ l) items, i, mine),
-        inl (subst (λ l. All (λ s. s.packet ≡ when.packet) l) (sym items)
-            (all_of_packet r.heading when turn.side turn.known turn.items events w.0 mine)),
-      ),
+      λ before i. (w.0, w.2, (before, w.0, refl, i, w.1)),
     )
 
 -- The turns and the rows of a segment.
@@ -180,7 +147,7 @@ pub goes_on : (s : Segment) (when : When) (a b : Past) (t t' : Talk) (r r' : Row
 goes_on s when a b t t' r r' wanted sent turns all h =
     elim (cases_Bool (is_in_opening t)) [
       | inl o ↦ in_opening s when a b t t' r r' turns all.took h o (all.settled o)
-      | inr o ↦ after_opening s when a b t t' r r' turns all.took h o (all.shows o) (all.says o)
+      | inr o ↦ after_opening s when a b t t' r r' turns all.took h o (all.shows o)
     ]
 
 -- ---- the end
@@ -199,7 +166,7 @@ pub ends_on : (a b : Past) (t t' : Talk) (r r' : Rows) (turns : List Turn) → i
     → (is_in_opening t ≡ false → watch_of t' ≡ watch_of t) → (is_in_opening t ≡ false → (side : Side) → direction_of side t' ≡ direction_of side t)
     → HasHeard turns a b t → (now : List Turn) × HasHeard now a b t' × (is_in_opening t ≡ true → AreOpened (marks_of t) a b t' now)
     × (is_in_opening t ≡ false → now ≡ turns)
-    × ((packet : ℕ) → ShowsTurns packet r r' turns now)
+    × ShowsTurns r r' turns now
 ends_on a b t t' r r' turns over opened rows watch directions h =
     elim (cases_Bool (is_in_opening t)) [
       | inl o ↦
@@ -208,23 +175,17 @@ ends_on a b t t' r r' turns over opened rows watch directions h =
             opened_heard (marks_of t) a b t' r r' over op,
             λ _. op.opened_by,
             λ e. absurd (let f : true ≡ false = sym o ∙ e in cc),
-            λ packet before i. (
-              op.rows,
-              op.appends,
-              first_rows r.heading turns op.turns before (filter is_item op.rows) (h.quiet o) i op.shown,
-              inr (none_before r.heading turns before (h.quiet o) i),
-            ),
+            λ before i. (op.rows, op.appends, first_rows r.heading turns op.turns before op.rows (h.quiet o) i op.shown),
           )
       | inr o ↦ (
         turns,
         still_heard a b t t' turns over (directions o) (watch o) h,
         λ e. absurd (let f : false ≡ true = sym o ∙ e in cc),
         λ _. refl,
-        λ packet before i. (
+        λ before i. (
           [],
           appends_same [] r r r r' refl (rows o) (appends_none r),
           subst (λ l. AreTurnRows r.heading turns l) (sym (append-nil before)) i,
-          inl (All-nil (λ s. s.packet ≡ packet)),
         ),
       )
     ]

@@ -62,6 +62,10 @@ pub record Clock : Type 0 where
 abbrev pub clock_of : List Captured → Clock
 clock_of packets = record { packets = clock_after 0 packets; number = min (length packets) (2 ^ 64 - 1) }
 
+-- once the packet that is taken is one of those that came
+abbrev pub with_packet : When → Clock → Clock
+with_packet when clock = record { packets = clock.packets ++ when ∷ []; number = clock.number }
+
 -- This packet comes before the one with this number. Numbers don't grow past 2 ^ 64 - 1.
 abbrev pub IsEarlier : When → ℕ → Type 0
 IsEarlier at number = min (at.packet + 1) (2 ^ 64 - 1) ≤ number

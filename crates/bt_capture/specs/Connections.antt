@@ -1,6 +1,6 @@
 -- A connection of a capture, by the segments that it took.
 use Rattle.bt_talk.specs.declared.terms.Terms.{Terms}
-use Rattle.std.specs.Prelude.{◌≡◌, ◌⊎◌, Bool, true, false, List, [], ◌∷◌, ◌++◌}
+use Rattle.std.specs.Prelude.{◌≡◌, ◌⊎◌, Bool, true, false, List, [], ◌∷◌, ◌++◌, None}
 use Rattle.std.specs.List.{list_any}
 use Rattle.bt_flow.specs.Flows.{high_in}
 use Rattle.bt_packet.specs.Tcp.{segment}
@@ -11,8 +11,8 @@ use Rattle.bt_talk.specs.Pasts.{Past, no_past}
 use Rattle.bt_talk.specs.Ends.{ends_by}
 use Rattle.bt_talk.specs.Closing.{is_quiet, opens_by, still_open}
 use Rattle.bt_talk.specs.Shown.{Turn}
-use Rattle.bt_talk.specs.Talks.{HasHeard, IsSender, IsTalk, Says, Takes, ends_of, flow_of, of_side, terms_of, closing_of, is_in_opening, is_lost, segments_of}
-use Rattle.bt_talk.specs.Talks.{AreOpened, has_closed, marks_of, watch_of}
+use Rattle.bt_talk.specs.Talks.{HasHeard, IsSender, IsTalk, Takes, ends_of, flow_of, of_side, terms_of, closing_of, is_in_opening, is_lost, segments_of}
+use Rattle.bt_talk.specs.Talks.{AreOpened, began_with, grown_with, has_closed, marks_of, turn_by, watch_of}
 use Rattle.bt_talk.specs.Watching.{IsWatched}
 use Rattle.bt_talk.specs.declared.closing.When.{When}
 use Rattle.bt_talk.specs.declared.talk.Talk.{Talk}
@@ -45,16 +45,12 @@ MayTake false x a b t = Begins false x a b t
 
 -- ---- the segments that it took
 
--- The turn of a segment after the opening: the items that it completes are its sender's.
-abbrev pub turn_of : {s : Segment} {side : Side} {a b a' b' : Past} {t t' : Talk} → When → Says s side a b a' b' t t' → Turn
-turn_of {s} {side} when says = record { side = side; known = says.known; when = when; items = says.items }
-
 -- With a segment that the connection took come these turns, the newest first. In the opening there are none; at its end come those of its marks, and
 -- after it each segment has one.
 pub record HasTurned (s : Segment) (when : When) (a b : Past) (t t' : Talk) (took : Takes s when a b t t') (turns turns' : List Turn) : Type 0 where
   pub heard : HasHeard turns' took.a' took.b' t'
   pub opened : is_in_opening t ≡ true → is_in_opening t' ≡ false → AreOpened (marks_of t ++ took.marks) took.a' took.b' t' turns'
-  pub after : is_in_opening t ≡ false → (o : is_in_opening t ≡ false) × (turns' ≡ turn_of when (took.said o) ∷ turns)
+  pub after : is_in_opening t ≡ false → (o : is_in_opening t ≡ false) × (turns' ≡ turn_by when (took.said o) (took.did o) ∷ turns)
 
 -- The connection took these segments, one after another.
 abbrev pub HasTaken : Bool → List Arrival → Past → Past → Talk → List Turn → Past → Past → Talk → List Turn → Type 0
@@ -78,6 +74,8 @@ pub record IsMadeOf (terms : Terms) (first : Segment) (taken : List Arrival) (a 
   pub unmarked : marks_of begin ≡ []
   pub unshut : (side : Side) → has_closed side begin ≡ false
   pub watched : IsWatched [] (λ _. []) (watch_of begin)
+  pub unbegun : began_with begin ≡ None
+  pub ungrown : (side : Side) → grown_with side begin ≡ None
   pub heard : HasHeard turns a b t
 
 -- The segment is the first of these.

@@ -1,7 +1,7 @@
 -- The connections of a capture: those that are over, and those that aren't.
 use Rattle.bt_talk.specs.declared.terms.Terms.{Terms}
 use Rattle.std.specs.Prelude.{◌≡◌, ◌⊎◌, ◌==◌, ℕ, ◌+◌, ◌-◌, ◌^◌, ◌<◌, ◌≤◌, min, map, nat_lt, Bool, true, false, if◌then◌else◌, List, [], ◌∷◌, ◌++◌, length}
-use Rattle.std.specs.Prelude.{Option, Some, None, unwrap_or, Result, Ok, Err}
+use Rattle.std.specs.Prelude.{Option, Some, None, is_some, not, unwrap_or, Result, Ok, Err}
 use Rattle.std.specs.List.{All, Contains, count_by, filter, flat_map, list_any, slice_get}
 use Rattle.std.specs.List.Sorted.{IsNonDecreasing}
 use Rattle.std.specs.Map.{lookup}
@@ -12,8 +12,11 @@ use Rattle.bt_remarks.specs.declared.events.Side.{Side}
 use Rattle.bt_talk.specs.Sent.{IsSent}
 use Rattle.bt_talk.specs.Closing.{is_quiet}
 use Rattle.bt_talk.specs.Shown.{AreTurnRows, Turn}
-use Rattle.bt_talk.specs.Talks.{AreOpened, HasHeard, IsTalk, closing_of, cut_of, ends_of, flow_of, marks_of, terms_of, is_in_opening, is_lost, of_side}
+use Rattle.bt_talk.specs.Inside.{AreEndRows}
+use Rattle.bt_talk.specs.Talks.{AreOpened, HasHeard, IsTalk, closing_of, cut_of, ends_of, flow_of, marks_of, terms_of, is_in_opening, of_side}
+use Rattle.bt_talk.specs.Talks.{began_with, grown_with}
 use Rattle.bt_talk.specs.declared.closing.When.{When}
+use Rattle.bt_talk.specs.declared.rows.Heading.{Heading}
 use Rattle.bt_talk.specs.declared.talk.Talk.{Talk}
 use Rattle.bt_told.specs.declared.report.Left.{Left}
 use Rattle.bt_told.specs.declared.report.Left.TheVariants.{Open, Unread, Replaced}
@@ -22,11 +25,11 @@ use Rattle.bt_capture.specs.Arrivals.{Arrival, Clock, IsEarlier, is_between, has
 use Rattle.bt_capture.specs.Connections.{Begins, IsFirst, IsMadeOf, IsOpen}
 use Rattle.bt_capture.specs.Forms.{absent_from, wanted_by}
 use Rattle.bt_capture.specs.Reportings.{IsReportOf}
-use Rattle.bt_capture.specs.Sending.{IsSending}
-use Rattle.bt_capture.specs.Rowed.{AreOf, IsShowing, heading_of}
+use Rattle.bt_capture.specs.Sending.{IsSending, WasSent}
+use Rattle.bt_capture.specs.Rowed.{AreRowsAfter, AreRowsSoFar, AreToldInTime, IsShowing, heading_of}
 use Rattle.bt_capture.specs.Tables.{Held, IsApart, same_pair}
-use Rattle.bt_talk.specs.Rows.{Shown, is_item}
-use Rattle.bt_capture.specs.Tellings.{ArePartsOf, OfBytes, OfReport, OfRows, Part, Tells, item_rows}
+use Rattle.bt_talk.specs.Rows.{Shown}
+use Rattle.bt_capture.specs.Tellings.{ArePartsOf, OfReport, OfRows, Part, Tells, rows_of}
 use Rattle.bt_capture.specs.declared.connection.Connection.{Connection}
 use Rattle.bt_capture.specs.declared.connections.Losses.{Losses}
 use Rattle.bt_capture.specs.declared.connections.Run.{Run}
@@ -41,12 +44,12 @@ pub data Fate : Type 0 where
   Silent : Fate
   Lost : Fate
 
--- Why it is over: no segment between its ends follows; it had ended, by a RST or both FINs, which was four seconds ago at this packet; there were too
--- many at once; memory ran out; or this segment between its ends, which follows, begins another.
+-- Why it is over: no segment between its ends follows; it had ended, by a RST or both FINs, which was four seconds ago at this packet; at this packet
+-- there were too many at once, and it had ended by then or it hadn't; memory ran out; or this segment between its ends, which follows, begins another.
 pub data Cause : Type 0 where
   Final : Cause
   Ended : When → Cause
-  Crowded : Cause
+  Crowded : (ended : Bool) → When → Cause
   Unknown : Cause
   Before : Arrival → Cause
 
@@ -66,6 +69,8 @@ pub record IsEnded (a b : Past) (t t' : Talk) (turns turns' : List Turn) : Type 
   pub terms : terms_of t' ≡ terms_of t
   pub closing : closing_of t' ≡ closing_of t
   pub cuts : (side : Side) → cut_of side t' ≡ cut_of side t
+  pub began : began_with t' ≡ began_with t
+  pub grown : (side : Side) → grown_with side t' ≡ grown_with side t
   pub over : is_in_opening t' ≡ false
   pub heard : HasHeard turns' a b t'
   pub opened : is_in_opening t ≡ true → AreOpened (marks_of t) a b t' turns'
@@ -89,7 +94,8 @@ pub record IsReported (terms : Terms) (from number : ℕ) (taken : List Arrival)
 abbrev pub left_by : Cause → Left
 left_by Final = Open
 left_by (Ended at) = Open
-left_by Crowded = Unread
+left_by (Crowded true at) = Open
+left_by (Crowded false at) = Unread
 left_by Unknown = Open
 left_by (Before x) = Replaced
 
@@ -103,7 +109,7 @@ IsFate terms from number taken cause Lost = Unit {0}
 abbrev pub IsWhy : Cause → Past → Past → Talk → Type 0
 IsWhy Final a b t = Unit {0}
 IsWhy (Ended at) a b t = is_quiet (closing_of t).over at.nanos ≡ true
-IsWhy Crowded a b t = Unit {0}
+IsWhy (Crowded ended at) a b t = is_some (closing_of t).over ≡ ended
 IsWhy Unknown a b t = ⊥
 IsWhy (Before x) a b t = Begins true x a b t
 
@@ -144,16 +150,17 @@ is_lost_by Lost = true
 abbrev pub count_lost : List Finished → ℕ
 count_lost fs = min (length (filter (λ f. is_lost_by f.fate) fs)) (2 ^ 64 - 1)
 
-abbrev pub is_crowded : Cause → Bool
-is_crowded Final = false
-is_crowded (Ended at) = false
-is_crowded Crowded = true
-is_crowded Unknown = false
-is_crowded (Before x) = false
+-- There were too many at once, and it hadn't ended.
+abbrev pub is_unread : Cause → Bool
+is_unread Final = false
+is_unread (Ended at) = false
+is_unread (Crowded ended at) = not ended
+is_unread Unknown = false
+is_unread (Before x) = false
 
--- how many are over since there were too many at once, at most 2 ^ 64 - 1
+-- how many are over since there were too many at once, though they hadn't ended, at most 2 ^ 64 - 1
 abbrev pub count_unread : List Finished → ℕ
-count_unread fs = min (length (filter (λ f. is_crowded f.cause) fs)) (2 ^ 64 - 1)
+count_unread fs = min (length (filter (λ f. is_unread f.cause) fs)) (2 ^ 64 - 1)
 
 -- how many weren't read to their end
 abbrev pub losses_of : List Finished → Losses
@@ -198,7 +205,7 @@ pub record AreInOrder (place : ℕ → ℕ) (arrivals : List Arrival) (begun : �
 abbrev pub is_final : Cause → Bool
 is_final Final = true
 is_final (Ended at) = false
-is_final Crowded = false
+is_final (Crowded ended at) = false
 is_final Unknown = false
 is_final (Before x) = false
 
@@ -216,11 +223,12 @@ pub record AreLast (fs : List Finished) (left : List ℕ) : Type 0 where
 -- ---- the stream that is told
 
 -- These are all bytes of the side's stream, from its handshake on, or from its first byte if none started in the opening: the stream of which
--- the report tells. There are none of a connection without a captured byte. Nothing is said of one with which memory ran out.
+-- the report tells. There are none of a connection without a captured byte. Of one with which memory ran out they are those that were handed out
+-- after a first part of its segments.
 abbrev pub IsStreamBy : Side → List ℕ → Terms → (from number : ℕ) → List Arrival → Fate → Type 0
 IsStreamBy side bytes terms from number taken (Reported r) = (i : IsReported terms from number taken r) × IsSent false (of_side side i.a i.b) bytes
 IsStreamBy side bytes terms from number taken Silent = bytes ≡ []
-IsStreamBy side bytes terms from number taken Lost = Unit {0}
+IsStreamBy side bytes terms from number taken Lost = WasSent false side bytes terms taken []
 
 abbrev pub IsStreamOf : Side → List ℕ → Terms → ℕ → Finished → Type 0
 IsStreamOf side bytes terms from f = IsStreamBy side bytes terms from f.number f.taken f.fate
@@ -270,7 +278,7 @@ pub record IsShare (form : Form) (told : List ℕ) (terms : Terms) (arrivals : L
 abbrev pub IsParted : Cause → List Arrival → Type 0
 IsParted Final more = more ≡ []
 IsParted (Ended at) more = All (λ x. IsEarlier at x.when.packet) more
-IsParted Crowded more = Unit {0}
+IsParted (Crowded ended at) more = All (λ x. IsEarlier at x.when.packet) more
 IsParted Unknown more = Unit {0}
 IsParted (Before x) [] = ⊥
 IsParted (Before x) (y ∷ more) = y ≡ x
@@ -308,11 +316,11 @@ pub record IsPart (ph : Phase) (arrivals : List Arrival) (fs : List Finished) (k
 abbrev pub AreParts : Phase → List Arrival → List Finished → Type 0
 AreParts ph arrivals fs = (k : Pair) → IsPart ph arrivals fs k
 
--- A connection that had ended is over at one of these packets, and none of these segments came after that packet.
+-- A connection that had ended, or was given up, is over at one of these packets, and none of these segments came after that packet.
 abbrev pub IsTimelyBy : Clock → List Arrival → Cause → Type 0
 IsTimelyBy clock taken Final = Unit {0}
 IsTimelyBy clock taken (Ended at) = Contains clock.packets at × All (λ x. x.when.packet ≤ at.packet) taken
-IsTimelyBy clock taken Crowded = Unit {0}
+IsTimelyBy clock taken (Crowded ended at) = Contains clock.packets at × All (λ x. x.when.packet ≤ at.packet) taken
 IsTimelyBy clock taken Unknown = Unit {0}
 IsTimelyBy clock taken (Before x) = Unit {0}
 
@@ -344,96 +352,110 @@ pub record AreBegunTo (arrivals : List Arrival) (fs : List Finished) (x : Arriva
   pub left : (k : Pair) (c : Held) (rest : List Arrival) → same_pair k p ≡ false → lookup (same_pair k) es ≡ Some c → IsShared k arrivals fs rest
       → IsBegunAt place arrivals begun c.value.number rest
 
--- ---- the rows of items
+-- ---- the rows
 
--- No row of an item of the connection with this number comes after this report.
-pub record IsAfterRows (number : ℕ) (r : Report) (parts : List Part) : Type 0 where
+-- The connection took these segments, and this is its report. Its rows that weren't told before are told right before the report, with the same packet,
+-- and none comes after it.
+pub record IsAfterRows (h : Heading) (terms : Terms) (packet : ℕ → ℕ) (parts : List Part) (taken : List Arrival) (r : Report) : Type 0 where
   pub before : List Part
+  pub rows : List Shown
   pub after : List Part
-  pub is : parts ≡ before ++ OfReport r ∷ after
-  pub none : item_rows number after ≡ []
+  pub is : parts ≡ before ++ OfRows rows ∷ OfReport r ∷ after
+  pub told_with : packet (length before) ≡ packet (length before + 1)
+  pub had : AreRowsAfter h terms taken [] (rows_of h.connection before)
+  pub none : rows_of h.connection after ≡ []
 
-abbrev pub AreRowsBy : Form → List Part → Terms → (from number : ℕ) → List Arrival → Fate → Type 0
-AreRowsBy form parts terms from number taken (Reported r) =
-    (i : IsReported terms from number taken r) × AreTurnRows (heading_of form number from) i.turns (item_rows number parts)
-    × IsAfterRows number r parts
-AreRowsBy form parts terms from number taken Silent = item_rows number parts ≡ []
-AreRowsBy form parts terms from number taken Lost = Unit {0}
+-- These are the rows of a connection that is over: those of its turns, in order, and then those of its end.
+pub record AreAllRows (h : Heading) (turns : List Turn) (a b : Past) (t : Talk) (rows : List Shown) : Type 0 where
+  pub shown : List Shown
+  pub last : List Shown
+  pub is : rows ≡ shown ++ last
+  pub are_shown : AreTurnRows h turns shown
+  pub are_last : AreEndRows h a b t last
 
--- The rows of this connection among the parts show the items of its turns, those of both sides in the order in which they came, all of them before
--- the report. Nothing is said of a connection with which memory ran out.
-abbrev pub AreRowsOf : Form → List Part → Terms → ℕ → Finished → Type 0
-AreRowsOf form parts terms from f = f.number < 2 ^ 64 - 1 → AreRowsBy form parts terms from f.number f.taken f.fate
+abbrev pub AreRowsBy : Form → (ℕ → ℕ) → List Part → Terms → (from number : ℕ) → List Arrival → Fate → Type 0
+AreRowsBy form packet parts terms from number taken (Reported r) =
+    let h = heading_of form number from in
+    (i : IsReported terms from number taken r) × AreAllRows h i.turns i.a i.b i.talk (rows_of number parts) × IsAfterRows h terms packet parts taken r
+    × AreToldInTime h terms packet parts taken
+AreRowsBy form packet parts terms from number taken Silent = rows_of number parts ≡ []
+AreRowsBy form packet parts terms from number taken Lost =
+    (ran_out : Bool) × AreRowsSoFar (heading_of form number from) terms packet parts taken [] ran_out
 
--- These parts are told. Their rows show the items of the connections that are over, and of none that hasn't begun.
-pub record AreRowed (form : Form) (parts : List Part) (text : List ℕ) (terms : Terms) (from begun : ℕ) (fs : List Finished) : Type 0 where
+-- The rows of this connection among the parts are those of its turns, of both sides in the order in which they came, and those of its end. Those that
+-- come with a segment are told with its packet, and the others with the report. If memory ran out with it, they are those of the segments before.
+abbrev pub AreRowsOf : Form → (ℕ → ℕ) → List Part → Terms → ℕ → Finished → Type 0
+AreRowsOf form packet parts terms from f = f.number < 2 ^ 64 - 1 → AreRowsBy form packet parts terms from f.number f.taken f.fate
+
+-- These parts are told. Their rows are those of the connections that are over, and there is none of one that hasn't begun.
+pub record AreRowed (form : Form) (packet : ℕ → ℕ) (parts : List Part) (text : List ℕ) (terms : Terms) (from begun : ℕ) (fs : List Finished) : Type 0 where
   pub parts_are : ArePartsOf form (reports_of fs) text parts
-  pub over : All (AreRowsOf form parts terms from) fs
-  pub none : (n : ℕ) → begun ≤ n → n < 2 ^ 64 - 1 → item_rows n parts ≡ []
+  pub over : All (AreRowsOf form packet parts terms from) fs
+  pub none : (n : ℕ) → begun ≤ n → n < 2 ^ 64 - 1 → rows_of n parts ≡ []
 
--- The connection that isn't over took these segments, and the rows show its items; or there is none.
-abbrev pub IsLeftShown : Form → List Part → Terms → (from : ℕ) → List Arrival → Option Held → Type 0
-IsLeftShown form parts terms from taken (Some c) = IsShowing form parts terms from taken [] c.value
-IsLeftShown form parts terms from taken None = Unit {0}
+-- The connection that isn't over took these segments, and the rows are those of its turns; or there is none.
+abbrev pub IsLeftShown : Form → (ℕ → ℕ) → List Part → Terms → (from : ℕ) → List Arrival → Option Held → Type 0
+IsLeftShown form packet parts terms from taken (Some c) = IsShowing form packet parts terms from taken [] c.value
+IsLeftShown form packet parts terms from taken None = Unit {0}
 
--- The rows of the connection between two ends that isn't over, if there is one, show the items of the segments that it took.
-pub record IsRowShare (form : Form) (parts : List Part) (terms : Terms) (from : ℕ) (arrivals : List Arrival) (fs : List Finished) (k : Pair)
-    (left : Option Held) : Type 0 where
+-- The connection with this number isn't over: it took the rest of the segments between its ends, and these are its rows so far.
+pub record IsGoing (form : Form) (packet : ℕ → ℕ) (parts : List Part) (terms : Terms) (from : ℕ) (arrivals : List Arrival) (fs : List Finished) (n : ℕ)
+    : Type 0 where
+  pub pair : Pair
+  pub taken : List Arrival
+  pub share : IsShared pair arrivals fs taken
+  pub ran_out : Bool
+  pub rows : AreRowsSoFar (heading_of form n from) terms packet parts taken [] ran_out
+
+-- The rows of the connection between two ends that isn't over, if there is one, are those of the segments that it took.
+pub record IsRowShare (form : Form) (packet : ℕ → ℕ) (parts : List Part) (terms : Terms) (from : ℕ) (arrivals : List Arrival) (fs : List Finished)
+    (k : Pair) (left : Option Held) : Type 0 where
   pub taken : List Arrival
   pub share : IsShared k arrivals fs taken
-  pub is : IsLeftShown form parts terms from taken left
+  pub is : IsLeftShown form packet parts terms from taken left
 
--- The rows among these parts show the items of all connections, of which these aren't over.
-pub record IsRowing (form : Form) (parts : List Part) (text : List ℕ) (terms : Terms) (from begun : ℕ) (arrivals : List Arrival) (fs : List Finished)
-    (es : List (Pair × Held)) : Type 0 where
-  pub rowed : AreRowed form parts text terms from begun fs
-  pub shares : (k : Pair) → IsRowShare form parts terms from arrivals fs k (lookup (same_pair k) es)
+-- The rows among these parts are those of all connections, of which these aren't over.
+pub record IsRowing (form : Form) (packet : ℕ → ℕ) (parts : List Part) (text : List ℕ) (terms : Terms) (from begun : ℕ) (arrivals : List Arrival)
+    (fs : List Finished) (es : List (Pair × Held)) : Type 0 where
+  pub rowed : AreRowed form packet parts text terms from begun fs
+  pub shares : (k : Pair) → IsRowShare form packet parts terms from arrivals fs k (lookup (same_pair k) es)
 
 -- The connection between the ends p takes the segment x next, and isn't among the others.
-pub record IsRowingTo (form : Form) (parts : List Part) (text : List ℕ) (terms : Terms) (from begun : ℕ) (arrivals : List Arrival) (fs : List Finished)
-    (x : Arrival) (p : Pair) (taken : List Arrival) (c : Connection) (es : List (Pair × Held)) : Type 0 where
-  pub rowed : AreRowed form parts text terms from begun fs
-  pub own : IsShowing form parts terms from taken (x ∷ []) c
-  pub others : (k : Pair) → same_pair k p ≡ false → IsRowShare form parts terms from arrivals fs k (lookup (same_pair k) es)
+pub record IsRowingTo (form : Form) (packet : ℕ → ℕ) (parts : List Part) (text : List ℕ) (terms : Terms) (from begun : ℕ) (arrivals : List Arrival)
+    (fs : List Finished) (x : Arrival) (p : Pair) (taken : List Arrival) (c : Connection) (es : List (Pair × Held)) : Type 0 where
+  pub rowed : AreRowed form packet parts text terms from begun fs
+  pub own : IsShowing form packet parts terms from taken (x ∷ []) c
+  pub others : (k : Pair) → same_pair k p ≡ false → IsRowShare form packet parts terms from arrivals fs k (lookup (same_pair k) es)
 
 -- ---- when parts are told
-
--- These rows of items are of this packet. Or none came before of their connection, whose opening ended.
-abbrev pub AreOfPacket : ℕ → List Part → List Shown → Type 0
-AreOfPacket packet before items = All (λ s. s.packet ≡ packet) items ⊎ ((n : ℕ) × AreOf n items × (n < 2 ^ 64 - 1 → item_rows n before ≡ []))
-
-abbrev pub IsToldWith : ℕ → List Part → Part → Type 0
-IsToldWith packet before (OfReport r) = Unit {0}
-IsToldWith packet before (OfRows rows) = AreOfPacket packet before (filter is_item rows)
-IsToldWith packet before (OfBytes bytes) = Unit {0}
 
 -- The part at each place was told with the packet of this number, and none before one of an earlier packet. So many packets came.
 pub record AreTimed (packet : ℕ → ℕ) (number : ℕ) (parts : List Part) : Type 0 where
   pub ascending : (m n : ℕ) → m < n → n < length parts → packet m ≤ packet n
   pub within : (n : ℕ) → n < length parts → packet n ≤ number
-  pub told : (before after : List Part) (p : Part) → parts ≡ before ++ p ∷ after → IsToldWith (packet (length before)) before p
 
--- A connection that had ended is told with the packet that shows that it is over, and one that another follows with the first segment of that.
-abbrev pub IsToldAt : Cause → ℕ → Type 0
-IsToldAt Final packet = Unit {0}
-IsToldAt (Ended at) packet = packet ≡ at.packet
-IsToldAt Crowded packet = Unit {0}
-IsToldAt Unknown packet = Unit {0}
-IsToldAt (Before x) packet = packet ≡ x.when.packet
+-- A connection that had ended is told with the packet that shows that it is over, one that is given up with the packet with which there were too many,
+-- one that another follows with the first segment of that, and one that is left at the end with the last packet, which has this number.
+abbrev pub IsToldAt : (number : ℕ) → Cause → ℕ → Type 0
+IsToldAt number Final packet = packet ≡ number
+IsToldAt number (Ended at) packet = packet ≡ at.packet
+IsToldAt number (Crowded ended at) packet = packet ≡ at.packet
+IsToldAt number Unknown packet = Unit {0}
+IsToldAt number (Before x) packet = packet ≡ x.when.packet
 
-abbrev pub IsReportedAt : (ℕ → ℕ) → List Part → Cause → Fate → Type 0
-IsReportedAt packet parts cause (Reported r) =
-    (before : List Part) × (after : List Part) × (parts ≡ before ++ OfReport r ∷ after) × IsToldAt cause (packet (length before))
-IsReportedAt packet parts cause Silent = Unit {0}
-IsReportedAt packet parts cause Lost = Unit {0}
+abbrev pub IsReportedAt : (ℕ → ℕ) → (number : ℕ) → List Part → Cause → Fate → Type 0
+IsReportedAt packet number parts cause (Reported r) =
+    (before : List Part) × (after : List Part) × (parts ≡ before ++ OfReport r ∷ after) × IsToldAt number cause (packet (length before))
+IsReportedAt packet number parts cause Silent = Unit {0}
+IsReportedAt packet number parts cause Lost = Unit {0}
 
-abbrev pub IsReportedWith : (ℕ → ℕ) → List Part → Finished → Type 0
-IsReportedWith packet parts f = IsReportedAt packet parts f.cause f.fate
+abbrev pub IsReportedWith : (ℕ → ℕ) → (number : ℕ) → List Part → Finished → Type 0
+IsReportedWith packet number parts f = IsReportedAt packet number parts f.cause f.fate
 
--- These parts, and the reports on these connections, were told with packets of these numbers.
+-- These parts, and the reports on these connections, were told with packets of these numbers. The last packet that came has this one.
 pub record AreToldWith (packet : ℕ → ℕ) (number : ℕ) (parts : List Part) (fs : List Finished) : Type 0 where
   pub timed : AreTimed packet number parts
-  pub reports : All (IsReportedWith packet parts) fs
+  pub reports : All (IsReportedWith packet number parts) fs
 
 -- The connection between the ends p may be over for this reason. These packets and segments came.
 pub record MayEnd (ph : Phase) (clock : Clock) (came : List Arrival) (cause : Cause) (p : Pair) (c : Connection) : Type 0 where
@@ -441,28 +463,30 @@ pub record MayEnd (ph : Phase) (clock : Clock) (came : List Arrival) (cause : Ca
   pub parted : IsParted cause (coming ph p)
   pub why : (a b : Past) → IsTalk a b c.talk → IsWhy cause a b c.talk
   pub timely : IsTimelyBy clock came cause
-  pub told_at : IsToldAt cause clock.number
+  pub told_at : IsToldAt clock.number cause clock.number
 
 -- ---- what was handed out so far
 
--- A connection with this number isn't over: it took the first of these segments between its ends, and these bytes of its side's stream were handed
--- out, if memory didn't run out with it.
-pub record IsSentSoFar (terms : Terms) (arrivals : List Arrival) (fs : List Finished) (n : ℕ) (side : Side) (bytes : List ℕ) : Type 0 where
+-- The connection with this number, which began at the number's place, isn't over. Of these segments between its ends it took a first part, and its
+-- opening may have been ended then: these bytes of its side's stream had been handed out.
+pub record IsSentSoFar (place : ℕ → ℕ) (begun : ℕ) (terms : Terms) (arrivals : List Arrival) (fs : List Finished) (n : ℕ) (side : Side)
+    (bytes : List ℕ) : Type 0 where
   pub pair : Pair
   pub taken : List Arrival
-  pub more : List Arrival
-  pub share : IsShared pair arrivals fs (taken ++ more)
-  pub connection : Connection
-  pub number : connection.number ≡ n
-  pub opening : Bool
-  pub sent : is_lost connection.talk ≡ false → (first : Segment) × IsFirst first (taken ++ more) × (a : Past) × (b : Past)
-      × IsMadeOf terms first taken a b connection.talk × IsSent opening (of_side side a b) bytes
+  pub share : IsShared pair arrivals fs taken
+  pub began : IsBegunAt place arrivals begun n taken
+  pub ended : Bool
+  pub sent : WasSent ended side bytes terms taken []
 
--- If a stream is told, this is that of a connection that is over, or what was handed out so far of one that isn't; or nothing.
+-- So many connections have begun, each after those of lower numbers. If a stream is told, this is that of a connection that is over, or what was handed
+-- out so far of one that isn't; or nothing.
 pub record IsStreamSoFar (form : Form) (told : List ℕ) (terms : Terms) (from : ℕ) (arrivals : List Arrival) (fs : List Finished) : Type 0 where
   pub over : All (IsSentBy form told terms from) fs
+  pub begun : ℕ
+  pub place : ℕ → ℕ
+  pub order : AreInOrder place arrivals begun fs
   pub left : (n : ℕ) (side : Side) → form.stream ≡ Some (n, side) → n < 2 ^ 64 - 1 → count_over n fs ≡ 0
-      → (told ≡ []) ⊎ IsSentSoFar terms arrivals fs n side told
+      → (told ≡ []) ⊎ IsSentSoFar place begun terms arrivals fs n side told
 
 -- ---- while a capture is read
 
@@ -484,9 +508,9 @@ abbrev pub Shares : List ℕ → List Arrival → List Finished → Run → Pair
 Shares written arrivals fs run k left = IsShare run.teller.form (told_by written run) run.terms arrivals fs k left
 
 -- the rows that are told
-abbrev pub Rows : List Part → List ℕ → List Arrival → List Finished → List (Pair × Held) → Run → Type 0
-Rows parts written arrivals fs es run =
-    IsRowing run.teller.form parts (told_by written run) run.terms (unwrap_or run.start 0) run.begun arrivals fs es
+abbrev pub Rows : (ℕ → ℕ) → List Part → List ℕ → List Arrival → List Finished → List (Pair × Held) → Run → Type 0
+Rows packet parts written arrivals fs es run =
+    IsRowing run.teller.form packet parts (told_by written run) run.terms (unwrap_or run.start 0) run.begun arrivals fs es
 
 -- These packets came, and these segments were taken. These connections, no two of the same ends, aren't over, and the others are told. All of them
 -- have begun.
@@ -500,12 +524,12 @@ pub record FollowsIn (ph : Phase) (start now : TargetSeen) (clock : Clock) (arri
   pub streams : Streams written fs es run
   pub shared : (k : Pair) → Shares written arrivals fs run k (lookup (same_pair k) es)
   pub parts : List Part
-  pub rows : Rows parts written arrivals fs es run
+  pub packet : ℕ → ℕ
+  pub rows : Rows packet parts written arrivals fs es run
   pub parting : AreParts ph arrivals fs
   pub order : AreBegun arrivals fs es run.begun
   pub last : ComeLast ph fs es
   pub timely : All (IsTimely clock) fs
-  pub packet : ℕ → ℕ
   pub times : AreToldWith packet clock.number parts fs
 
 -- As FollowsIn, and the capture is still read.
@@ -545,12 +569,12 @@ pub record Holds (start now : TargetSeen) (clock : Clock) (arrivals : List Arriv
   pub apart : IsApart es
   pub others : (k : Pair) → same_pair k p ≡ false → Shares written arrivals fs run k (lookup (same_pair k) es)
   pub parts : List Part
-  pub rows : IsRowingTo run.teller.form parts (told_by written run) run.terms (unwrap_or run.start 0) run.begun arrivals fs x p taken c.value es
+  pub packet : ℕ → ℕ
+  pub rows : IsRowingTo run.teller.form packet parts (told_by written run) run.terms (unwrap_or run.start 0) run.begun arrivals fs x p taken c.value es
   pub parting : AreParts (Coming p x) arrivals fs
   pub order : AreBegunTo arrivals fs x p c.value.number taken es run.begun
   pub last : AreNotFinal fs
   pub timely : All (IsTimely clock) fs
-  pub packet : ℕ → ℕ
   pub times : AreToldWith packet clock.number parts fs
 
 -- The connection of the next segment x was found or begun; or memory ran out.

@@ -20,7 +20,7 @@ use Rattle.bt_capture.specs.Arrivals.{Arrival, arrivals, clock_of, count_skipped
 use Rattle.bt_capture.specs.Ends.{HasEndedSo}
 use Rattle.bt_capture.specs.Following.{AreInOrder, AreLast, AreParted, AreRowsOf, Finished, IsFinished, IsSentBy, IsShared, IsStreamOf, IsTimely}
 use Rattle.bt_capture.specs.Following.{AreParts, AreToldWith, Phase, During, IsStreamSoFar, AreNumbered, FollowsIn, between, reports_of}
-use Rattle.bt_capture.specs.Following.{count_lost, count_unread}
+use Rattle.bt_capture.specs.Following.{IsGoing, count_lost, count_over, count_unread}
 use Rattle.bt_capture.specs.Readings.{Reading, IsReading}
 use Rattle.bt_capture.specs.Tables.{Held}
 use Rattle.bt_utp.specs.Flows.{flows}
@@ -28,29 +28,29 @@ use Rattle.bt_utp.specs.States.{AreCounted}
 use Rattle.bt_capture.specs.FlowTexts.{datagrams, flow_texts}
 use Rattle.bt_capture.specs.Forms.{absent_from, is_stream}
 use Rattle.bt_packet.specs.declared.utp.Utp.{Utp}
-use Rattle.bt_capture.specs.Tellings.{ArePartsOf, AreTexts, Part, count_torrents, is_one_refused, item_rows}
+use Rattle.bt_capture.specs.Tellings.{ArePartsOf, AreTexts, Part, count_torrents, is_one_refused, rows_of}
 
 -- ---- what a run begins with
 
--- what is known of the connections; how they are told; the bytes that the source has, if these are known; and the target
+-- what is known of the connections; how they are told; and what is seen of the source and of the target
 pub record Origin : Type 0 where
   pub terms : Terms
   pub form : Form
-  pub left : Option (List ℕ)
+  pub source : SourceSeen
   pub target : TargetSeen
 
 abbrev pub origin : CaptureJob → SourceSeen → TargetSeen → Origin
 origin job source target = record {
   terms = job.terms;
   form = record { show = job.show; json = job.json; stream = job.stream };
-  left = source.left;
+  source = source;
   target = target;
 }
 
 -- These packets were read from the source, all of them since the begin. Now it has these bytes left.
 pub record HasRead (o : Origin) (left : Option (List ℕ)) (packets : List Captured) (r : Reading) : Type 0 where
   pub all : List ℕ
-  pub consumed : Consumes o.left left all
+  pub consumed : Consumes o.source.left left all
   pub reading : IsReading all packets r
 
 -- ---- while it is read
@@ -72,16 +72,16 @@ IsTelling o left now es run r = IsTellingIn During o left now es run r
 
 -- ---- at its end
 
--- The connections that are over, each with its segments among those of the packets, in order, except the rest. Each that had ended was told at one
--- of the packets.
+-- The connections that are over, each with its segments among those of the packets, in order, except the rest. Each that had ended or
+-- was given up is over at one of the packets.
 pub record AreOver (o : Origin) (packets : List Captured) (fs : List Finished) : Type 0 where
   pub finished : All (IsFinished o.terms (unwrap_or (first_time packets) 0)) fs
   pub shared : (k : Pair) → (rest : List Arrival) × IsShared k (arrivals packets) fs rest
   pub timely : All (IsTimely (clock_of packets)) fs
 
 -- All connections are over: each segment of the packets was taken by one of them, and each has its number, in the order in which they began. Of
--- those between the same ends each is over for a reason, and those that come after it took the segments that follow. Each that had ended was told
--- at one of the packets.
+-- those between the same ends each is over for a reason, and those that come after it took the segments that follow. Each that had ended or
+-- was given up is over at one of the packets.
 pub record AreAllOver (o : Origin) (packets : List Captured) (fs : List Finished) : Type 0 where
   pub finished : All (IsFinished o.terms (unwrap_or (first_time packets) 0)) fs
   pub numbered : AreNumbered (length fs) fs []
@@ -98,14 +98,14 @@ pub record IsStreamTold (o : Origin) (packets : List Captured) (fs : List Finish
   pub sent : All (IsSentBy o.form text o.terms (unwrap_or (first_time packets) 0)) fs
   pub untold : (n : ℕ) → absent_from o.form (length fs) ≡ Some n → n < 2 ^ 64 - 1 → text ≡ []
 
--- The text is made of these parts: the reports, and rows. The rows of each connection with a report show the items of both its sides; no row
+-- The text is made of these parts: the reports, and rows. The rows of each connection with a report are those of all that its sides did; no row
 -- is of a connection that hasn't begun. Rows have no text if they aren't asked for. Each part was told with a packet, in the order of the packets.
 pub record AreRowsTold (o : Origin) (packets : List Captured) (fs : List Finished) (text : List ℕ) : Type 0 where
   pub parts : List Part
   pub parts_are : ArePartsOf o.form (reports_of fs) text parts
-  pub rows : All (AreRowsOf o.form parts o.terms (unwrap_or (first_time packets) 0)) fs
-  pub none : (n : ℕ) → length fs ≤ n → n < 2 ^ 64 - 1 → item_rows n parts ≡ []
   pub packet : ℕ → ℕ
+  pub rows : All (AreRowsOf o.form packet parts o.terms (unwrap_or (first_time packets) 0)) fs
+  pub none : (n : ℕ) → length fs ≤ n → n < 2 ^ 64 - 1 → rows_of n parts ≡ []
   pub times : AreToldWith packet (clock_of packets).number parts fs
 
 -- the lines on packets of uTP; none if only a stream is told
@@ -116,13 +116,14 @@ utp_text form ds = if is_stream form then [] else flow_texts form.json (flows ds
 abbrev pub utp_lines : Form → List Captured → List ℕ
 utp_lines form packets = utp_text form (datagrams packets)
 
--- The file was read up to where this ending says. What was written are the texts of the reports on all connections of what was read, in order,
--- with rows between them, and after them the lines on uTP; or the stream of one side of a connection. The reports add up to this.
-pub record IsEndOf (o : Origin) (left : Option (List ℕ)) (now : TargetSeen) (end : CaptureEnd) : Type 0 where
+-- These packets were read, and reading ended as the end says, by what is left of the file and by what was seen of the source. What was written are
+-- the texts of the reports on all connections of what was read, in order, with rows between them, and after them the lines on uTP; or the stream of
+-- one side of a connection. The reports add up to this.
+pub record IsEndOf (o : Origin) (after : SourceSeen) (now : TargetSeen) (end : CaptureEnd) : Type 0 where
   pub packets : List Captured
   pub r : Reading
-  pub read : HasRead o left packets r
-  pub ended : HasEndedSo end.ending r
+  pub read : HasRead o after.left packets r
+  pub ended : HasEndedSo end.ending r o.source after
   pub count : end.packets ≡ min (length packets) (2 ^ 64 - 1)
   pub skipped : end.skipped ≡ count_skipped packets
   pub fs : List Finished
@@ -177,9 +178,11 @@ pub record AreToldSoFar (o : Origin) (packets : List Captured) (fs : List Finish
   pub parting : AreParts phase (arrivals packets) fs
   pub parts : List Part
   pub parts_are : ArePartsOf o.form (reports_of fs) text parts
-  pub rows : All (AreRowsOf o.form parts o.terms (unwrap_or (first_time packets) 0)) fs
-  pub none : (n : ℕ) → begun ≤ n → n < 2 ^ 64 - 1 → item_rows n parts ≡ []
   pub packet : ℕ → ℕ
+  pub rows : All (AreRowsOf o.form packet parts o.terms (unwrap_or (first_time packets) 0)) fs
+  pub none : (n : ℕ) → begun ≤ n → n < 2 ^ 64 - 1 → rows_of n parts ≡ []
+  pub going : (n : ℕ) → n < begun → n < 2 ^ 64 - 1 → count_over n fs ≡ 0
+      → IsGoing o.form packet parts o.terms (unwrap_or (first_time packets) 0) (arrivals packets) fs n
   pub times : AreToldWith packet (clock_of packets).number parts fs
 
 -- A write failed: the first part of the texts is written, or all of them and the first part of the lines on uTP. If a stream is told it is
@@ -205,10 +208,10 @@ IsToldTo Memory o left now = ArePartlyWritten o left now
 IsToldTo Turns o left now = ArePartlyWritten o left now
 
 -- What is written are the texts of the reports on the connections of the packets that were read, with rows between them, and the lines on
--- their packets of uTP: all of them where reading ended, and else the first part.
-abbrev pub IsTold : Origin → Option (List ℕ) → TargetSeen → Result CaptureEnd CaptureFault → Type 0
-IsTold o left now (Ok end) = IsEndOf o left now end
-IsTold o left now (Err f) = IsToldTo f o left now
+-- their packets of uTP: all of them at an end, which also says how reading ended, and else the first part.
+abbrev pub IsTold : Origin → SourceSeen → TargetSeen → Result CaptureEnd CaptureFault → Type 0
+IsTold o after now (Ok end) = IsEndOf o after now end
+IsTold o after now (Err f) = IsToldTo f o after.left now
 
 -- ---- after a step
 

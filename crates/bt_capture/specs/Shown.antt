@@ -10,7 +10,7 @@ use Rattle.bt_talk.specs.declared.talk.Talk.{Talk}
 use Rattle.bt_talk.specs.Pasts.{Past}
 use Rattle.bt_talk.specs.Rooms.{rows_in, showing_in}
 use Rattle.bt_talk.specs.Rows.{Shown, shown_texts}
-use Rattle.bt_talk.specs.Talks.{HasSettled, Shows, Takes, is_in_opening}
+use Rattle.bt_talk.specs.Talks.{HasSettled, ShowsTurn, Takes, is_in_opening, turn_by}
 
 -- The room has the texts of some rows, which are shown in this way.
 pub record HasRows (showing : Showing) (room : Room) : Type 0 where
@@ -18,11 +18,12 @@ pub record HasRows (showing : Showing) (room : Room) : Type 0 where
   pub rows : List Shown
   pub text : (rows_in room).text.items ≡ shown_texts showing rows
 
--- The rows of one segment, under this heading; there were none before. After the opening they are those of the items that it completes, and others,
--- which show no item. In the opening there are none, and at its end those of all that came in it.
+-- The rows of one segment, under this heading; there were none before. After the opening they are those of its turn. In the opening there are none,
+-- and at its end those of all that came in it.
 pub record AreOfSegment (heading : Heading) (s : Segment) (when : When) (a b : Past) (t t' : Talk) (rows : Rows) : Type 0 where
   pub before : Rows
   pub heading_is : before.heading ≡ heading
   pub empty : before.text.items ≡ []
-  pub after : is_in_opening t ≡ false → Shows s when t t' before rows
-  pub opening : is_in_opening t ≡ true → (took : Takes s when a b t t') × HasSettled s when a b t t' took before rows
+  pub took : Takes s when a b t t'
+  pub after : (o : is_in_opening t ≡ false) → ShowsTurn (turn_by when (took.said o) (took.did o)) t before rows
+  pub opening : is_in_opening t ≡ true → HasSettled s when a b t t' took before rows

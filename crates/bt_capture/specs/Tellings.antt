@@ -6,8 +6,10 @@ use Rattle.bt_io.specs.Seen.{TargetSeen, AppendsPrefix, WriteFailed}
 use Rattle.bt_told.specs.Findings.{finding_of}
 use Rattle.bt_told.specs.Objects.{report_object}
 use Rattle.bt_told.specs.Reports.{report_text}
-use Rattle.bt_talk.specs.Rows.{Shown, is_item, shown_texts}
+use Rattle.bt_talk.specs.Rows.{Shown, shown_texts}
+use Rattle.bt_talk.specs.Inside.{AreEndRows}
 use Rattle.bt_talk.specs.Pasts.{Past}
+use Rattle.bt_talk.specs.Rooms.{heading_by}
 use Rattle.bt_talk.specs.Shown.{Turn}
 use Rattle.bt_talk.specs.Talks.{HasHeard, IsTalk}
 use Rattle.bt_talk.specs.declared.talk.Talk.{Talk}
@@ -72,9 +74,9 @@ rows_of_part (OfBytes bytes) = []
 abbrev pub is_row_of : ℕ → Shown → Bool
 is_row_of n s = s.row.connection == n
 
--- the rows that show items of the connection with this number
-abbrev pub item_rows : ℕ → List Part → List Shown
-item_rows n parts = filter (is_row_of n) (filter is_item (flat_map rows_of_part parts))
+-- the rows of the connection with this number
+abbrev pub rows_of : ℕ → List Part → List Shown
+rows_of n parts = filter (is_row_of n) (flat_map rows_of_part parts)
 
 -- A report has no text if only a stream is told.
 abbrev pub report_by : Form → Report → List ℕ
@@ -130,13 +132,13 @@ Says t t' number from left talk =
     × ((start now : TargetSeen) (reports : List Report) (written : List ℕ) → Tells start now t reports written → Tells start now t' (reports ++ r ∷ []) written)
     × (t'.text.items ≡ t.text.items ++ report_by t.form r)
 
--- As Says. These bytes of a stream are told first, then these rows and others, which show no item, and then the report.
+-- As Says. These bytes of a stream are told first, then these rows and those of the connection's end, and then the report.
 abbrev pub SaysAfter : Teller → Teller → (number from : ℕ) → Left → Talk → List ℕ → List Shown → Type 0
 SaysAfter t t' number from left talk bytes rows =
     (r : Report) × ((a b : Past) (turns : List Turn) → IsTalk a b talk → HasHeard turns a b talk → IsReportOf number from left a b talk turns r)
     × ((start now : TargetSeen) (reports : List Report) (written : List ℕ) → Tells start now t reports written → Tells start now t' (reports ++ r ∷ []) written)
-    × (others : List Shown) × (filter is_item others ≡ [])
-    × (t'.text.items ≡ t.text.items ++ ((bytes ++ shown_texts (showing_by t.form) (rows ++ others)) ++ report_by t.form r))
+    × (last : List Shown) × ((a b : Past) → IsTalk a b talk → AreEndRows (heading_by (showing_by t.form) number from) a b talk last)
+    × (t'.text.items ≡ t.text.items ++ ((bytes ++ shown_texts (showing_by t.form) (rows ++ last)) ++ report_by t.form r))
 
 -- All is written.
 abbrev pub IsEmpty : Teller → Type 0

@@ -1,6 +1,6 @@
 //! A buffer of bytes that are read from a source. It grows until an item of a capture file fits.
-ghost use Rattle.std.specs.Prelude.{◌≡◌, ℕ, List, ◌+◌, ◌-◌, ◌<◌, ◌≤◌, [], ◌++◌, length, take, drop, OnOk, OnErr, IfOk, replicate, vec_len};
-ghost use Rattle.std.specs.Io.KnownBytes.{Consumes, Keeps};
+ghost use Rattle.std.specs.Prelude.{◌≡◌, ℕ, List, ◌+◌, ◌-◌, ◌<◌, ◌≤◌, [], ◌++◌, length, take, drop, Ok, OnOk, OnErr, IfOk, replicate, vec_len};
+ghost use Rattle.std.specs.Io.KnownBytes.{Consumes, IsAtEnd, Keeps};
 ghost use Rattle.bt_io.specs.Counts.{counted, is_end};
 ghost use Rattle.bt_capture.specs.Reads.{was_read, has_failed};
 
@@ -89,6 +89,7 @@ impl Buffer {
         ensures reads { (R.seen reader.new).reads ≡ counted (was_read result) (R.seen reader.old).reads }
         ensures failed { (R.seen reader.new).failed ≡ counted (has_failed result) (R.seen reader.old).failed }
         ensures ends { (R.seen reader.new).ends ≡ counted (is_end result 1) (R.seen reader.old).ends }
+        ensures none_left { result ≡ Ok 0 → IsAtEnd (R.seen reader.new).left }
     {
         if lengthen(&mut self.bytes, self.size).is_err() {
             return Err(ReadFault::Memory);

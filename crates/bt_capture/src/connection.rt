@@ -54,6 +54,7 @@ impl Connection {
         ensures open { (when : When) → IsOpen terms [] (arrived first.now when ∷ []) result }
         ensures sent { (when : When) (side : Side) → HasSent side [] terms [] (arrived first.now when ∷ []) result }
         ensures shown { (when : When) (h : Heading) → HasShown h [] terms [] (arrived first.now when ∷ []) result }
+        ensures there { is_lost result.talk ≡ false }
         ensures number { result.number ≡ number }
     {
         Connection {
@@ -80,7 +81,7 @@ impl Connection {
         ensures shown { (terms : Terms) (taken : List Arrival) (before : List Shown) → let a = arrived segment.now when in (rows_in room.old).text.items ≡ []
             → HasShown (rows_in room.old).heading before terms taken (a ∷ []) self.old
             → (rows : List Shown) × ((rows_in room.new).text.items ≡ shown_texts (showing_in room.old) rows)
-            × ShowsOn (rows_in room.old).heading before rows terms taken a self.new }
+            × ShowsOn (rows_in room.old).heading before rows terms taken a self.old self.new }
         ensures number { self.new.number ≡ self.old.number }
     {
         self.has_payload |= has_payload(segment);

@@ -1,5 +1,5 @@
 //! The connections of a capture, and the reports of those that are over.
-ghost use Rattle.std.specs.Prelude.{◌≡◌, ◌∷◌, ◌++◌, [], ◌+◌, ◌-◌, ◌^◌, ◌<◌, ◌≤◌, min, ℕ, List, length, false, true, None, Some, unwrap_or, IfOk, OnOk, OnErr};
+ghost use Rattle.std.specs.Prelude.{◌≡◌, ◌∷◌, ◌++◌, [], ◌+◌, ◌-◌, ◌^◌, ◌<◌, ◌≤◌, min, ℕ, List, length, false, true, None, Some, is_some, unwrap_or, IfOk, OnOk, OnErr};
 ghost use Rattle.std.specs.Map.{lookup};
 ghost use Rattle.std.specs.List.{All, Contains};
 ghost use Rattle.std.specs.List.Sorted.{IsNonDecreasing, IsPermutation};
@@ -8,6 +8,7 @@ ghost use Rattle.bt_io.specs.Seen.{TargetSeen};
 ghost use Rattle.bt_pcap.specs.Formats.{Captured};
 ghost use Rattle.bt_pcap.specs.Steps.{captured};
 ghost use Rattle.bt_capture.specs.Arrivals.{AreEarlier, Arrival, Clock, arrived, arrivals, arrivals_in, clock_of, count_skipped, first_time, is_no_segment};
+ghost use Rattle.bt_capture.specs.Arrivals.{with_packet};
 ghost use Rattle.bt_utp.specs.States.{AreCounted};
 ghost use Rattle.bt_packet.specs.declared.utp.Utp.{Utp};
 ghost use Rattle.bt_capture.specs.FlowTexts.{datagrams, datagrams_in};
@@ -16,13 +17,13 @@ ghost use Rattle.bt_remarks.specs.declared.events.Side.{Side};
 ghost use Rattle.bt_talk.specs.Pasts.{Past};
 ghost use Rattle.bt_talk.specs.Rooms.{heading_by, rows_in};
 ghost use Rattle.bt_talk.specs.Rows.{Shown, shown_texts};
-ghost use Rattle.bt_talk.specs.Talks.{IsTalk, is_lost};
+ghost use Rattle.bt_talk.specs.Talks.{IsTalk, closing_of, is_lost};
 ghost use Rattle.bt_capture.specs.Shown.{AreOfSegment};
 ghost use Rattle.bt_capture.specs.Sending.{HasSent, IsSentOff};
 ghost use Rattle.bt_capture.specs.Rowed.{HasShown, ShowsOn, heading_of};
 ghost use Rattle.bt_capture.specs.Forms.{absent_from, handed, is_stream, showing_by, wanted_by};
 ghost use Rattle.bt_capture.specs.Bounds.{IsBounded, IsCounted};
-ghost use Rattle.bt_capture.specs.Following.{Phase, Coming, Cause, FollowsIn, GoesIn, Follows, Goes, Finds, MayEnd, left_by, numbers, with_left};
+ghost use Rattle.bt_capture.specs.Following.{Phase, Coming, Cause, Crowded, FollowsIn, GoesIn, Follows, Goes, Finds, MayEnd, left_by, numbers, with_left};
 ghost use Rattle.bt_capture.specs.Tellings.{TellsOn};
 ghost use Rattle.bt_capture.specs.Runs.{utp_text};
 ghost use Rattle.bt_capture.specs.Sights.{seen};
@@ -68,12 +69,23 @@ fn begins_another(talk: &Talk, segment: &Segment, when: When) -> bool
     talk.opens_again(segment)
 }
 
+/// Tells how a connection is left that is given up since there are too many: as any other, if it has ended.
+fn left_given_up(talk: &Talk) -> Left
+    ensures { (at : When) → result ≡ left_by (Crowded (is_some (closing_of talk.now).over) at) }
+{
+    if talk.has_ended() {
+        Left::Open
+    } else {
+        Left::Unread
+    }
+}
+
 /// How many connections weren't read to their end.
 #[derive(Clone, Copy, PartialEq, Eq, Debug)]
 pub struct Losses {
     /// Memory ran out with them.
     pub memory: u64,
-    /// There were too many at once.
+    /// There were too many at once, and they hadn't ended.
     pub crowd: u64,
 }
 
@@ -174,8 +186,8 @@ impl Run {
             → lookup (same_pair p) es ≡ None → MayEnd ph clock came cause p connection.value → left ≡ left_by cause
             → FollowsIn ph start now clock came ((p, connection) ∷ es) self.old → GoesIn ph start now clock came es self.new result }
         ensures sent { OnOk result ((terms : Terms) (taken : List Arrival) (side : Side) (sent : List ℕ) → connection.value.has_payload ≡ true
-            → wanted_by self.old.teller.form connection.value.number ≡ Some side → is_lost connection.value.talk ≡ false
-            → HasSent side sent terms taken [] connection.value → IsSentOff side sent terms taken connection.value self.old self.new) }
+            → wanted_by self.old.teller.form connection.value.number ≡ Some side → HasSent side sent terms taken [] connection.value
+            → IsSentOff side sent terms taken connection.value self.old self.new) }
         ensures others { OnOk result (is_stream self.old.teller.form ≡ true → wanted_by self.old.teller.form connection.value.number ≡ None
             → (terms : Terms) (taken : List Arrival) → IsOpen terms taken [] connection.value → self.new.teller.text.items ≡ self.old.teller.text.items) }
         ensures table { self.new.table ≡ self.old.table }
@@ -215,7 +227,8 @@ impl Run {
 
     /// Ends the connection that was used least recently, if there is one.
     fn end_oldest(&mut self) -> Result<(), AllocError>
-        ensures goes { (start now : TargetSeen) (clock : Clock) (came : List Arrival) → Follows start now clock came self.old.table self.old
+        ensures goes { (start now : TargetSeen) (clock : Clock) (came : List Arrival) (at : When) → Contains clock.packets at → at.packet ≡ clock.number
+            → All (λ x. x.when.packet ≤ at.packet) came → Follows start now clock came self.old.table self.old
             → Goes start now clock came self.new.table self.new result }
         ensures shorter { 0 < length self.old.table → length self.new.table < length self.old.table }
         ensures counted { IsCounted self.old → IsCounted self.new }
@@ -228,7 +241,8 @@ impl Run {
         match self.table.take_oldest() {
             Some((_, oldest)) => {
                 self.bytes = self.bytes.saturating_sub(oldest.size());
-                self.report(oldest, Left::Unread)
+                let left = left_given_up(&oldest.talk);
+                self.report(oldest, left)
             }
             None => Ok(()),
         }
@@ -246,7 +260,8 @@ impl Run {
     ///
     /// The one that was used least recently is the first.
     fn shrink(&mut self) -> Result<(), AllocError>
-        ensures goes { (start now : TargetSeen) (clock : Clock) (came : List Arrival) → Follows start now clock came self.old.table self.old
+        ensures goes { (start now : TargetSeen) (clock : Clock) (came : List Arrival) (at : When) → Contains clock.packets at → at.packet ≡ clock.number
+            → All (λ x. x.when.packet ≤ at.packet) came → Follows start now clock came self.old.table self.old
             → Goes start now clock came self.new.table self.new result }
         ensures bounded { OnOk result (IsCounted self.old → IsBounded self.new) }
         ensures terms { self.new.terms ≡ self.old.terms }
@@ -270,8 +285,9 @@ impl Run {
     /// `AllocError` when out of memory.
     fn put(&mut self, pair: Pair, connection: Box<Connection>) -> Result<(), AllocError>
         requires { lookup (same_pair pair) self.old.table ≡ None }
-        ensures goes { (start now : TargetSeen) (clock : Clock) (came : List Arrival)
-            → Follows start now clock came ((pair, connection) ∷ self.old.table) self.old → Goes start now clock came self.new.table self.new result }
+        ensures goes { (start now : TargetSeen) (clock : Clock) (came : List Arrival) (at : When) → Contains clock.packets at → at.packet ≡ clock.number
+            → All (λ x. x.when.packet ≤ at.packet) came → Follows start now clock came ((pair, connection) ∷ self.old.table) self.old
+            → Goes start now clock came self.new.table self.new result }
         ensures bounded { OnOk result (IsBounded self.old → IsBounded self.new) }
         ensures terms { self.new.terms ≡ self.old.terms }
         ensures form { self.new.teller.form ≡ self.old.teller.form }
@@ -392,7 +408,7 @@ impl Run {
             connection.old.talk connection.new.talk (rows_in self.new.room) }
         ensures shown { OnOk result ((terms : Terms) (taken : List Arrival) (before : List Shown) → let a = arrived segment.now when in
             let h = heading_of self.old.teller.form connection.old.number (unwrap_or self.old.start 0) in HasShown h before terms taken (a ∷ []) connection.old
-            → (rows : List Shown) × ShowsOn h before rows terms taken a connection.new
+            → (rows : List Shown) × ShowsOn h before rows terms taken a connection.old connection.new
             × (self.new.teller.text.items ≡ self.old.teller.text.items ++ (shown_texts (showing_by self.old.teller.form) rows
             ++ handed self.old.teller.form connection.new.number self.new.room))) }
         ensures number { connection.new.number ≡ connection.old.number }
@@ -464,8 +480,8 @@ impl Run {
     /// Takes a segment.
     fn take_segment(&mut self, segment: &Segment, when: When) -> Result<(), AllocError>
         ensures goes { (start now : TargetSeen) (clock : Clock) (came : List Arrival) → AreEarlier clock when.packet → when.packet ≡ clock.number
-            → Follows start now clock came self.old.table self.old
-            → Goes start now clock (came ++ arrived segment.now when ∷ []) self.new.table self.new result }
+            → All (λ x. x.when.packet ≤ when.packet) came → Follows start now clock came self.old.table self.old
+            → Goes start now (with_packet when clock) (came ++ arrived segment.now when ∷ []) self.new.table self.new result }
         ensures bounded { OnOk result (IsBounded self.old → IsBounded self.new) }
         ensures terms { self.new.terms ≡ self.old.terms }
         ensures form { self.new.teller.form ≡ self.old.teller.form }
@@ -495,8 +511,8 @@ impl Run {
     /// Takes what a packet carries.
     fn take_sight(&mut self, sight: &Sight, when: When) -> Result<(), AllocError>
         ensures goes { (start now : TargetSeen) (clock : Clock) (came : List Arrival) → AreEarlier clock when.packet → when.packet ≡ clock.number
-            → Follows start now clock came self.old.table self.old
-            → Goes start now clock (came ++ arrivals_in when.packet when.nanos (seen sight.now)) self.new.table self.new result }
+            → All (λ x. x.when.packet ≤ when.packet) came → Follows start now clock came self.old.table self.old
+            → Goes start now (with_packet when clock) (came ++ arrivals_in when.packet when.nanos (seen sight.now)) self.new.table self.new result }
         ensures bounded { OnOk result (IsBounded self.old → IsBounded self.new) }
         ensures terms { self.new.terms ≡ self.old.terms }
         ensures form { self.new.teller.form ≡ self.old.teller.form }

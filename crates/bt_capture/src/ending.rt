@@ -85,7 +85,7 @@ pub struct CaptureEnd {
     pub ending: Ending,
     /// The number of the connection whose stream was asked for, if no connection has it.
     pub absent: Option<u64>,
-    /// How many connections weren't read to their end, since there were too many at once.
+    /// How many connections weren't read to their end, since there were too many at once. Those that had ended don't count.
     pub unread: u64,
 }
 

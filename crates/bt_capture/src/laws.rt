@@ -1,6 +1,6 @@
 //! Theorems on what is told of a capture.
 ghost use Rattle.std.specs.Prelude.{◌≡◌, ◌<◌, ◌-◌, ◌^◌, ℕ, List, Option, Some, None, false};
-ghost use Rattle.bt_io.specs.Seen.{TargetSeen};
+ghost use Rattle.bt_io.specs.Seen.{SourceSeen, TargetSeen};
 ghost use Rattle.bt_remarks.specs.declared.events.Side.{Side};
 ghost use Rattle.bt_told.specs.declared.report.Report.{Report};
 ghost use Rattle.bt_capture.specs.declared.ending.CaptureEnd.{CaptureEnd};
@@ -18,6 +18,6 @@ pub fn only_reports()
 /// if there is a report on that, the stream of its side is written, and nothing else. It begins with the handshake, or with the first byte if no
 /// handshake started in the opening, and ends at the first gap.
 pub fn only_stream()
-    ensures { (o : Origin) (left : Option (List ℕ)) (now : TargetSeen) (end : CaptureEnd) (n : ℕ) (side : Side) → o.form.stream ≡ Some (n, side)
-        → n < 2 ^ 64 - 1 → (i : IsEndOf o left now end) → IsOnlyStream o now end i.packets i.fs n side }
+    ensures { (o : Origin) (after : SourceSeen) (now : TargetSeen) (end : CaptureEnd) (n : ℕ) (side : Side) → o.form.stream ≡ Some (n, side)
+        → n < 2 ^ 64 - 1 → (i : IsEndOf o after now end) → IsOnlyStream o now end i.packets i.fs n side }
 {}

@@ -1,6 +1,6 @@
 //! The packets of a capture file that is read from a source.
 ghost use Rattle.std.specs.Prelude.{◌≡◌, ℕ, List, ◌+◌, ◌<◌, ◌≤◌, [], ◌∷◌, ◌++◌, length, Ok, Err, OnErr, IfOk};
-ghost use Rattle.std.specs.Io.KnownBytes.{Consumes, Keeps};
+ghost use Rattle.std.specs.Io.KnownBytes.{Consumes, IsAtEnd, Keeps};
 ghost use Rattle.bt_io.specs.Counts.{counted, is_end};
 ghost use Rattle.bt_pcap.specs.Formats.{Captured, Unknown};
 ghost use Rattle.bt_pcap.specs.Captures.{IsCapture};
@@ -111,6 +111,7 @@ impl Packets {
         ensures reads { (R.seen reader.new).reads ≡ counted (was_read result) (R.seen reader.old).reads }
         ensures failed { (R.seen reader.new).failed ≡ counted (has_failed result) (R.seen reader.old).failed }
         ensures ends { (R.seen reader.new).ends ≡ counted (is_end result 1) (R.seen reader.old).ends }
+        ensures none_left { result ≡ Ok 0 → IsAtEnd (R.seen reader.new).left }
     {
         self.buffer.drop_front(self.walk.at);
         self.walk.at = 0;

@@ -1,13 +1,13 @@
 //! What `capture` does: from a source of a capture file to a target of the reports on its connections.
-ghost use Rattle.std.specs.Prelude.{◌≡◌, ◌<◌, ℕ, List, [], ◌∷◌, length, Option, None, Ok, OnOk, IfOk, IfErr, IfSome, false};
+ghost use Rattle.std.specs.Prelude.{◌≡◌, ◌<◌, ℕ, List, [], ◌∷◌, length, Option, None, Ok, OnOk, IfErr, false};
 ghost use Rattle.std.specs.Map.{lookup};
-ghost use Rattle.bt_io.specs.Seen.{TargetSeen};
+ghost use Rattle.bt_io.specs.Seen.{SourceSeen, TargetSeen};
 ghost use Rattle.bt_packet.specs.declared.utp.Utp.{Utp};
 ghost use Rattle.bt_utp.specs.States.{AreCounted};
-ghost use Rattle.bt_capture.specs.Ends.{HasEndedSo, IsEnded, IsWhy, ending_by};
+ghost use Rattle.bt_capture.specs.Ends.{HasEndedSo, IsAllRead, IsMore, IsTurn, IsWhyHeld, ending_by};
 ghost use Rattle.bt_capture.specs.Readings.{Reading, Waits};
 ghost use Rattle.bt_capture.specs.Tables.{Held, same_pair};
-ghost use Rattle.bt_capture.specs.Sees.{HasSeenAll, HasSeenMore, HasSeenRead, HasSeenTurn, IsNoRead};
+ghost use Rattle.bt_capture.specs.Sees.{HasEnded, HasGone};
 ghost use Rattle.bt_capture.specs.Tellings.{IsEmpty};
 ghost use Rattle.bt_capture.specs.Following.{Phase, AtEnd};
 ghost use Rattle.bt_capture.specs.Runs.{Adds, Origin, done, origin, IsTelling, IsTellingIn, IsAfter, IsAfterIn, IsTold, IsEndOf};
@@ -56,10 +56,8 @@ fn write_if_full<W: Target>(run: &mut Run, writer: &mut W) -> Result<(), Capture
 fn step(run: &mut Run, packets: &mut Packets) -> Result<bool, Stop>
     ensures after { (o : Origin) (left : Option (List ℕ)) (now : TargetSeen) → IsTelling o left now run.old.table run.old packets.old
         → IsAfter o left now run.new.table run.new packets.new result }
-    ensures few { result ≡ Ok false → length packets.new.held < 1048604 }
     ensures waits { result ≡ Ok false → Waits packets.new }
-    ensures why { IfErr result (λ f. IsWhy f packets.new) }
-    ensures fault { IfErr result IsNoRead }
+    ensures why { IfErr result (λ s. IsWhyHeld s packets.new) }
 {
     let number = packets.packets().saturating_add(1);
     match packets.take() {
@@ -82,9 +80,7 @@ fn read_more<R: Source, W: Target>(
     requires { length packets.old.held < 1048604 }
     ensures after { (o : Origin) → IsTelling o (R.seen reader.old).left (W.seen writer.old) run.old.table run.old packets.old
         → IsAfter o (R.seen reader.new).left (W.seen writer.new) run.new.table run.new packets.new result }
-    ensures waits { Waits packets.old → result ≡ Ok false → Waits packets.new }
-    ensures why { Waits packets.old → IfErr result (λ f. IsWhy f packets.new) }
-    ensures seen { HasSeenMore result (R.seen reader.old) (R.seen reader.new) }
+    ensures more { Waits packets.old → IsMore result packets.new (R.seen reader.old) (R.seen reader.new) }
 {
     match write(run, writer) {
         Ok(()) => {}
@@ -102,9 +98,7 @@ fn read_more<R: Source, W: Target>(
 fn ended(packets: &Packets) -> Result<FileEnd, Stop>
     ensures after { (o : Origin) (left : Option (List ℕ)) (now : TargetSeen) (es : List (Pair × Held)) (run : Run) → IsTelling o left now es run packets.now
         → IsAfter o left now es run packets.now result }
-    ensures ended { IfOk result (λ e. IsEnded packets.now (Ok e)) }
-    ensures why { Waits packets.now → IfErr result (λ f. IsWhy f packets.now) }
-    ensures fault { IfErr result IsNoRead }
+    ensures ended { (before seen : SourceSeen) → Waits packets.now → HasEnded before seen → IsAllRead result packets.now before seen }
 {
     match packets.ended() {
         Ok(end) => Ok(end),
@@ -121,10 +115,7 @@ fn turn<R: Source, W: Target>(
 ) -> Result<Option<FileEnd>, Stop>
     ensures after { (o : Origin) → IsTelling o (R.seen reader.old).left (W.seen writer.old) run.old.table run.old packets.old
         → IsAfter o (R.seen reader.new).left (W.seen writer.new) run.new.table run.new packets.new result }
-    ensures ended { IfOk result (λ end. IfSome end (λ e. IsEnded packets.new (Ok e))) }
-    ensures waits { IfOk result (λ end. IfSome end (λ e. Waits packets.new)) }
-    ensures why { IfErr result (λ f. IsWhy f packets.new) }
-    ensures seen { HasSeenTurn result (R.seen reader.old) (R.seen reader.new) }
+    ensures turn { IsTurn result packets.new (R.seen reader.old) (R.seen reader.new) }
 {
     match step(run, packets) {
         Ok(true) => match write_if_full(run, writer) {
@@ -152,10 +143,7 @@ fn read_all<R: Source, W: Target>(
 ) -> Result<FileEnd, Stop>
     ensures after { (o : Origin) → IsTelling o (R.seen reader.old).left (W.seen writer.old) run.old.table run.old packets.old
         → IsAfter o (R.seen reader.new).left (W.seen writer.new) run.new.table run.new packets.new result }
-    ensures ended { IfOk result (λ e. IsEnded packets.new (Ok e)) }
-    ensures waits { IfOk result (λ e. Waits packets.new) }
-    ensures why { IfErr result (λ f. IsWhy f packets.new) }
-    ensures seen { HasSeenRead result (R.seen reader.old) (R.seen reader.new) }
+    ensures all { IsAllRead result packets.new (R.seen reader.old) (R.seen reader.new) }
 {
     for _turn in 0..u64::MAX {
         match turn(run, packets, reader, writer) {
@@ -226,10 +214,9 @@ fn ending_of(end: FileEnd) -> Ending
 
 /// Returns what the capture had, once all is told.
 fn end_of(run: &Run, packets: &Packets, ending: Ending) -> CaptureEnd
-    ensures end { (o : Origin) (left : Option (List ℕ)) (before now : TargetSeen) (i : IsTellingIn AtEnd o left before [] run.now packets.now)
-        → IsEmpty run.now.teller → HasEndedSo ending packets.now → Adds (utp_lines run.now.teller.form i.packets) before now done
-        → IsEndOf o left now result }
-    ensures ending { result.ending ≡ ending }
+    ensures { (o : Origin) (seen : SourceSeen) (before now : TargetSeen) (i : IsTellingIn AtEnd o seen.left before [] run.now packets.now)
+        → IsEmpty run.now.teller → HasEndedSo ending packets.now o.source seen → Adds (utp_lines run.now.teller.form i.packets) before now done
+        → IsEndOf o seen now result }
 {
     CaptureEnd {
         packets: packets.packets(),
@@ -250,9 +237,8 @@ fn end_read<W: Target>(
     ending: Ending,
     writer: &mut W,
 ) -> Result<CaptureEnd, CaptureFault>
-    ensures told { (o : Origin) (left : Option (List ℕ)) → IsTelling o left (W.seen writer.old) run.old.table run.old packets.now
-        → HasEndedSo ending packets.now → IsTold o left (W.seen writer.new) result }
-    ensures ending { IfOk result (λ end. end.ending ≡ ending) }
+    ensures { (o : Origin) (seen : SourceSeen) → IsTelling o seen.left (W.seen writer.old) run.old.table run.old packets.now
+        → HasEndedSo ending packets.now o.source seen → IsTold o seen (W.seen writer.new) result }
 {
     match finish(run, writer) {
         Ok(()) => match write_utp(run, writer) {
@@ -270,9 +256,8 @@ fn tell_all<R: Source, W: Target>(
     reader: &mut R,
     writer: &mut W,
 ) -> Result<CaptureEnd, CaptureFault>
-    ensures told { (o : Origin) → IsTelling o (R.seen reader.old).left (W.seen writer.old) run.old.table run.old packets.old
-        → IsTold o (R.seen reader.new).left (W.seen writer.new) result }
-    ensures seen { HasSeenAll result (R.seen reader.old) (R.seen reader.new) }
+    ensures { (o : Origin) → IsTelling o (R.seen reader.old).left (W.seen writer.old) run.old.table run.old packets.old
+        → HasGone o.source (R.seen reader.old) → IsTold o (R.seen reader.new) (W.seen writer.new) result }
 {
     match read_all(run, packets, reader, writer) {
         Ok(end) => end_read(run, packets, ending_of(end), writer),
@@ -304,8 +289,7 @@ pub fn run_capture<R: Source, W: Target>(
     writer: &mut W,
     job: &CaptureJob,
 ) -> Result<CaptureEnd, CaptureFault>
-    ensures told { IsTold (origin job.now (R.seen reader.old) (W.seen writer.old)) (R.seen reader.new).left (W.seen writer.new) result }
-    ensures seen { HasSeenAll result (R.seen reader.old) (R.seen reader.new) }
+    ensures { IsTold (origin job.now (R.seen reader.old) (W.seen writer.old)) (R.seen reader.new) (W.seen writer.new) result }
 {
     let form = Form {
         show: job.show,

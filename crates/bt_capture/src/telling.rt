@@ -5,7 +5,7 @@ ghost use Rattle.bt_io.specs.Seen.{TargetSeen, WriteFailed};
 ghost use Rattle.bt_told.specs.declared.report.Report.{Report};
 ghost use Rattle.bt_capture.specs.Forms.{handed, is_stream, showing_by, wanted_by};
 ghost use Rattle.bt_capture.specs.Shown.{HasRows};
-ghost use Rattle.bt_talk.specs.Rooms.{rows_in};
+ghost use Rattle.bt_talk.specs.Rooms.{heading_by, rows_in};
 ghost use Rattle.bt_capture.specs.Tellings.{is_told_with, is_refused_with, report_by, text_by};
 
 use crate::ending::Form;
@@ -222,6 +222,7 @@ impl Teller {
         room: &mut Room,
     ) -> Result<(), AllocError>
         ensures told { OnOk result ((h : HasRows (showing_by self.old.form) room.old)
+            → (rows_in room.old).heading ≡ heading_by (showing_by self.old.form) number from
             → SaysAfter self.old self.new number from left talk.now (handed self.old.form number room.old) h.rows) }
         ensures same { OnErr result (HasRows (showing_by self.old.form) room.old → TellsOn self.old self.new) }
         ensures text { OnOk result (is_stream self.old.form ≡ true → HasRows (showing_by self.old.form) room.old

@@ -1,7 +1,7 @@
 -- What rows need doesn't change what is known of a connection.
-use Rattle.std.proofs.Common.{◌≡◌, ◌∙◌, ◌-◌, ◌^◌, min, ◌+◌, ℕ, not, true, false, Bool, List, [], ◌++◌, length, refl, sym, ap, subst, inl, inr}
+use Rattle.std.proofs.Common.{◌≡◌, ◌∙◌, ◌-◌, ◌^◌, min, ◌+◌, ℕ, not, Bool, List, [], ◌++◌, length, Option, Some, refl, sym, ap, subst, inl, inr}
 use Rattle.std.specs.Prelude.{◌↔◌}
-use Rattle.std.specs.List.{filter}
+use Rattle.std.specs.Option.{option_or}
 use Rattle.std.proofs.lemmas.Bool.{cases_Bool}
 use Rattle.bt_remarks.specs.declared.events.Side.{Side}
 use Rattle.bt_remarks.specs.declared.events.Side.TheVariants.{A, B}
@@ -11,6 +11,7 @@ use Rattle.bt_remarks.specs.Said.{Told, other}
 use Rattle.bt_flow.specs.declared.flow.Flow.{Flow}
 use Rattle.bt_talk.specs.declared.closing.When.{When}
 use Rattle.bt_talk.specs.declared.closing.Closing.{Closing}
+use Rattle.bt_talk.specs.declared.course.Courses.{Courses}
 use Rattle.bt_talk.specs.declared.direction.Direction.{Direction}
 use Rattle.bt_talk.specs.declared.ends.Ends.{Ends}
 use Rattle.bt_talk.specs.declared.replay.Mark.{Mark}
@@ -23,16 +24,17 @@ use Rattle.bt_talk.specs.declared.watch.Watch.{Watch}
 use Rattle.bt_talk.specs.Cuts.{cut_after}
 use Rattle.bt_talk.specs.Pasts.{Past, HasSent}
 use Rattle.bt_talk.specs.Replays.{HasOpened}
-use Rattle.bt_talk.specs.Rows.{Shown, is_item}
-use Rattle.bt_talk.specs.Shown.{AreTurnRows}
+use Rattle.bt_talk.specs.Rows.{Shown}
+use Rattle.bt_talk.specs.Shown.{AreRowsOfTurn, AreTurnRows, Turn}
 use Rattle.bt_talk.specs.Shows.{Appends}
 use Rattle.bt_talk.specs.Stages.{IsDirection, IsHeard, is_opening}
-use Rattle.bt_talk.specs.Talks.{IsTalk, Takes, IsSender, Says, Shows, HasSettled, direction_of, is_in_opening, flow_of, cut_of, marks_of, of_side}
+use Rattle.bt_talk.specs.Talks.{IsTalk, Takes, TakesAll, IsSender, Says, ShowsTurn, HasSettled, direction_of, is_in_opening, flow_of, cut_of, marks_of, of_side}
 use Rattle.bt_talk.specs.Watching.{IsWatched}
 use Rattle.bt_talk.proofs.Closes.{closes_same}
-use Rattle.bt_talk.proofs.Marked.{after_same, closed_same, marked_same}
+use Rattle.bt_talk.proofs.Deeds.{did_same}
+use Rattle.bt_talk.proofs.Marked.{after_same, closed_same, grown_as, grown_same, marked_same}
 use Rattle.bt_talk.proofs.Saying.{says_same, stages_same}
-use Rattle.bt_talk.proofs.Shown.{appends_more, appends_same, rows_same}
+use Rattle.bt_talk.proofs.Shown.{appends_more, appends_same}
 use Rattle.bt_talk.proofs.Talks.{end_same, flow_same, sent_same, both_same}
 use Rattle.bt_talk.proofs.Watching.{watched_same}
 
@@ -147,34 +149,26 @@ takes_alike s when a b t t' u u' i k m n x =
       stream = ap (λ (f : Flow). f.stream) (flow' (other x.side)) ∙ x.stream ∙ ap (λ (f : Flow). f.stream) (sym (flow (other x.side)));
       noted = ap (λ (f : Flow). f.noted) (flow' (other x.side)) ∙ x.noted ∙ ap (λ (f : Flow). f.noted) (sym (flow (other x.side)));
       said = λ o. says_alike s x.side a b x.a' x.b' t t' u u' i k (x.said (sym (opening_alike t u i) ∙ o));
+      did = λ o. did_same s x.side a b x.a' x.b' t t' u u' (stages_alike t u i) (stages_alike t' u' k) flow' (closed_same t u x.side m.courses)
+          (x.did (sym (opening_alike t u i) ∙ o));
       marks = x.marks;
       marked = λ o. marked_same s when x.side x.a' x.b' t t' u u' x.marks m.courses flow' (x.marked (sym (opening_alike t u i) ∙ o));
       kept = λ o. n.marks ∙ x.kept (sym (opening_alike t' u' k) ∙ o) ∙ ap (λ (l : List Mark). l ++ x.marks) (sym m.marks);
       shut = λ side. closed_same t' u' side n.courses ∙ x.shut side ∙ after_same s x.side x.side t u side refl (sym m.courses);
+      began = ap (λ (c : Courses). c.first) n.courses ∙ x.began ∙ ap (λ (c : Courses). option_or c.first (Some when)) (sym m.courses);
+      grown = λ side. grown_same t' u' side n.courses ∙ x.grown side ∙ grown_as s when x.side x.side _ _ _ _ t u side refl refl refl (sym m.courses);
     }
 
 -- ---- rows
 
--- Rows show the items of a segment.
-abbrev pub shows_alike : (s : Segment) (when when' : When) (t t' u u' : Talk) (r r' q q' : Rows) → Alike t u → Alike t' u' → when' ≡ when → q ≡ r → q' ≡ r'
-    → Shows s when' u u' q q' → Shows s when t t' r r'
-shows_alike s when when' t t' u u' r r' q q' i k e f g x = record {
-  side = x.side;
-  is_side = sender_alike s u t x.side (alike_back t u i) x.is_side;
-  known = x.known;
-  items = x.items;
-  others = x.others;
-  no_item = x.no_item;
-  follow = λ events before w.
-      let y = x.follow events before (watched_alike events before t u i w) in
-      let rows = y.0 in (
-        rows,
-        record {
-          watched = watched_alike _ _ u' t' (alike_back t' u' k) y.1.watched;
-          shown = rows_same r.heading q.heading when when' x.side x.side x.known x.known x.items events rows (ap (λ (z : Rows). z.heading) f) e refl refl
-              y.1.shown;
-        },
-        appends_same (rows ++ x.others) q q' r r' (sym f) (sym g) y.2,
+-- The rows of a turn are appended.
+pub shows_alike : (turn : Turn) (t u : Talk) (r r' q q' : Rows) → Alike t u → q ≡ r → q' ≡ r' → ShowsTurn turn u q q' → ShowsTurn turn t r r'
+shows_alike turn t u r r' q q' i e f x = record {
+  shown = λ events before w.
+      let y = x.shown events before (watched_alike events before t u i w) in (
+        y.0,
+        subst (λ (z : Rows). AreRowsOfTurn z.heading turn events y.0) e y.1,
+        appends_same y.0 q q' r r' (sym e) (sym f) y.2,
       );
 }
 
@@ -194,7 +188,7 @@ opened_alike marks p q s s' w v r r' l l' e f g m n h = record {
   items_are = h.items_are;
   rows = h.rows;
   appends = appends_same h.rows l l' r r' (sym m) (sym n) h.appends;
-  shown = subst (λ (z : Rows). AreTurnRows z.heading h.turns (filter is_item h.rows)) m h.shown;
+  shown = subst (λ (z : Rows). AreTurnRows z.heading h.turns h.rows) m h.shown;
   opened_by = h.opened_by;
 }
 
@@ -208,7 +202,7 @@ opened_after marks p q s s' w r m m' r' i e h = record {
   items_are = h.items_are;
   rows = h.rows;
   appends = appends_more [] h.rows r m r' i (appends_same h.rows m' r' m r' (sym e) refl h.appends);
-  shown = subst (λ (z : Heading). AreTurnRows z h.turns (filter is_item h.rows)) (ap (λ (z : Rows). z.heading) e ∙ i.heading) h.shown;
+  shown = subst (λ (z : Heading). AreTurnRows z h.turns h.rows) (ap (λ (z : Rows). z.heading) e ∙ i.heading) h.shown;
   opened_by = h.opened_by;
 }
 
@@ -245,15 +239,15 @@ with_watch t lost w e f g = record {
 }
 
 -- Some rows were appended, or none.
-pub some_rows : (s : Segment) (when : When) (a b : Past) (t t' : Talk) (r r' : Rows) → IsTalk a b t → (is_in_opening t ≡ false → Shows s when t t' r r')
-    → (is_in_opening t ≡ true → (took : Takes s when a b t t') × HasSettled s when a b t t' took r r') → (rows : List Shown) × Appends rows r r'
-some_rows s when a b t t' r r' i after opening =
+pub some_rows : (s : Segment) (when : When) (a b : Past) (t t' : Talk) (r r' : Rows) (wanted : Option Side) (sent : List ℕ) → IsTalk a b t
+    → TakesAll s when a b t t' r r' wanted sent → (rows : List Shown) × Appends rows r r'
+some_rows s when a b t t' r r' wanted sent i all =
     elim (cases_Bool (is_in_opening t)) [
       | inl e ↦
-          let h = opening e in
+          let h = all.settled e in
           elim (cases_Bool (is_in_opening t')) [
-            | inl f ↦ ([], h.1.quiet f)
-            | inr f ↦ let o = h.1.opened f in (o.rows, o.appends)
+            | inl f ↦ ([], h.quiet f)
+            | inr f ↦ let o = h.opened f in (o.rows, o.appends)
           ]
-      | inr e ↦ let x = after e in let y = x.follow i.said.events i.said.items i.said.watched in (y.0 ++ x.others, y.2)
+      | inr e ↦ let y = (all.shows e).shown i.said.events i.said.items i.said.watched in (y.0, y.2)
     ]

@@ -11,9 +11,8 @@ pub mod Marks
 pub mod Talks
 pub mod Marked
 pub mod Saying
-pub mod Others
+pub mod Deeds
 pub mod Sent
 pub mod Closes
 pub mod AskedItems
 pub mod Lent
-pub mod Grows

@@ -1,7 +1,10 @@
 -- What a segment adds to the marks of an opening.
 use Rattle.std.proofs.Common.{◌≡◌, ◌∙◌, ℕ, Bool, true, false, List, Option, refl, sym, ap, subst}
 use Rattle.std.specs.Prelude.{◌||◌, if◌then◌else◌}
+use Rattle.std.specs.Bool.{then_some}
+use Rattle.std.specs.Option.{option_or}
 use Rattle.bt_remarks.specs.declared.events.Side.{Side}
+use Rattle.bt_remarks.specs.declared.events.Side.TheVariants.{A, B}
 use Rattle.bt_remarks.specs.Said.{other, is_same}
 use Rattle.bt_told.specs.declared.report.Means.{Means}
 use Rattle.bt_packet.specs.declared.tcp.Segment.{Segment}
@@ -12,9 +15,9 @@ use Rattle.bt_talk.specs.declared.course.Course.{Course}
 use Rattle.bt_talk.specs.declared.course.Courses.{Courses}
 use Rattle.bt_talk.specs.declared.replay.Mark.{Mark}
 use Rattle.bt_talk.specs.declared.talk.Talk.{Talk}
-use Rattle.bt_talk.specs.Courses.{closes_by, course_of}
+use Rattle.bt_talk.specs.Courses.{closes_by, course_after, course_of}
 use Rattle.bt_talk.specs.Pasts.{Past}
-use Rattle.bt_talk.specs.Talks.{IsMark, IsMarked, IsMarkedBy, closed_after, flow_of, has_closed, is_plain, of_side}
+use Rattle.bt_talk.specs.Talks.{IsMark, IsMarked, IsMarkedBy, closed_after, flow_of, grown_after, grown_with, grows_by, has_closed, is_plain, of_side}
 
 pub closed_by : (b : Bool) (x y : Course) → (if b then x else y).is_closed ≡ (if b then x.is_closed else y.is_closed)
 closed_by true x y = refl
@@ -29,6 +32,29 @@ pub after_same : (s : Segment) (side side' : Side) (t u : Talk) (k : Side) → s
 after_same s side side' t u k e f =
     ap (λ (i : Side). closed_after s i t k) e
     ∙ ap (λ (b : Bool). if is_same side' k then b || (s.flags.fin || s.flags.rst) else b) (closed_same u t k f)
+
+-- The packet with which a stream grew last is that of the segment, if it has grown with it.
+pub grown_by : (s : Segment) (when : When) (side k : Side) (before after : ℕ) (t : Talk) (grows : Bool) (now : Course)
+    → grows ≡ grows_by s (grown_with side t) before after
+    → now ≡ (if is_same side k then course_after s.flags grows when (course_of k t.courses) else course_of k t.courses)
+    → now.grown ≡ grown_after s when side before after t k
+grown_by s when A A before after t grows now e f =
+    ap (λ (x : Course). x.grown) f ∙ ap (λ (b : Bool). option_or (then_some b when) (grown_with A t)) e
+grown_by s when A B before after t grows now e f = ap (λ (x : Course). x.grown) f
+grown_by s when B A before after t grows now e f = ap (λ (x : Course). x.grown) f
+grown_by s when B B before after t grows now e f =
+    ap (λ (x : Course). x.grown) f ∙ ap (λ (b : Bool). option_or (then_some b when) (grown_with B t)) e
+
+pub grown_same : (t u : Talk) (k : Side) → u.courses ≡ t.courses → grown_with k u ≡ grown_with k t
+grown_same t u k e = ap (λ (c : Courses). (course_of k c).grown) e
+
+pub grown_as : (s : Segment) (when : When) (side side' : Side) (before before' after after' : ℕ) (t u : Talk) (k : Side) → side ≡ side' → before ≡ before'
+    → after ≡ after' → t.courses ≡ u.courses → grown_after s when side before after t k ≡ grown_after s when side' before' after' u k
+grown_as s when side side' before before' after after' t u k e f g h =
+    ap (λ (i : Side). grown_after s when i before after t k) e
+    ∙ ap (λ (n : ℕ). grown_after s when side' n after t k) f
+    ∙ ap (λ (n : ℕ). grown_after s when side' before' n t k) g
+    ∙ ap (λ (x : Option When). if is_same side' k then option_or (then_some (grows_by s x before' after') when) x else x) (grown_same u t k h)
 
 mark_same : (when : When) (side : Side) (closed : Option Means) (a b : Past) (t u : Talk) (m : Mark) → ((k : Side) → flow_of k u ≡ flow_of k t)
     → IsMark when side closed a b t m → IsMark when side closed a b u m

@@ -1,5 +1,6 @@
 -- The turns that the marks of an opening make.
-use Rattle.std.proofs.Common.{◌≡◌, ◌∙◌, ℕ, ◌+◌, ◌<◌, max, List, [], ◌∷◌, ◌++◌, reverse, take, get_or, length, sym, ap, subst}
+use Rattle.std.proofs.Common.{◌≡◌, ◌∙◌, ℕ, ◌+◌, ◌<◌, max, Bool, true, false, List, [], ◌∷◌, ◌++◌, reverse, take, get_or, length, refl, sym, ap, subst}
+use Rattle.std.specs.Prelude.{◌||◌, is_some}
 use Rattle.std.proofs.lemmas.List.{take_more, reverse-append}
 use Rattle.bt_remarks.specs.declared.events.Side.{Side}
 use Rattle.bt_remarks.specs.declared.events.Side.TheVariants.{A, B}
@@ -9,7 +10,7 @@ use Rattle.bt_talk.specs.declared.replay.Mark.{Mark}
 use Rattle.bt_talk.specs.declared.replay.Replay.{Replay}
 use Rattle.bt_talk.specs.declared.rows.Rows.{Rows}
 use Rattle.bt_talk.specs.declared.watch.Watch.{Watch}
-use Rattle.bt_talk.specs.Marks.{reach_of}
+use Rattle.bt_talk.specs.Marks.{HasBegun, reach_of}
 use Rattle.bt_talk.specs.Pasts.{Past}
 use Rattle.bt_talk.specs.Replays.{Aim, AreReplays, GoesTo, IsReplay}
 use Rattle.bt_talk.specs.Shown.{IsSeen, Turn, items_by}
@@ -25,6 +26,15 @@ Goes m mine theirs w mine' w' = (since : Rows) (p q : Past) (x y : Aim) (n k : �
     → IsReplay p x.receiver x.cut n (items_by m.side before) mine → IsReplay q y.receiver y.cut k (items_by (other m.side) before) theirs
     → IsSeen since before w → GoesTo since m p q x.receiver y.receiver x.cut n k before mine' w'
 
+either_swapped : (x y : Bool) → (x || y) ≡ (y || x)
+either_swapped true true = refl
+either_swapped true false = refl
+either_swapped false true = refl
+either_swapped false false = refl
+
+begun_swapped : (p q : Past) (begun : Bool) → HasBegun p q begun → HasBegun q p begun
+begun_swapped p q begun i = (i.1, i.0, i.3, i.2, i.4 ∙ either_swapped (is_some i.0) (is_some i.1))
+
 step_a : (m : Mark) (a b a' : Replay) (w w' : Watch) → Goes (record m { side = A }) a b w a' w' → AreReplays (record m { side = A } ∷ []) a b w a' b w'
 step_a m a b a' w w' go = λ since p q x y marks i.
     let g = go since p q x y (reach_of A marks) (reach_of B marks) i.turns i.a_is i.b_is i.seen in
@@ -36,6 +46,9 @@ step_a m a b a' w w' go = λ since p q x y marks i.
           when = g.when;
           known = g.known;
           items = items_to p x.receiver x.cut (max m.length (reach_of A marks)) (items_by A (g.turn ∷ i.turns)) a' g.is;
+          begun = g.begun;
+          has_begun = g.has_begun;
+          deeds = g.deeds;
         },
         i.are,
       );
@@ -56,6 +69,9 @@ step_b m a b b' w w' go = λ since p q x y marks i.
           when = g.when;
           known = g.known;
           items = items_to q y.receiver y.cut (max m.length (reach_of B marks)) (items_by B (g.turn ∷ i.turns)) b' g.is;
+          begun = g.begun;
+          has_begun = begun_swapped q p g.begun g.has_begun;
+          deeds = g.deeds;
         },
         i.are,
       );

@@ -28,11 +28,11 @@ use Rattle.bt_talk.specs.Pasts.{Past}
 use Rattle.bt_talk.specs.Receivers.{IsJudgedBy, AreItems}
 use Rattle.bt_talk.specs.Replays.{Held, IsJudgedTo, IsReplay, IsReplayBy, IsReplayOf, IsReplayed, IsParted, IsFollowed, IsReached, IsReachedIn, IsTurn}
 use Rattle.bt_talk.specs.Replays.{PassesAt, PassesTo, close_length, closes_to, is_passed, with_more}
-use Rattle.bt_talk.specs.Shown.{IsSeen, ShowsOthers, Turn, items_by}
+use Rattle.bt_talk.specs.Shown.{IsSeen, Turn, items_by, no_deeds}
 use Rattle.bt_talk.specs.Watching.{IsLast, Watches, notes_of}
 use Rattle.bt_talk.proofs.Cuts.{drop_first, take_most}
 use Rattle.bt_talk.proofs.Items.{first_only, judged_items}
-use Rattle.bt_talk.proofs.Shown.{seen_begin, seen_more, seen_others, seen_turned}
+use Rattle.bt_talk.proofs.Shown.{seen_begin, seen_more, seen_turned}
 
 -- Some of the bytes that are left are judged.
 pub judged_on : (p : Past) (start : ℕ) (taken : List ℕ) (xs more : List (ℕ × Item)) (left bytes rest : List ℕ) (j : Judged) (judge : Judge)
@@ -266,7 +266,7 @@ pub took_turn : (t : Turn) (more : List (ℕ × Item)) (w w' : Watch) → Took W
 took_turn t [] w w' e i = subst (λ (k : Watch). IsTurn t k) (sym e) i
 took_turn t (x ∷ xs) w w' took i =
     took_turn t xs took.0 w' took.2
-    (record { side = took.1.side ∙ i.side; known = took.1.known ∙ i.known; when = took.1.when ∙ i.when })
+    (record { side = took.1.side ∙ i.side; known = took.1.known ∙ i.known; when = took.1.when ∙ i.when; deeds = i.deeds })
 
 -- the last item of the side whose turn it is
 pub last_after : (since : Rows) (before : List Turn) (t : Turn) (more : List (ℕ × Item)) (w w' : Watch) → IsTurn t w → Took Watches w more w'
@@ -282,13 +282,14 @@ last_after since before t more w w' turn took i =
 -- A turn begins.
 pub begin : (since : Rows) (p : Past) (receiver : Option Receiver) (cut : Option ℕ) (n : ℕ) (before : List Turn) (side : Side) (known : Bool) (when : When)
     (r : Replay) (w v : Watch) → v ≡ record w { side = side; known = known; when = when } → IsReplay p receiver cut n (items_by side before) r
-    → IsSeen since before w → IsReplayed since p receiver cut n before (record { side = side; known = known; when = when; items = [] }) r v
+    → IsSeen since before w → IsReplayed since p receiver cut n before (record { side = side; known = known; when = when; items = []; deeds = no_deeds }) r v
 begin since p receiver cut n before side known when r w v e i seen = record {
   is = subst (λ (l : List (ℕ × Item)). IsReplay p receiver cut n l r) (sym (append-nil (items_by side before))) i;
   turn = record {
     side = ap (λ (k : Watch). k.side) e;
     known = ap (λ (k : Watch). k.known) e;
     when = ap (λ (k : Watch). k.when) e;
+    deeds = refl;
   };
   seen = seen_begin since side known when before v (seen_turned since side known when before w v e seen);
 }
@@ -307,21 +308,6 @@ replayed since p receiver cut n before t more r w w' turn i took seen =
     let now = took_turn t more w w' took turn in
     record {
       is = subst (λ (l : List (ℕ × Item)). IsReplay p receiver cut n l r) (append_assoc (items_by t.side before) t.items more) i;
-      turn = record { side = now.side; known = now.known; when = now.when };
+      turn = record { side = now.side; known = now.known; when = now.when; deeds = now.deeds };
       seen = seen_more since before t more w w' turn took seen;
     }
-
--- Rows of something else were appended.
-pub replayed_others : (since : Rows) (p : Past) (receiver : Option Receiver) (cut : Option ℕ) (n : ℕ) (before : List Turn) (t : Turn) (r : Replay)
-    (w v : Watch) → v ≡ record w { rows = v.rows } → ShowsOthers w v → IsReplayed since p receiver cut n before t r w
-    → IsReplayed since p receiver cut n before t r v
-replayed_others since p receiver cut n before t r w v e o i = record {
-  is = i.is;
-  turn = record {
-    side = ap (λ (k : Watch). k.side) e ∙ i.turn.side;
-    known = ap (λ (k : Watch). k.known) e ∙ i.turn.known;
-    when = ap (λ (k : Watch). k.when) e ∙ i.turn.when;
-  };
-  seen = seen_others since o.others (t ∷ before) w v (ap (λ (k : Watch). k.matcher) e) (ap (λ (k : Watch). k.a) e) (ap (λ (k : Watch). k.b) e) o.no_item
-      o.appends i.seen;
-}

@@ -1,9 +1,8 @@
 -- Rows show further items.
 use Rattle.std.proofs.Common.{◌≡◌, ◌∙◌, ℕ, Bool, true, false, List, [], ◌∷◌, ◌++◌, append-nil, append_assoc, Option, Some, None}
 use Rattle.std.proofs.Common.{◌-◌, Result, Ok, Err, OnErr, refl, sym, ap, subst, if◌then◌else◌}
-use Rattle.std.specs.List.{filter}
+use Rattle.std.specs.Prelude.{option_map}
 use Rattle.std.proofs.lemmas.Grind.{flat_map-append}
-use Rattle.std.proofs.lemmas.List.Elements.{filter-append}
 use Rattle.bt_feed.specs.Pumps.{Took}
 use Rattle.bt_remarks.specs.declared.events.Remarks.{Remarks}
 use Rattle.bt_remarks.specs.declared.events.Side.{Side}
@@ -21,10 +20,10 @@ use Rattle.bt_talk.specs.declared.rows.Rows.{Rows}
 use Rattle.bt_talk.specs.declared.watch.Watch.{Watch}
 use Rattle.bt_talk.specs.Courses.{refusal_rows, close_rows, gap_rows, rows_at, no_remarks}
 use Rattle.bt_talk.specs.Inside.{inside_rows}
-use Rattle.bt_talk.specs.Rows.{Shown, row_at, shown_text, shown_texts, is_item}
+use Rattle.bt_talk.specs.Rows.{Shown, row_at, shown_text, shown_texts}
 use Rattle.bt_talk.specs.Shows.{Appends}
 use Rattle.bt_talk.specs.Replays.{IsTurn, with_more}
-use Rattle.bt_talk.specs.Shown.{AreItemRows, GoesShown, AreTurnRows, IsSeen, ShowsOthers, Turn, told_by, items_by}
+use Rattle.bt_talk.specs.Shown.{AreItemRows, Deeds, GoesShown, IsSeen, Turn, told_by, items_by, closing_rows, deed_rows, newly, no_deeds}
 use Rattle.bt_talk.specs.Watching.{AreNoted, IsWatched, Watches, notes_of, told_of, tell, said_by, with_items}
 use Rattle.bt_talk.proofs.Watching.{watched_more, watched_same, turned, nothing_watched}
 
@@ -112,14 +111,6 @@ nil_right (x ∷ xs) ys e = absurd (cc)
 
 -- ---- the opening
 
-pub all_items : (h : Heading) (when : When) (side : Side) (known : Bool) (xs : List (ℕ × Item)) (events : List Told) (rows : List Shown)
-    → AreItemRows h when side known xs events rows → filter is_item rows ≡ rows
-all_items h when side known [] events rows i = subst (λ (l : List Shown). filter is_item l ≡ l) (sym i) refl
-all_items h when side known (x ∷ xs) events [] i = absurd i
-all_items h when side known (x ∷ xs) events (r ∷ rs) i =
-    let one : is_item r ≡ true = ap is_item i.0.is in
-    (rw one refl) ∙ ap (λ (l : List Shown). r ∷ l) (all_items h when side known xs (told_of side known x ∷ events) rs i.1)
-
 -- Items follow others.
 tell_more : (side : Side) (known : Bool) (xs ys : List (ℕ × Item)) (events : List Told)
     → tell side known (xs ++ ys) events ≡ tell side known ys (tell side known xs events)
@@ -154,12 +145,12 @@ some_more false xs ys zs = refl
 
 -- A turn begins, in which nothing was judged.
 pub seen_begin : (since : Rows) (side : Side) (known : Bool) (when : When) (turns : List Turn) (w : Watch) → IsSeen since turns w
-    → IsSeen since (record { side = side; known = known; when = when; items = [] } ∷ turns) w
+    → IsSeen since (record { side = side; known = known; when = when; items = []; deeds = no_deeds } ∷ turns) w
 seen_begin since side known when turns w i = record {
   watched = watched_by (told_by turns) (told_by turns) (λ s. items_by s turns) _ w refl (λ s. none_more (is_same side s) (items_by s turns)) i.watched;
   rows = i.rows;
   appends = i.appends;
-  shown = (filter is_item i.rows, [], sym (append-nil (filter is_item i.rows)), i.shown, refl);
+  shown = (i.rows, [], sym (append-nil i.rows), i.shown, ([], refl, refl));
 }
 
 -- Further items were judged in a turn.
@@ -173,6 +164,9 @@ seen_more since before t more w w' turn took i =
     let watched = watched_more more events (λ s. items_by s (t ∷ before)) w w' took i.watched in
     let mine_watched = subst (λ (b : Bool). IsWatched (tell t.side b more events) (with_items t.side more (λ s. items_by s (t ∷ before))) w') turn.known
     (subst (λ (s : Side). IsWatched (tell s w.known more events) (with_items s more (λ s. items_by s (t ∷ before))) w') turn.side watched) in
+    let old = i.shown.4.0 in
+    let none : deed_rows since.heading t.when t.side t.deeds ≡ [] = ap (deed_rows since.heading t.when t.side) turn.deeds in
+    let was : i.shown.1 ≡ old = i.shown.4.1 ∙ ap (λ (l : List Shown). old ++ l) none ∙ append-nil old in
     record {
       watched = watched_by _ _ _ _ w' (tell_more t.side t.known t.items more (told_by before))
           (λ s. some_more (is_same t.side s) (items_by s before) t.items more) mine_watched;
@@ -181,30 +175,52 @@ seen_more since before t more w w' turn took i =
       shown = (
         i.shown.0,
         i.shown.1 ++ rs.0,
-        filter-append is_item i.rows rs.0
-            ∙ ap (λ (l : List Shown). filter is_item i.rows ++ l) (all_items since.heading t.when t.side t.known more events rs.0 mine)
-            ∙ ap (λ (l : List Shown). l ++ rs.0) i.shown.2 ∙ append_assoc i.shown.0 i.shown.1 rs.0,
+        ap (λ (l : List Shown). l ++ rs.0) i.shown.2 ∙ append_assoc i.shown.0 i.shown.1 rs.0,
         i.shown.3,
-        item_rows_more since.heading t.when t.side t.known t.items more (told_by before) i.shown.1 rs.0 i.shown.4 mine,
+        (
+          old ++ rs.0,
+          ap (λ (l : List Shown). l ++ rs.0) was ∙ sym (append-nil (old ++ rs.0)) ∙ ap (λ (l : List Shown). (old ++ rs.0) ++ l) (sym none),
+          item_rows_more since.heading t.when t.side t.known t.items more (told_by before) old rs.0 i.shown.4.2 mine,
+        ),
       );
     }
 
--- Rows of something else were appended, or none.
-pub seen_others : (since : Rows) (others : List Shown) (turns : List Turn) (w v : Watch) → v.matcher ≡ w.matcher → v.a ≡ w.a → v.b ≡ w.b
-    → filter is_item others ≡ [] → Appends others w.rows v.rows → IsSeen since turns w → IsSeen since turns v
-seen_others since others turns w v e f g none appends i = record {
-  watched = watched_same (told_by turns) (λ s. items_by s turns) w v e f g i.watched;
-  rows = i.rows ++ others;
-  appends = appends_more i.rows others since w.rows v.rows i.appends appends;
-  shown = subst (λ (l : List Shown). AreTurnRows since.heading turns l)
-      (sym (filter-append is_item i.rows others ∙ ap (λ (l : List Shown). filter is_item i.rows ++ l) none ∙ append-nil (filter is_item i.rows))) i.shown;
-}
+-- What its side did besides was told at a turn's end.
+pub seen_deeds : (since : Rows) (before : List Turn) (t : Turn) (deeds : Deeds) (w v : Watch) → v ≡ record w { rows = v.rows } → IsTurn t w
+    → Appends (deed_rows w.rows.heading w.when t.side deeds) w.rows v.rows → IsSeen since (t ∷ before) w
+    → IsSeen since (record t { deeds = deeds } ∷ before) v
+seen_deeds since before t deeds w v e turn appends i =
+    let told = deed_rows since.heading t.when t.side deeds in
+    let same = subst (λ (x : When). Appends (deed_rows since.heading x t.side deeds) w.rows v.rows) turn.when
+    (subst (λ (x : Heading). Appends (deed_rows x w.when t.side deeds) w.rows v.rows) i.appends.heading appends) in
+    let old = i.shown.4.0 in
+    let none : deed_rows since.heading t.when t.side t.deeds ≡ [] = ap (deed_rows since.heading t.when t.side) turn.deeds in
+    let was : i.shown.1 ≡ old = i.shown.4.1 ∙ ap (λ (l : List Shown). old ++ l) none ∙ append-nil old in
+    record {
+      watched = watched_same (told_by (t ∷ before)) (λ s. items_by s (t ∷ before)) w v (ap (λ (k : Watch). k.matcher) e) (ap (λ (k : Watch). k.a) e)
+          (ap (λ (k : Watch). k.b) e) i.watched;
+      rows = i.rows ++ told;
+      appends = appends_more i.rows told since w.rows v.rows i.appends same;
+      shown = (
+        i.shown.0,
+        i.shown.1 ++ told,
+        ap (λ (l : List Shown). l ++ told) i.shown.2 ∙ append_assoc i.shown.0 i.shown.1 told,
+        i.shown.3,
+        (old, ap (λ (l : List Shown). l ++ told) was, i.shown.4.2),
+      );
+    }
 
 pub seen_turned : (since : Rows) (side : Side) (known : Bool) (when : When) (turns : List Turn) (w v : Watch)
     → v ≡ record w { side = side; known = known; when = when } → IsSeen since turns w → IsSeen since turns v
 seen_turned since side known when turns w v e i =
     let to : Watch = record w { side = side; known = known; when = when } in
-    subst (λ (k : Watch). IsSeen since turns k) (sym e) (seen_others since [] turns w to refl refl refl refl (appends_none w.rows) i)
+    subst (λ (k : Watch). IsSeen since turns k) (sym e)
+    (record {
+      watched = watched_same (told_by turns) (λ s. items_by s turns) w to refl refl refl i.watched;
+      rows = i.rows;
+      appends = i.appends;
+      shown = i.shown;
+    })
 
 both_none : (items : Side → List (ℕ × Item)) → items A ≡ [] → items B ≡ [] → (s : Side) → [] ≡ items s
 both_none items e f A = sym e
@@ -235,40 +251,27 @@ no_events (x ∷ xs) e f = absurd (one_said (said_by A xs) (said_by B xs) (x.mar
 
 -- ---- rows of other things
 
-pub others_by : (h : Heading) (when : When) (side : Side) (before now : Option Refusal) → filter is_item (refusal_rows h when side before now) ≡ []
-others_by h when side None None = refl
-others_by h when side None (Some r) = refl
-others_by h when side (Some r) now = refl
+newly_refused : (h : Heading) (when : When) (side : Side) (before now : Option Refusal)
+    → refusal_rows h when side before now ≡ refusal_rows h when side None (newly before now)
+newly_refused h when side None None = refl
+newly_refused h when side None (Some r) = refl
+newly_refused h when side (Some r) now = refl
 
-pub closes_by : (h : Heading) (when : When) (side : Side) (offset : ℕ) (closed : Option Means) → filter is_item (close_rows h when side offset closed) ≡ []
-closes_by h when side offset None = refl
-closes_by h when side offset (Some by) = refl
+closed_at : (h : Heading) (when : When) (side : Side) (offset : ℕ) (closed : Option Means)
+    → close_rows h when side offset closed ≡ closing_rows h when side (option_map (λ by. (offset, by)) closed)
+closed_at h when side offset None = refl
+closed_at h when side offset (Some by) = refl
 
-abbrev pub shows_none : (w : Watch) → ShowsOthers w w
-shows_none w = record { others = []; no_item = refl; appends = appends_none w.rows }
+-- a refusal that stands now, if none stood before, and a close after so many bytes, if there is one
+abbrev pub deeds_by : Option Refusal → Option Refusal → ℕ → Option Means → Deeds
+deeds_by before now offset closed = record { refused = newly before now; closed = option_map (λ by. (offset, by)) closed }
 
-abbrev pub shows_others : (w w' : Watch) (h : Heading) (when : When) (side : Side) (before now : Option Refusal) (offset : ℕ) (closed : Option Means)
-    → Appends (refusal_rows h when side before now ++ close_rows h when side offset closed) w.rows w'.rows → ShowsOthers w w'
-shows_others w w' h when side before now offset closed i = record {
-  others = refusal_rows h when side before now ++ close_rows h when side offset closed;
-  no_item = filter-append is_item (refusal_rows h when side before now) (close_rows h when side offset closed)
-      ∙ ap (λ (l : List Shown). l ++ filter is_item (close_rows h when side offset closed)) (others_by h when side before now)
-      ∙ closes_by h when side offset closed;
-  appends = i;
-}
-
-pub gaps_none : (h : Heading) (when : Option When) (side : Side) (start : ℕ) (gap : Option Gap) → filter is_item (gap_rows h when side start gap) ≡ []
-gaps_none h when side start None = refl
-gaps_none h None side start (Some gap) = refl
-gaps_none h (Some w) side start (Some gap) = refl
-
--- a row at a packet
-pub at_packet : (r r' : Rows) (end : Option When) (row : When → Shown) (when : When) → end ≡ Some when → Appends (row when ∷ []) r r'
-    → Appends (rows_at end row) r r'
-at_packet r r' end row when e i = subst (λ (o : Option When). Appends (rows_at o row) r r') (sym e) i
-
-pub at_none : (r : Rows) (end : Option When) (row : When → Shown) → end ≡ None → Appends (rows_at end row) r r
-at_none r end row e = subst (λ (o : Option When). Appends (rows_at o row) r r) (sym e) (appends_none r)
+pub deeds_shown : (r r' : Rows) (h : Heading) (when : When) (side : Side) (before now : Option Refusal) (offset : ℕ) (closed : Option Means)
+    → Appends (refusal_rows h when side before now ++ close_rows h when side offset closed) r r'
+    → Appends (deed_rows h when side (deeds_by before now offset closed)) r r'
+deeds_shown r r' h when side before now offset closed i =
+    subst (λ (l : List Shown). Appends (refusal_rows h when side None (newly before now) ++ l) r r') (closed_at h when side offset closed)
+    (subst (λ (l : List Shown). Appends (l ++ close_rows h when side offset closed) r r') (newly_refused h when side before now) i)
 
 pub gap_shown : (r r' : Rows) (end : Option When) (side : Side) (start : ℕ) (first : Option Gap) (gap : Gap) (offset : ℕ)
     → first ≡ Some gap → offset ≡ gap.place - start
@@ -281,11 +284,6 @@ gap_shown r r' end side start first gap offset e g i =
 pub gap_unshown : (r : Rows) (end : Option When) (side : Side) (start : ℕ) (first : Option Gap) → first ≡ None
     → Appends (gap_rows r.heading end side start first) r r
 gap_unshown r end side start first e = subst (λ (o : Option Gap). Appends (gap_rows r.heading end side start o) r r) (sym e) (appends_none r)
-
-pub inside_none : (h : Heading) (when : Option When) (side : Side) (r : Option Refusal) → filter is_item (inside_rows h when side r) ≡ []
-inside_none h when side None = refl
-inside_none h None side (Some r) = refl
-inside_none h (Some w) side (Some r) = refl
 
 pub inside_shown : (r r' : Rows) (end : Option When) (side : Side) (o : Option Refusal) (f : Refusal) → o ≡ Some f
     → Appends (rows_at end (λ when. row_at r.heading when side f.at (deed.Refused f) no_remarks)) r r' → Appends (inside_rows r.heading end side o) r r'

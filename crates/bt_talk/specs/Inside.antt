@@ -1,7 +1,9 @@
 -- A stream that ends inside an item, though nothing cut it.
-use Rattle.std.specs.Prelude.{◌≡◌, Bool, true, false, List, [], Option, Some, None}
+use Rattle.std.specs.Prelude.{◌≡◌, ℕ, Bool, true, false, List, [], ◌++◌, Option, Some, None, unwrap_or}
 use Rattle.bt_flow.specs.Flows.{AreGapsOf}
+use Rattle.bt_intro.specs.Hellos.{IsStartOf}
 use Rattle.bt_remarks.specs.declared.events.Side.{Side}
+use Rattle.bt_remarks.specs.declared.events.Side.TheVariants.{A, B}
 use Rattle.bt_remarks.specs.Said.{other}
 use Rattle.bt_tcp.specs.declared.covered.Gap.{Gap}
 use Rattle.bt_tcp.specs.declared.covered.Gaps.{Gaps}
@@ -16,7 +18,8 @@ use Rattle.bt_talk.specs.declared.refused.Judgement.{Judgement}
 use Rattle.bt_talk.specs.declared.rows.Heading.{Heading}
 use Rattle.bt_talk.specs.declared.rows.Rows.{Rows}
 use Rattle.bt_talk.specs.declared.talk.Talk.{Talk}
-use Rattle.bt_talk.specs.Courses.{end_of, rows_at, no_remarks}
+use Rattle.bt_talk.specs.Courses.{end_of, gap_rows, rows_at, no_remarks}
+use Rattle.bt_talk.specs.Marks.{HasBegun}
 use Rattle.bt_talk.specs.Pasts.{Past}
 use Rattle.bt_talk.specs.Receivers.{AreVerdicts}
 use Rattle.bt_talk.specs.Rows.{Shown, row_at}
@@ -56,3 +59,21 @@ pub record ShowsInside (side : Side) (t : Talk) (r r' : Rows) : Type 0 where
   pub refusal : Option Refusal
   pub is : (a b : Past) → IsTalk a b t → EndsInside side a b t refusal
   pub appends : Appends (inside_rows r.heading (end_of side t.courses) side refusal) r r'
+
+-- The last rows of a side: its refusal, if its stream ends inside an item though nothing cut it, and its first gap, if it has one.
+pub record AreLastRows (h : Heading) (side : Side) (a b : Past) (t : Talk) (rows : List Shown) : Type 0 where
+  pub refusal : Option Refusal
+  pub inside : EndsInside side a b t refusal
+  pub gaps : Gaps
+  pub gaps_are : let p = of_side side a b in AreGapsOf p.heard p.segs p.out (flow_of side t) gaps
+  pub start : Option ℕ
+  pub start_is : IsStartOf (of_side side a b).front start
+  pub is : rows ≡ inside_rows h (end_of side t.courses) side refusal ++ gap_rows h (end_of side t.courses) side (unwrap_or start 0) gaps.first
+
+abbrev pub AreEndRowsBy : Bool → Heading → Past → Past → Talk → List Shown → Type 0
+AreEndRowsBy false h a b t rows = rows ≡ []
+AreEndRowsBy true h a b t rows = (x : List Shown) × (y : List Shown) × AreLastRows h A a b t x × AreLastRows h B a b t y × (rows ≡ x ++ y)
+
+-- The rows at a connection's end, if one of the sides has begun a handshake: the last ones of A, and then those of B.
+abbrev pub AreEndRows : Heading → Past → Past → Talk → List Shown → Type 0
+AreEndRows h a b t rows = (begun : Bool) × HasBegun a b begun × AreEndRowsBy begun h a b t rows

@@ -1,8 +1,9 @@
 -- The order in which the items of an opening are judged.
-use Rattle.std.specs.Prelude.{◌≡◌, ℕ, max, Bool, false, not, ◌&&◌, List, [], ◌∷◌, reverse, drop, take, Option, Some, None, is_some, if◌then◌else◌}
+use Rattle.std.specs.Prelude.{◌≡◌, ℕ, ◌-◌, max, Bool, true, false, not, ◌&&◌, ◌||◌, List, [], ◌∷◌, reverse, drop, take, if◌then◌else◌}
+use Rattle.std.specs.Prelude.{Option, Some, None, is_some, option_map, unwrap_or}
 use Rattle.bt_ext.specs.declared.ids.Rules.TheVariants.{Free}
 use Rattle.bt_intro.specs.declared.settling.Receiver.{Receiver}
-use Rattle.bt_intro.specs.Hellos.{IsFirstHello}
+use Rattle.bt_intro.specs.Hellos.{IsFirstHello, IsStartOf}
 use Rattle.bt_judge.specs.Judges.{under}
 use Rattle.bt_judge.specs.Readings.{IsStanding}
 use Rattle.bt_remarks.specs.declared.events.Side.{Side}
@@ -15,7 +16,7 @@ use Rattle.bt_talk.specs.declared.replay.Mark.{Mark}
 use Rattle.bt_talk.specs.declared.stage.Stage.{Stage}
 use Rattle.bt_talk.specs.Pasts.{Past}
 use Rattle.bt_talk.specs.Receivers.{AreItems}
-use Rattle.bt_talk.specs.Shown.{Turn, items_by}
+use Rattle.bt_talk.specs.Shown.{Deeds, Turn, items_by, newly, no_deeds}
 use Rattle.bt_talk.specs.Stages.{AreItemsIn, receiver_in}
 
 -- what belongs to a side
@@ -51,6 +52,24 @@ abbrev pub IsKnownTo : Option Receiver → ℕ → Past → Bool → Bool → Ty
 IsKnownTo None n p whole known = known ≡ false
 IsKnownTo (Some r) n p whole known = (f : Option Refusal) × IsRefusedBy (Some r) (upto n p) f × (known ≡ (whole && not (is_some f)))
 
+-- A refusal stands of a side's first m bytes that doesn't stand of its first n; or none does.
+abbrev pub IsRefusedSince : Option Receiver → (n m : ℕ) → Past → Option Refusal → Type 0
+IsRefusedSince receiver n m p refused =
+    (before : Option Refusal) × (now : Option Refusal) × IsRefusedBy receiver (upto n p) before × IsRefusedBy receiver (upto m p) now
+    × (refused ≡ newly before now)
+
+-- One of the sides has begun a handshake in the opening, or none has.
+abbrev pub HasBegun : Past → Past → Bool → Type 0
+HasBegun a b begun = (x : Option ℕ) × (y : Option ℕ) × IsStartOf a.front x × IsStartOf b.front y × (begun ≡ (is_some x || is_some y))
+
+-- What a side did with a mark besides items, if one of the sides has begun a handshake: its first bytes are judged up to n before the mark, and up to k
+-- with it. How far its captured bytes reached when it closed counts from its handshake on.
+abbrev pub AreMarkDeeds : Bool → Option Receiver → (n k : ℕ) → Past → Mark → Deeds → Type 0
+AreMarkDeeds false receiver n k p m d = d ≡ no_deeds
+AreMarkDeeds true receiver n k p m d =
+    IsRefusedSince receiver n k p d.refused × (start : Option ℕ) × IsStartOf p.front start
+    × (d.closed ≡ option_map (λ by. (m.high - unwrap_or start 0, by)) m.closed)
+
 -- The turn of a mark, after the turns of earlier marks: p and q were captured of A and B, and are judged by the receivers x and y. Its items are those that
 -- its side's first bytes have up to the mark, besides those of its earlier turns.
 pub record IsTurnOf (p q : Past) (x y : Option Receiver) (earlier : List Mark) (m : Mark) (before : List Turn) (t : Turn) : Type 0 where
@@ -58,6 +77,9 @@ pub record IsTurnOf (p q : Past) (x y : Option Receiver) (earlier : List Mark) (
   pub when : t.when ≡ m.when
   pub known : IsKnownTo (by_side (other m.side) x y) (reach_of (other m.side) earlier) (by_side (other m.side) p q) m.is_whole t.known
   pub items : AreItemsTo (by_side m.side x y) (reach_of m.side (m ∷ earlier)) (by_side m.side p q) (items_by m.side (t ∷ before))
+  pub begun : Bool
+  pub has_begun : HasBegun p q begun
+  pub deeds : AreMarkDeeds begun (by_side m.side x y) (reach_of m.side earlier) (reach_of m.side (m ∷ earlier)) (by_side m.side p q) m t.deeds
 
 -- Each mark has its turn; of both the newest stands first.
 abbrev pub AreTurnsOf : Past → Past → Option Receiver → Option Receiver → List Mark → List Turn → Type 0
@@ -82,7 +104,9 @@ pub record AreOpenedBy (marks : List Mark) (p q : Past) (s s' : Stage) (turns : 
   pub x_known : x.known ≡ false
   pub x_when : IsLatest (reverse marks) x.when
   pub x_items : AreItemsIn s p (items_by A (x ∷ before))
+  pub x_deeds : x.deeds ≡ no_deeds
   pub y_side : y.side ≡ B
   pub y_known : y.known ≡ false
   pub y_when : IsLatest (reverse marks) y.when
   pub y_items : AreItemsIn s' q (items_by B (y ∷ x ∷ before))
+  pub y_deeds : y.deeds ≡ no_deeds

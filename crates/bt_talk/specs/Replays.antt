@@ -3,9 +3,8 @@ use Rattle.bt_talk.specs.declared.terms.Terms.{Terms}
 use Rattle.std.specs.Prelude.{◌≡◌, ◌≤◌, ℕ, ◌+◌, ◌-◌, ◌^◌, min, max, nat_le, Bool, true, false, List, [], ◌∷◌, ◌++◌, drop, take, length}
 use Rattle.std.specs.Prelude.{Option, Some, None, Box}
 use Rattle.std.specs.declared.alloc.Global.{Global}
-use Rattle.std.specs.List.{filter}
 use Rattle.bt_intro.specs.declared.settling.Receiver.{Receiver}
-use Rattle.bt_intro.specs.Hellos.{IsFirstHello}
+use Rattle.bt_intro.specs.Hellos.{IsFirstHello, IsStartOf}
 use Rattle.bt_intro.specs.Hearing.{IsHeardOf}
 use Rattle.bt_judge.specs.Judges.{AreJudged}
 use Rattle.bt_remarks.specs.declared.events.Side.{Side}
@@ -18,16 +17,16 @@ use Rattle.bt_talk.specs.declared.replay.Mark.{Mark}
 use Rattle.bt_talk.specs.declared.replay.Opened.{Opened}
 use Rattle.bt_talk.specs.declared.replay.Replay.{Replay}
 use Rattle.bt_talk.specs.Cuts.{IsCutBy, IsCutNow, cut_length}
-use Rattle.bt_talk.specs.Marks.{AreOpenedBy, AreTurnsOf, IsKnownTo, IsLatest, reach_of, upto}
+use Rattle.bt_talk.specs.Marks.{AreMarkDeeds, AreOpenedBy, AreTurnsOf, HasBegun, IsKnownTo, IsLatest, reach_of, upto}
 use Rattle.bt_talk.specs.Stages.{IsStage, AreItemsIn, IsHeard, receiver_in}
 use Rattle.bt_talk.specs.declared.stage.Stage.{Stage}
 use Rattle.bt_talk.specs.declared.stage.Judged.{Judged}
 use Rattle.bt_talk.specs.declared.watch.Watch.{Watch}
 use Rattle.bt_talk.specs.Pasts.{Past}
 use Rattle.bt_talk.specs.declared.rows.Rows.{Rows}
-use Rattle.bt_talk.specs.Rows.{Shown, is_item}
+use Rattle.bt_talk.specs.Rows.{Shown}
 use Rattle.bt_talk.specs.Shows.{Appends}
-use Rattle.bt_talk.specs.Shown.{IsSeen, Turn, told_by, items_by, AreTurnRows}
+use Rattle.bt_talk.specs.Shown.{IsSeen, Turn, told_by, items_by, no_deeds, AreTurnRows}
 
 -- Of what the side sent from its handshake on these bytes are taken, and these are left; those that were taken are judged, and have these items.
 pub record IsJudgedTo (p : Past) (start : ℕ) (taken : List ℕ) (xs : List (ℕ × Item)) (left : List ℕ) (j : Judged) : Type 0 where
@@ -88,6 +87,7 @@ IsReached start n taken left (Ahead m after) =
 
 -- These items of a side's opening are judged by its receiver, if there is one, as far as its first n bytes reach.
 pub record IsReplay (p : Past) (receiver : Option Receiver) (cut : Option ℕ) (n : ℕ) (xs : List (ℕ × Item)) (r : Replay) : Type 0 where
+  pub begun : IsStartOf p.front r.start
   pub start : ℕ
   pub taken : List ℕ
   pub is : IsReplayOf p receiver cut start taken xs r.rest.now r.judged r.close
@@ -96,11 +96,12 @@ pub record IsReplay (p : Past) (receiver : Option Receiver) (cut : Option ℕ) (
 
 -- ---- one turn
 
--- It is this turn.
+-- It is this turn, in which nothing besides items is told yet.
 pub record IsTurn (t : Turn) (w : Watch) : Type 0 where
   pub side : w.side ≡ t.side
   pub known : w.known ≡ t.known
   pub when : w.when ≡ t.when
+  pub deeds : t.deeds ≡ no_deeds
 
 -- In this turn items of its side were judged, as far as the side's first n bytes reach.
 pub record IsReplayed (since : Rows) (p : Past) (receiver : Option Receiver) (cut : Option ℕ) (n : ℕ) (before : List Turn) (t : Turn) (r : Replay) (w : Watch)
@@ -138,6 +139,9 @@ pub record GoesTo (since : Rows) (m : Mark) (p q : Past) (x y : Option Receiver)
   pub when : turn.when ≡ m.when
   pub known : IsKnownTo y k q m.is_whole turn.known
   pub is : IsReplay p x cut (max m.length n) (items_by m.side (turn ∷ before)) r
+  pub begun : Bool
+  pub has_begun : HasBegun p q begun
+  pub deeds : AreMarkDeeds begun x n (max m.length n) p m turn.deeds
   pub seen : IsSeen since (turn ∷ before) w
   pub now : w.when ≡ m.when
 
@@ -179,6 +183,7 @@ pub record IsFinished (since : Rows) (terms : Terms) (p q : Past) (receiver : Op
   pub turn : Turn
   pub side_is : turn.side ≡ side
   pub known : turn.known ≡ false
+  pub deeds : turn.deeds ≡ no_deeds
   pub when : turn.when ≡ w.when
   pub now : w'.when ≡ w.when
   pub is : IsOpened terms p q cut o
@@ -186,8 +191,7 @@ pub record IsFinished (since : Rows) (terms : Terms) (p q : Past) (receiver : Op
   pub items_are : AreItemsIn o.stage p (items_by side (turn ∷ before))
   pub seen : IsSeen since (turn ∷ before) w'
 
--- The opening ended. These are the items and the events of both sides, in the turns that the marks make, and rows show each item, in order; some rows show
--- none.
+-- The opening ended. These are the items and the events of both sides, in the turns that the marks make, and the rows of these turns, in order.
 pub record HasOpened (marks : List Mark) (p q : Past) (s s' : Stage) (w : Watch) (r r' : Rows) : Type 0 where
   pub heard : IsHeard p q s s' w
   pub turns : List Turn
@@ -195,5 +199,5 @@ pub record HasOpened (marks : List Mark) (p q : Past) (s s' : Stage) (w : Watch)
   pub items_are : (side : Side) → heard.items side ≡ items_by side turns
   pub rows : List Shown
   pub appends : Appends rows r r'
-  pub shown : AreTurnRows r.heading turns (filter is_item rows)
+  pub shown : AreTurnRows r.heading turns rows
   pub opened_by : AreOpenedBy marks p q s s' turns

@@ -1,10 +1,9 @@
 -- The rows of what the sides of a connection do, as text.
-use Rattle.std.specs.Prelude.{ℕ, ◌-◌, Bool, true, false, List, []}
+use Rattle.std.specs.Prelude.{ℕ, ◌-◌, List, []}
 use Rattle.std.specs.List.{flat_map}
 use Rattle.bt_remarks.specs.declared.events.Remarks.{Remarks}
 use Rattle.bt_remarks.specs.declared.events.Side.{Side}
 use Rattle.bt_told.specs.declared.rows.Deed.{Deed}
-use Rattle.bt_told.specs.declared.rows.Deed.TheVariants.{Item, Refused, Gap, Closed}
 use Rattle.bt_told.specs.declared.rows.Row.{Row}
 use Rattle.bt_told.specs.Rows.{row_text, row_object}
 use Rattle.bt_talk.specs.declared.closing.When.{When}
@@ -32,13 +31,3 @@ row_at h when side offset deed remarks = record {
   packet = when.packet;
   row = record { connection = h.connection; at = when.nanos - h.start; side = side; offset = offset; deed = deed; remarks = remarks };
 }
-
-abbrev pub is_item_deed : Deed → Bool
-is_item_deed (Item words) = true
-is_item_deed (Refused r) = false
-is_item_deed (Gap n) = false
-is_item_deed (Closed by) = false
-
--- The row shows an item.
-abbrev pub is_item : Shown → Bool
-is_item s = is_item_deed s.row.deed

@@ -1,8 +1,9 @@
 -- A connection: what was captured of both sides, and how a segment adds to it.
 use Rattle.bt_talk.specs.declared.terms.Terms.{Terms}
-use Rattle.std.specs.Prelude.{◌≡◌, ℕ, ◌+◌, ◌-◌, min, ◌^◌, Bool, true, false, not, ◌||◌, nat_le, List, [], ◌∷◌, ◌++◌, length, ◌↔◌}
-use Rattle.std.specs.Prelude.{Option, Some, None, is_some, unwrap_or, if◌then◌else◌}
-use Rattle.std.specs.List.{filter}
+use Rattle.std.specs.Prelude.{◌≡◌, ℕ, ◌+◌, ◌-◌, min, ◌^◌, Bool, true, false, not, ◌||◌, ◌&&◌, ◌==◌, nat_le, nat_lt, List, [], ◌∷◌, ◌++◌, length, ◌↔◌}
+use Rattle.std.specs.Prelude.{Option, Some, None, is_some, option_map, unwrap_or, if◌then◌else◌}
+use Rattle.std.specs.Bool.{then_some}
+use Rattle.std.specs.Option.{option_or}
 use Rattle.bt_remarks.specs.declared.events.Side.{Side}
 use Rattle.bt_remarks.specs.declared.events.Side.TheVariants.{A, B}
 use Rattle.bt_remarks.specs.Said.{Told, other, is_same}
@@ -15,7 +16,6 @@ use Rattle.bt_tcp.specs.declared.covered.Gaps.{Gaps}
 use Rattle.bt_told.specs.declared.report.Means.{Means}
 use Rattle.bt_talk.specs.declared.direction.Direction.{Direction}
 use Rattle.bt_talk.specs.declared.replay.Mark.{Mark}
-use Rattle.bt_talk.specs.declared.rows.Heading.{Heading}
 use Rattle.bt_talk.specs.declared.rows.Rows.{Rows}
 use Rattle.bt_talk.specs.declared.talk.Talk.{Talk}
 use Rattle.bt_talk.specs.declared.watch.Watch.{Watch}
@@ -26,13 +26,13 @@ use Rattle.bt_talk.specs.declared.closing.When.{When}
 use Rattle.bt_wire.specs.declared.item.Item.{Item}
 use Rattle.bt_wire.specs.declared.item.Refusal.{Refusal}
 use Rattle.bt_talk.specs.Watching.{IsWatched, tell, with_items}
-use Rattle.bt_talk.specs.Rows.{Shown, is_item}
+use Rattle.bt_talk.specs.Rows.{Shown}
 use Rattle.bt_talk.specs.Shows.{Appends}
-use Rattle.bt_talk.specs.Shown.{AreTurnRows, GoesShown, IsShown, Turn, items_by, told_by}
+use Rattle.bt_talk.specs.Shown.{AreRowsOfTurn, Deeds, GoesShown, Turn, items_by, newly, no_deeds, told_by}
 use Rattle.bt_talk.specs.Closing.{Closes}
-use Rattle.bt_talk.specs.Courses.{close_rows, closes_by, course_of, end_of, gap_rows, refusal_rows}
+use Rattle.bt_talk.specs.Courses.{closes_by, course_of, end_of, gap_rows}
 use Rattle.bt_talk.specs.Cuts.{cut_length, cut_after}
-use Rattle.bt_talk.specs.Marks.{AreOpenedBy}
+use Rattle.bt_talk.specs.Marks.{AreOpenedBy, HasBegun}
 use Rattle.bt_talk.specs.Replays.{HasOpened}
 use Rattle.bt_talk.specs.Sent.{SendsOn}
 use Rattle.bt_talk.specs.Stages.{AreItemsIn, IsDirection, IsHeard, IsKnown, IsRefusedIn, is_opening}
@@ -81,6 +81,10 @@ watch_of t = t.watch
 -- the marks of the opening, of which the oldest stands first
 abbrev pub marks_of : Talk → List Mark
 marks_of t = t.marks.items
+
+-- the packet with which a side's stream grew last, if a byte of it was captured
+abbrev pub grown_with : Side → Talk → Option When
+grown_with side t = (course_of side t.courses).grown
 
 -- The side has sent a FIN or a RST.
 abbrev pub has_closed : Side → Talk → Bool
@@ -149,45 +153,36 @@ pub record Says (s : Segment) (side : Side) (a b a' b' : Past) (t t' : Talk) : T
   pub follow : (events : List Told) (before : Side → List (ℕ × Item)) → IsWatched events before t.watch
       → IsWatched (tell side known items events) (with_items side items before) t'.watch
 
--- The sender's items that a segment completes follow all events that came before, of both sides. Rows are appended: one for each item,
--- in order, and then others, which show no item.
-pub record Shows (s : Segment) (when : When) (t t' : Talk) (r r' : Rows) : Type 0 where
-  pub side : Side
-  pub is_side : IsSender s t side
-  pub known : Bool
-  pub items : List (ℕ × Item)
-  pub others : List Shown
-  pub no_item : filter is_item others ≡ []
-  pub follow : (events : List Told) (before : Side → List (ℕ × Item)) → IsWatched events before t.watch
-      → (rows : List Shown) × IsShown r.heading when side known items events before t'.watch rows × Appends (rows ++ others) r r'
-
--- A side has begun a handshake, or none has.
-abbrev pub HasBegun : Past → Past → Bool → Type 0
-HasBegun a b begun = (x : Option ℕ) × (y : Option ℕ) × IsStartOf a.front x × IsStartOf b.front y × (begun ≡ (is_some x || is_some y))
-
 -- So far a side's captured bytes reach, from its handshake on, or from its first byte if it has begun none.
 abbrev pub IsReachOf : Side → Past → Past → Talk → ℕ → Type 0
 IsReachOf side a b t offset =
     (start : Option ℕ) × IsStartOf (of_side side a b).front start × (offset ≡ high_in (of_side side a b).heard (flow_of side t).stream - unwrap_or start 0)
 
-abbrev pub AreOthersBy : Bool → Heading → When → Side → Option Refusal → Option Means → Past → Past → Talk → List Shown → Type 0
-AreOthersBy false h when side before closed a b t others = others ≡ []
-AreOthersBy true h when side before closed a b t others =
+abbrev pub AreDeedsBy : Bool → Side → Option Refusal → Option Means → Past → Past → Talk → Deeds → Type 0
+AreDeedsBy false side before closed a b t d = d ≡ no_deeds
+AreDeedsBy true side before closed a b t d =
     (now : Option Refusal) × (offset : ℕ) × IsRefusedIn (direction_of side t).stage (of_side side a b) now × IsReachOf side a b t offset
-    × (others ≡ refusal_rows h when side before now ++ close_rows h when side offset closed)
+    × (d ≡ record { refused = newly before now; closed = option_map (λ by. (offset, by)) closed })
 
--- The rows of what a side did with a packet besides items, if one of the sides has begun a handshake: a refusal that stands since then, and a close.
-abbrev pub AreOthers : Heading → When → Side → Option Refusal → Option Means → Past → Past → Talk → List Shown → Type 0
-AreOthers h when side before closed a b t others = (begun : Bool) × HasBegun a b begun × AreOthersBy begun h when side before closed a b t others
+-- What a side did with a packet besides items, if one of the sides has begun a handshake: a refusal stands since then, and it closed.
+abbrev pub AreDeeds : Side → Option Refusal → Option Means → Past → Past → Talk → Deeds → Type 0
+AreDeeds side before closed a b t d = (begun : Bool) × HasBegun a b begun × AreDeedsBy begun side before closed a b t d
 
--- The rows show what the segment says, and then a refusal and a close of its side.
-pub record ShowsSaid (s : Segment) (when : When) (side : Side) (a b a' b' : Past) (t t' : Talk) (r r' : Rows) (says : Says s side a b a' b' t t')
-    (shows : Shows s when t t' r r') : Type 0 where
-  pub known : shows.known ≡ says.known
-  pub items : shows.items ≡ says.items
+-- What the sender of a segment did with it besides items. Before it the connection was t, and after it t', of which this was captured.
+pub record Did (s : Segment) (side : Side) (a b a' b' : Past) (t t' : Talk) : Type 0 where
+  pub deeds : Deeds
   pub before : Option Refusal
   pub before_is : IsRefusedIn (direction_of side t).stage (of_side side a b) before
-  pub others : AreOthers r.heading when side before (closes_by s.flags (has_closed side t)) a' b' t' shows.others
+  pub are : AreDeeds side before (closes_by s.flags (has_closed side t)) a' b' t' deeds
+
+-- The turn of a segment after the opening: the items that it completes are its sender's, and so is what is done besides.
+abbrev pub turn_by : {s : Segment} {side : Side} {a b a' b' : Past} {t t' : Talk} → When → Says s side a b a' b' t t' → Did s side a b a' b' t t' → Turn
+turn_by {s} {side} when says did = record { side = side; known = says.known; when = when; items = says.items; deeds = did.deeds }
+
+-- Rows are appended: those of a turn that follows all events that came before.
+pub record ShowsTurn (turn : Turn) (t : Talk) (r r' : Rows) : Type 0 where
+  pub shown : (events : List Told) (before : Side → List (ℕ × Item)) → IsWatched events before t.watch
+      → (rows : List Shown) × AreRowsOfTurn r.heading turn events rows × Appends rows r r'
 
 -- ---- the marks of the opening
 
@@ -222,6 +217,14 @@ IsMarked s when side a' b' t t' marks =
 -- The side has closed, also with this segment.
 abbrev pub closed_after : Segment → Side → Talk → Side → Bool
 closed_after s side t k = if is_same side k then has_closed k t || (s.flags.fin || s.flags.rst) else has_closed k t
+
+-- The segment has the first captured byte of its sender, or the sender's stream grew with it from so many bytes to so many.
+abbrev pub grows_by : Segment → Option When → (before after : ℕ) → Bool
+grows_by s grown before after = (not s.flags.rst && not (length s.payload.now == 0)) && not (is_some grown) || nat_lt before after
+
+abbrev pub grown_after : Segment → When → Side → (before after : ℕ) → Talk → Side → Option When
+grown_after s when side before after t k =
+    if is_same side k then option_or (then_some (grows_by s (grown_with k t) before after) when) (grown_with k t) else grown_with k t
 
 -- One side sent a segment.
 pub record Exchanges (s : Segment) (a b : Past) (t t' : Talk) : Type 0 where
@@ -262,10 +265,13 @@ pub record Takes (s : Segment) (when : When) (a b : Past) (t t' : Talk) : Type 0
   pub stream : (flow_of (other side) t').stream ≡ (flow_of (other side) t).stream
   pub noted : (flow_of (other side) t').noted ≡ (flow_of (other side) t).noted
   pub said : is_in_opening t ≡ false → Says s side a b a' b' t t'
+  pub did : is_in_opening t ≡ false → Did s side a b a' b' t t'
   pub marks : List Mark
   pub marked : is_in_opening t ≡ true → IsMarked s when side a' b' t t' marks
   pub kept : is_in_opening t' ≡ true → marks_of t' ≡ marks_of t ++ marks
   pub shut : (k : Side) → has_closed k t' ≡ closed_after s side t k
+  pub began : began_with t' ≡ option_or (began_with t) (Some when)
+  pub grown : (k : Side) → grown_with k t' ≡ grown_after s when side (length (of_side side a b).out) (length (of_side side a' b').out) t k
 
 -- These turns came, the newest first: their items are those that are judged of both sides. In the opening there are none.
 pub record HasHeard (turns : List Turn) (a b : Past) (t : Talk) : Type 0 where
@@ -293,27 +299,8 @@ pub record HasSettled (s : Segment) (when : When) (a b : Past) (t t' : Talk) (to
 pub record TakesAll (s : Segment) (when : When) (a b : Past) (t t' : Talk) (r r' : Rows) (wanted : Option Side) (sent : List ℕ) : Type 0 where
   pub took : Takes s when a b t t'
   pub settled : is_in_opening t ≡ true → HasSettled s when a b t t' took r r'
-  pub shows : is_in_opening t ≡ false → Shows s when t t' r r'
-  pub says : (o : is_in_opening t ≡ false) → ShowsSaid s when took.side a b took.a' took.b' t t' r r' (took.said o) (shows o)
+  pub shows : (o : is_in_opening t ≡ false) → ShowsTurn (turn_by when (took.said o) (took.did o)) t r r'
   pub sends : (side : Side) → wanted ≡ Some side → SendsOn (is_in_opening t) (of_side side a b) (is_in_opening t') (of_side side took.a' took.b') sent
-
--- These rows show the items of both sides, as far as their streams are judged: a row for each item, those of a side in its order. It has the
--- remarks on the item after those of the rows before it.
-pub record AreShown (h : Heading) (a b : Past) (t : Talk) (rows : List Shown) : Type 0 where
-  pub heard : IsHeard a b t.a.stage t.b.stage t.watch
-  pub turns : List Turn
-  pub told : heard.events ≡ told_by turns
-  pub items_are : (side : Side) → heard.items side ≡ items_by side turns
-  pub are : AreTurnRows h turns rows
-
--- In the opening there are no rows. After it they show the items.
-abbrev pub AreShownIn : Bool → Heading → Past → Past → Talk → List Shown → Type 0
-AreShownIn true h a b t rows = rows ≡ []
-AreShownIn false h a b t rows = AreShown h a b t rows
-
--- Rows are appended. With those before, they show all items of both sides; some rows show none.
-abbrev pub ShowsMore : Bool → Heading → Rows → Rows → Past → Past → Talk → List Shown → Type 0
-ShowsMore opening h r r' a b t before = (rows : List Shown) × Appends rows r r' × AreShownIn opening h a b t (before ++ filter is_item rows)
 
 -- The row of a side's first gap was appended, if it has one.
 pub record ShowsGap (side : Side) (t : Talk) (r r' : Rows) : Type 0 where

@@ -1,6 +1,6 @@
 //! The bytes of the opening, which are judged at its end in the order of the packets.
 ghost use Rattle.bt_talk.specs.declared.terms.Terms.{Terms};
-ghost use Rattle.std.specs.Prelude.{◌≡◌, ◌<◌, ◌≤◌, ◌++◌, ◌∷◌, ℕ, List, [], true, false, drop, length, max, reverse, IfOk, OnOk, IfSome, Option};
+ghost use Rattle.std.specs.Prelude.{◌≡◌, ◌<◌, ◌≤◌, ◌++◌, ◌∷◌, ℕ, List, [], Bool, true, false, drop, length, max, reverse, IfOk, OnOk, IfSome, Option};
 ghost use Rattle.bt_intro.specs.declared.settling.Receiver.{Receiver};
 ghost use Rattle.bt_intro.specs.Hellos.{IsStartOf};
 ghost use Rattle.bt_feed.specs.Pumps.{Took};
@@ -10,12 +10,13 @@ ghost use Rattle.bt_wire.specs.declared.item.Item.{Item};
 ghost use Rattle.bt_talk.specs.Cuts.{IsCutBy, cut_length};
 ghost use Rattle.bt_talk.specs.Pasts.{Past};
 ghost use Rattle.bt_talk.specs.Receivers.{IsReceiver};
-ghost use Rattle.bt_talk.specs.Marks.{IsKnownTo, upto};
+ghost use Rattle.bt_talk.specs.Marks.{AreMarkDeeds, HasBegun, IsKnownTo, IsRefusedBy, upto};
 ghost use Rattle.bt_talk.specs.Stages.{AreItemsIn, is_opening, receiver_in};
 ghost use Rattle.bt_talk.specs.Replays.{Aim, IsReplay, IsReplayBy, IsReplayOf, IsParted, IsOpened, IsFinished, GoesTo, PassesAt, PassesTo};
 ghost use Rattle.bt_talk.specs.Replays.{HasOpened, Replays, AreReplayed, AreReplays, close_length, closes_to, is_passed};
 ghost use Rattle.bt_talk.specs.declared.rows.Rows.{Rows};
-ghost use Rattle.bt_talk.specs.Shown.{IsSeen, ShowsOthers, Turn, items_by};
+ghost use Rattle.bt_talk.specs.Shown.{Deeds, IsSeen, Turn, deed_rows, items_by};
+ghost use Rattle.bt_talk.specs.Shows.{Appends};
 ghost use Rattle.bt_talk.specs.Watching.{IsLast, Watches};
 
 use crate::closing::When;
@@ -122,7 +123,7 @@ fn judge_more(
 impl<'a> Replay<'a> {
     /// Returns that of a side without a handshake.
     pub(crate) fn none(start: Option<usize>, cut: Option<Cut>) -> Replay<'a>
-        ensures { (p : Past) → IsReplay p None (cut_length cut) 0 [] result }
+        ensures { (p : Past) → IsStartOf p.front start → IsReplay p None (cut_length cut) 0 [] result }
     {
         Replay {
             start,
@@ -181,7 +182,10 @@ impl<'a> Replay<'a> {
     }
 
     /// Returns the refusal of the stream under the lenient rules, if there is one.
-    fn refusal(&self) -> Option<Refusal> {
+    fn refusal(&self) -> Option<Refusal>
+        ensures { (p : Past) (receiver : Option Receiver) (cut : Option ℕ) (n : ℕ) (xs : List (ℕ × Item)) → IsReplay p receiver cut n xs self.now
+            → IsRefusedBy receiver (upto n p) result }
+    {
         match &self.judged {
             Some(judged) => judged.judge.refusal(),
             None => None,
@@ -200,7 +204,10 @@ impl<'a> Replay<'a> {
         mark: &Mark,
         watch: &mut Watch,
     ) -> Result<(), AllocError>
-        ensures rows { OnOk result (ShowsOthers watch.old watch.new) }
+        ensures deeds { OnOk result ((p q : Past) (x y : Aim) (n k m : ℕ) (xs ys : List (ℕ × Item)) → IsReplay p x.receiver x.cut n xs self.now
+            → IsReplay q y.receiver y.cut k ys theirs.now → IsRefusedBy x.receiver (upto m p) before
+            → (deeds : Deeds) × (begun : Bool) × HasBegun p q begun × AreMarkDeeds begun x.receiver m n p mark.now deeds
+            × Appends (deed_rows watch.old.rows.heading watch.old.when mark.now.side deeds) watch.old.rows watch.new.rows) }
         ensures rest { watch.new ≡ record watch.old { rows = watch.new.rows } }
     {
         let is_torrent = self.start.is_some() || theirs.start.is_some();

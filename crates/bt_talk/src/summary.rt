@@ -35,11 +35,10 @@ impl Talk {
     ghost use Rattle.bt_talk.specs.Talks.{IsTalk, ShowsGap, terms_of, closing_of, IsSender, is_in_opening, flow_of, cut_of, of_side};
     ghost use Rattle.bt_talk.specs.Receivers.{AreVerdicts, IsReceiverNow};
     ghost use Rattle.bt_talk.specs.Cuts.{IsLastBefore};
-    ghost use Rattle.std.specs.List.{filter};
-    ghost use Rattle.bt_talk.specs.Inside.{EndsInside, ShowsInside};
+    ghost use Rattle.bt_talk.specs.Inside.{AreEndRows, AreLastRows, EndsInside, ShowsInside};
     ghost use Rattle.bt_talk.specs.Rooms.{rows_in};
     ghost use Rattle.bt_talk.specs.Courses.{end_of, no_remarks, rows_at};
-    ghost use Rattle.bt_talk.specs.Rows.{Shown, is_item, row_at};
+    ghost use Rattle.bt_talk.specs.Rows.{Shown, row_at};
     ghost use Rattle.bt_talk.specs.Shows.{Appends};
     ghost use Rattle.bt_talk.specs.Watching.{AreRemarked};
     ghost use Rattle.bt_talk.specs.Unanswered.{HaveFast, IsEnding, AreUnanswered};
@@ -100,7 +99,8 @@ impl Talk {
 
     /// Appends to the rows of the room the last ones of a side.
     fn show_last(&self, side: Side, room: &mut Room) -> Result<(), AllocError>
-        ensures others { OnOk result ((others : List Shown) × (filter is_item others ≡ []) × Appends others (rows_in room.old) (rows_in room.new)) }
+        ensures last { OnOk result ((rows : List Shown) × Appends rows (rows_in room.old) (rows_in room.new)
+            × ((a b : Past) → IsTalk a b self.now → AreLastRows (rows_in room.old).heading side a b self.now rows)) }
         ensures err { OnErr result ((rows : List Shown) × Appends rows (rows_in room.old) (rows_in room.new)) }
     {
         self.show_inside(side, room)?;
@@ -117,7 +117,8 @@ impl Talk {
     /// # Errors
     /// `AllocError` when out of memory.
     pub fn show_gaps(&self, room: &mut Room) -> Result<(), AllocError>
-        ensures others { OnOk result ((others : List Shown) × (filter is_item others ≡ []) × Appends others (rows_in room.old) (rows_in room.new)) }
+        ensures ends { OnOk result ((rows : List Shown) × Appends rows (rows_in room.old) (rows_in room.new)
+            × ((a b : Past) → IsTalk a b self.now → AreEndRows (rows_in room.old).heading a b self.now rows)) }
         ensures err { OnErr result ((rows : List Shown) × Appends rows (rows_in room.old) (rows_in room.new)) }
     {
         if !self.is_torrent() {

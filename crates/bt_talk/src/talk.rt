@@ -139,21 +139,22 @@ pub struct Talk {
 }
 
 impl Talk {
-    ghost use Rattle.std.specs.Prelude.{Err, Some, None};
+    ghost use Rattle.std.specs.Prelude.{Err, Some, None, length as length_of};
     ghost use Rattle.std.specs.Option.{option_or};
     ghost use Rattle.bt_talk.specs.Closing.{Closes, still_open};
     ghost use Rattle.bt_talk.specs.Ends.{ends_by};
-    ghost use Rattle.bt_talk.specs.Talks.{IsTalk, Shows, ShowsSaid, Opens, HasSettled, Exchanges, Takes, TakesAll, Settles, ends_of};
+    ghost use Rattle.bt_talk.specs.Talks.{IsTalk, ShowsTurn, turn_by, Opens, HasSettled, Exchanges, Takes, TakesAll, Settles, ends_of};
     ghost use Rattle.bt_talk.specs.Talks.{terms_of, closing_of, IsSender, is_in_opening, is_lost, flow_of, cut_of, direction_of, of_side};
-    ghost use Rattle.bt_talk.specs.Talks.{began_with, segments_of, watch_of, AreShown, AreShownIn, ShowsMore};
-    ghost use Rattle.bt_talk.specs.Talks.{AreOthers, HasBegun, IsReachOf, marks_of, has_closed, closed_after, IsMark, IsMarkedBy};
+    ghost use Rattle.bt_talk.specs.Talks.{began_with, grown_after, grown_with, segments_of, watch_of};
+    ghost use Rattle.bt_talk.specs.Marks.{HasBegun};
+    ghost use Rattle.bt_talk.specs.Talks.{AreDeeds, IsReachOf, marks_of, has_closed, closed_after, IsMark, IsMarkedBy};
     ghost use Rattle.bt_talk.specs.Cuts.{cut_after};
     ghost use Rattle.bt_talk.specs.Courses.{closes_by, course_of};
     ghost use Rattle.bt_talk.specs.Replays.{IsOpened, HasOpened};
     ghost use Rattle.bt_talk.specs.Rooms.{rows_in, wanted_in, sent_in};
     ghost use Rattle.bt_talk.specs.Sent.{IsSent, SendsOn};
     ghost use Rattle.bt_talk.specs.Rows.{Shown};
-    ghost use Rattle.bt_talk.specs.Shown.{ShowsOthers};
+    ghost use Rattle.bt_talk.specs.Shown.{Deeds, deed_rows};
     ghost use Rattle.bt_talk.specs.Shows.{Appends, HasNone};
     ghost use Rattle.bt_talk.specs.Watching.{IsWatched};
 
@@ -172,6 +173,7 @@ impl Talk {
         ensures there { is_lost result ≡ false }
         ensures marks { marks_of result ≡ [] }
         ensures not_shut { (k : Side) → has_closed k result ≡ false }
+        ensures ungrown { (k : Side) → grown_with k result ≡ None }
     {
         Talk {
             alloc,
@@ -192,9 +194,7 @@ impl Talk {
     fn exchange(&mut self, segment: &Segment, room: &mut Room) -> Result<(), AllocError>
         ensures taken { OnOk result ((a b : Past) → IsTalk a b self.old → (x : Exchanges segment.now a b self.old self.new)
             × (room.old.out.items ≡ [] → IsReady (is_in_opening self.old) (is_wanted x.side room.old.wanted) (of_side x.side a b)
-            (of_side x.side x.a' x.b') room.new.out.items)
-            × ((before : List Shown) → AreShown self.old.watch.rows.heading a b self.old before
-            → ShowsMore false self.old.watch.rows.heading self.old.watch.rows self.new.watch.rows x.a' x.b' self.new before)) }
+            (of_side x.side x.a' x.b') room.new.out.items)) }
         ensures opening { OnOk result (is_in_opening self.new ≡ is_in_opening self.old) }
         ensures cuts { OnOk result ((side : Side) → cut_of side self.new ≡ cut_of side self.old) }
         ensures silent { OnOk result ((a b : Past) → IsTalk a b self.old → is_in_opening self.old ≡ true → Appends [] self.old.watch.rows self.new.watch.rows) }
@@ -240,6 +240,8 @@ impl Talk {
         ensures closes { result ≡ closes_by segment.now.flags (course_of side self.old.courses).is_closed }
         ensures first { self.new.courses.first ≡ option_or self.old.courses.first (Some when) }
         ensures shut { (k : Side) → has_closed k self.new ≡ closed_after segment.now side self.old k }
+        ensures grown { (a b : Past) → IsTalk a b self.old → (k : Side)
+            → grown_with k self.new ≡ grown_after segment.now when side length (length_of (of_side side a b).out) self.old k }
         ensures rest { self.new ≡ record self.old { courses = self.new.courses } }
     {
         let has_data = !segment.flags.rst && !segment.payload.is_empty();
@@ -306,9 +308,9 @@ impl Talk {
         before: Option<Refusal>,
         closed: Option<Means>,
     ) -> Result<(), AllocError>
-        ensures others { OnOk result ((o : ShowsOthers self.old.watch self.new.watch)
-            × ((a b : Past) → IsTalk a b self.old → is_in_opening self.old ≡ false
-            → AreOthers self.old.watch.rows.heading self.old.watch.when side before closed a b self.old o.others)) }
+        ensures deeds { OnOk result (is_in_opening self.old ≡ false → (deeds : Deeds)
+            × Appends (deed_rows self.old.watch.rows.heading self.old.watch.when side deeds) self.old.watch.rows self.new.watch.rows
+            × ((a b : Past) → IsTalk a b self.old → AreDeeds side before closed a b self.old deeds)) }
         ensures opening { is_in_opening self.old ≡ true → self.new ≡ self.old }
         ensures rest { self.new ≡ record self.old { watch = record self.old.watch { rows = self.new.watch.rows } } }
     {
@@ -473,12 +475,8 @@ impl Talk {
             × (is_in_opening self.old ≡ true → HasSettled segment.now when a b self.old self.new took self.old.watch.rows self.new.watch.rows)
             × (room.old.out.items ≡ [] → (side : Side) → room.old.wanted ≡ Some side
             → SendsOn (is_in_opening self.old) (of_side side a b) (is_in_opening self.new) (of_side side took.a' took.b') room.new.out.items)
-            × ((before : List Shown) → is_in_opening self.old ≡ false → AreShown self.old.watch.rows.heading a b self.old before
-            → ShowsMore false self.old.watch.rows.heading self.old.watch.rows self.new.watch.rows took.a' took.b' self.new before)
             × ((o : is_in_opening self.old ≡ false)
-            → (shows : Shows segment.now self.old.watch.when self.old self.new self.old.watch.rows self.new.watch.rows)
-            × ShowsSaid segment.now self.old.watch.when took.side a b took.a' took.b' self.old self.new self.old.watch.rows self.new.watch.rows (took.said o)
-            shows)) }
+            → ShowsTurn (turn_by when (took.said o) (took.did o)) self.old self.old.watch.rows self.new.watch.rows)) }
         ensures ends { self.new.ends ≡ self.old.ends }
         ensures terms { self.new.terms ≡ self.old.terms }
         ensures began { OnOk result (self.new.courses.first ≡ option_or self.old.courses.first (Some when)) }
@@ -516,24 +514,11 @@ impl Talk {
         ensures taken { OnOk result ((a b : Past) → IsTalk a b self.old → Takes segment.now when a b self.old self.new) }
         ensures all { OnOk result ((a b : Past) → IsTalk a b self.old
             → TakesAll segment.now when a b self.old self.new (rows_in room.old) (rows_in room.new) (wanted_in room.old) (sent_in room.new)) }
-        ensures order { OnOk result ((a b : Past) → IsTalk a b self.old → is_in_opening self.old ≡ false
-            → Shows segment.now when self.old self.new (rows_in room.old) (rows_in room.new)) }
-        ensures says { OnOk result ((a b : Past) → IsTalk a b self.old → (o : is_in_opening self.old ≡ false)
-            → (took : Takes segment.now when a b self.old self.new) × (shows : Shows segment.now when self.old self.new (rows_in room.old) (rows_in room.new))
-            × ShowsSaid segment.now when took.side a b took.a' took.b' self.old self.new (rows_in room.old) (rows_in room.new) (took.said o) shows) }
-        ensures opened { OnOk result ((a b : Past) → IsTalk a b self.old → is_in_opening self.old ≡ true → (took : Takes segment.now when a b self.old self.new)
-            × HasSettled segment.now when a b self.old self.new took (rows_in room.old) (rows_in room.new)) }
-        ensures sent { OnOk result ((a b : Past) → IsTalk a b self.old → (took : Takes segment.now when a b self.old self.new)
-            × ((side : Side) → wanted_in room.old ≡ Some side
-            → SendsOn (is_in_opening self.old) (of_side side a b) (is_in_opening self.new) (of_side side took.a' took.b') (sent_in room.new))) }
-        ensures shown { OnOk result ((a b : Past) (before : List Shown) → IsTalk a b self.old
-            → AreShownIn (is_in_opening self.old) (rows_in room.old).heading a b self.old before
-            → (took : Takes segment.now when a b self.old self.new)
-            × ShowsMore (is_in_opening self.new) (rows_in room.old).heading (rows_in room.old) (rows_in room.new) took.a' took.b' self.new before) }
         ensures wanted { wanted_in room.new ≡ wanted_in room.old }
         ensures began { OnOk result (began_with self.new ≡ option_or (began_with self.old) (Some when)) }
         ensures rows { OnOk result ((a b : Past) → IsTalk a b self.old → (rows : List Shown) × Appends rows (rows_in room.old) (rows_in room.new)) }
         ensures none { OnErr result (HasNone (rows_in room.old) (rows_in room.new)) }
+        ensures unsent { OnErr result (sent_in room.new ≡ []) }
         ensures there { OnOk result (is_lost self.new ≡ false) }
         ensures lost { OnErr result (is_lost self.new ≡ true) }
         ensures stays { is_lost self.old ≡ true → result ≡ Err alloc_error }
@@ -579,11 +564,13 @@ impl Talk {
         ensures directions { OnOk result (is_in_opening self.old ≡ false → (side : Side) → direction_of side self.new ≡ direction_of side self.old) }
         ensures closing { closing_of self.new ≡ closing_of self.old }
         ensures began { began_with self.new ≡ began_with self.old }
+        ensures grown { (k : Side) → grown_with k self.new ≡ grown_with k self.old }
         ensures opened { OnOk result ((a b : Past) → IsTalk a b self.old → is_in_opening self.old ≡ true
             → HasOpened (marks_of self.old) a b self.new.a.stage self.new.b.stage self.new.watch (rows_in room.old) (rows_in room.new)) }
         ensures open_already { OnOk result (is_in_opening self.old ≡ false → rows_in room.new ≡ rows_in room.old) }
         ensures rows { OnOk result ((a b : Past) → IsTalk a b self.old → (rows : List Shown) × Appends rows (rows_in room.old) (rows_in room.new)) }
         ensures none { OnErr result (HasNone (rows_in room.old) (rows_in room.new)) }
+        ensures unsent { OnErr result (sent_in room.new ≡ []) }
         ensures there { OnOk result (is_lost self.new ≡ false) }
         ensures lost { OnErr result (is_lost self.new ≡ true) }
         ensures stays { is_lost self.old ≡ true → result ≡ Err alloc_error }
@@ -591,9 +578,6 @@ impl Talk {
         ensures terms { terms_of self.new ≡ terms_of self.old }
         ensures sent { OnOk result ((a b : Past) (side : Side) → IsTalk a b self.old → wanted_in room.old ≡ Some side
             → SendsOn (is_in_opening self.old) (of_side side a b) (is_in_opening self.new) (of_side side a b) (sent_in room.new)) }
-        ensures shown { OnOk result ((a b : Past) (before : List Shown) → IsTalk a b self.old
-            → AreShownIn (is_in_opening self.old) (rows_in room.old).heading a b self.old before
-            → ShowsMore false (rows_in room.old).heading (rows_in room.old) (rows_in room.new) a b self.new before) }
         ensures wanted { wanted_in room.new ≡ wanted_in room.old }
     {
         let heading = room.rows.heading;

@@ -4,8 +4,8 @@ use Rattle.bt_capture.specs.Following.{reports_of}
 use Rattle.bt_capture.proofs.Outcomes.{all_over, whole_written, texts_written, stream_told, rows_told, absent_by, begun_all}
 use Rattle.bt_capture.proofs.run.end_of.Goals as goal
 
-pub returns-clause-end : goal.returns-clause-end
-returns-clause-end c o left before now i empty ended added =
+pub returns : goal.returns
+returns c o seen before now i empty ended added =
     let run = c.args.run.now in
     let r = c.args.packets.now in
     let known = i.follows.known in
@@ -20,12 +20,12 @@ returns-clause-end c o left before now i empty ended added =
       count = c.packets.ensures ∙ i.read.reading.count;
       skipped = i.skipped;
       fs = fs;
-      over = all_over o left before run r i;
+      over = all_over o seen.left before run r i;
       text = written;
-      texts_are = texts_written o left before run r empty i;
-      stream = stream_told o left before run r empty i;
-      rows = rows_told o left before run r empty i;
-      written = whole_written o left before now run r empty i added.0;
+      texts_are = texts_written o seen.left before run r empty i;
+      stream = stream_told o seen.left before run r empty i;
+      rows = rows_told o seen.left before run r empty i;
+      written = whole_written o seen.left before now run r empty i added.0;
       calm = added.1 ∙ known.tells.calm;
       torrents = c.torrents.ensures o.target before (reports_of fs) written known.tells;
       refused = c.is_refused.ensures o.target before (reports_of fs) written known.tells;

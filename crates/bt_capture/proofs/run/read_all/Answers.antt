@@ -1,8 +1,8 @@
 use Rattle.std.proofs.Common.{Option, Ok, refl, subst}
-use Rattle.bt_capture.specs.Sees.{HasSeenTurn}
+use Rattle.bt_capture.specs.Ends.{IsTurn}
 use Rattle.bt_capture.specs.declared.packets.FileEnd.{FileEnd}
 use Rattle.bt_capture.proofs.Outcomes.{partly}
-use Rattle.bt_capture.proofs.Seeing.{gone_on, ended_on, broken_on}
+use Rattle.bt_capture.proofs.Seeing.{gone_on, to_end_on, why_on}
 use Rattle.bt_capture.proofs.run.read_all.Goals as goal
 
 pub loop-turn-init : goal.loop-turn-init
@@ -12,10 +12,10 @@ pub loop-turn-preserved : goal.loop-turn-preserved
 loop-turn-preserved g c =
     let now = g.R.Source.seen c.loop-turn.reader in
     let after = g.R.Source.seen c.turn.new.reader in
-    let P : Option FileEnd → Type 0 = λ o. HasSeenTurn {T = FileEnd} (Ok o) now after in
+    let P : Option FileEnd → Type 0 = λ o. IsTurn (Ok o) c.turn.new.packets now after in
     record {
       told = λ o i. c.in-Ok-None.ensures.after o (c.loop-turn.invariant.told o i);
-      gone = gone_on (g.R.Source.seen c.args.reader.now) now after c.loop-turn.invariant.gone (subst P c.in-Ok-None.field-0-is c.in-Ok-None.ensures.seen);
+      gone = gone_on (g.R.Source.seen c.args.reader.now) now after c.loop-turn.invariant.gone (subst P c.in-Ok-None.field-0-is c.in-Ok-None.ensures.turn);
     }
 
 pub returns-in-Ok-Some-clause-after : goal.returns-in-Ok-Some-clause-after
@@ -29,14 +29,15 @@ returns-clause-after g c o i =
     partly o (g.R.Source.seen c.loop-turn.reader).left (g.W.Target.seen c.loop-turn.writer) c.loop-turn.run.table c.loop-turn.run
     c.loop-turn.packets (c.loop-turn.invariant.told o i)
 
-pub returns-in-Ok-Some-clause-seen : goal.returns-in-Ok-Some-clause-seen
-returns-in-Ok-Some-clause-seen g c =
+pub returns-in-Ok-Some-clause-all : goal.returns-in-Ok-Some-clause-all
+returns-in-Ok-Some-clause-all g c =
     let now = g.R.Source.seen c.loop-turn.reader in
     let after = g.R.Source.seen c.turn.new.reader in
-    let P : Option FileEnd → Type 0 = λ o. HasSeenTurn {T = FileEnd} (Ok o) now after in
-    ended_on (g.R.Source.seen c.args.reader.now) now after c.loop-turn.invariant.gone (subst P c.in-Ok-Some.field-0-is c.in-Ok-Some.ensures.seen)
+    let P : Option FileEnd → Type 0 = λ o. IsTurn (Ok o) c.turn.new.packets now after in
+    to_end_on (Ok c.in-Ok-Some.end) c.turn.new.packets (g.R.Source.seen c.args.reader.now) now after c.loop-turn.invariant.gone
+    (subst P c.in-Ok-Some.field-0-is c.in-Ok-Some.ensures.turn)
 
-pub returns-in-Err-clause-seen : goal.returns-in-Err-clause-seen
-returns-in-Err-clause-seen g c =
-    broken_on c.in-Err.stop (g.R.Source.seen c.args.reader.now) (g.R.Source.seen c.loop-turn.reader) (g.R.Source.seen c.turn.new.reader)
-    c.loop-turn.invariant.gone c.in-Err.ensures.seen
+pub returns-in-Err-clause-all : goal.returns-in-Err-clause-all
+returns-in-Err-clause-all g c =
+    why_on c.in-Err.stop c.turn.new.packets (g.R.Source.seen c.args.reader.now) (g.R.Source.seen c.loop-turn.reader) (g.R.Source.seen c.turn.new.reader)
+    c.loop-turn.invariant.gone c.in-Err.ensures.turn

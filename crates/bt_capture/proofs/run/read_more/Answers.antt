@@ -1,8 +1,11 @@
-use Rattle.std.proofs.Common.{◌∙◌, List, sym, subst}
+use Rattle.std.proofs.Common.{◌≡◌, ◌∙◌, ℕ, List, Ok, Err, ap, sym, subst}
+use Rattle.bt_io.specs.Counts.{counted, is_end}
 use Rattle.bt_capture.specs.Following.{During}
 use Rattle.bt_capture.specs.Readings.{Waits}
+use Rattle.bt_capture.specs.Reads.{has_failed}
 use Rattle.bt_capture.specs.Runs.{IsTelling}
 use Rattle.bt_capture.specs.Tables.{Held}
+use Rattle.bt_capture.specs.declared.fault.ReadFault.{ReadFault}
 use Rattle.bt_capture.specs.declared.pair.Pair.{Pair}
 use Rattle.bt_capture.proofs.Outcomes.{read_bytes, read_kept, told_read, partly, waits_on}
 use Rattle.bt_capture.proofs.run.read_more.Goals as goal
@@ -42,13 +45,28 @@ returns-in-Err-Memory-clause-after g c o i =
     partly o left now c.args.run.now.table run c.read.new.self (told_read o before left now c.args.run.now.table run r c.read.new.self
     (λ packets h. read_kept o before left packets r c.read.new.self e.0 e.1 h) (c.in-Ok.ensures.after During o before c.args.run.now.table r i))
 
-pub returns-in-Ok-eq0-clause-waits : goal.returns-in-Ok-eq0-clause-waits
-returns-in-Ok-eq0-clause-waits g c w is =
+pub returns-in-Ok-eq0-clause-more : goal.returns-in-Ok-eq0-clause-more
+returns-in-Ok-eq0-clause-more g c w =
+    let before = g.R.Source.seen c.args.reader.now in
+    let seen = g.R.Source.seen c.read.new.reader in
     let e = c.in-Ok-eq0.ensures.read in
-    waits_on c.args.packets.now c.read.new.self e.0 (e.1 ∙ c.in-Ok-eq0.field-0-test) e.2 w
+    let P : ℕ → Type 0 = λ n. seen.ends ≡ counted (is_end {E = ReadFault} (Ok n) 1) before.ends in (
+      waits_on c.args.packets.now c.read.new.self e.0 (e.1 ∙ c.in-Ok-eq0.field-0-test) e.2 w,
+      record {
+        ends = subst P c.in-Ok-eq0.field-0-test c.in-Ok-eq0.ensures.ends;
+        failed = c.in-Ok-eq0.ensures.failed;
+        none_left = c.in-Ok-eq0.ensures.none_left (ap (λ (n : ℕ). Ok n) c.in-Ok-eq0.field-0-test);
+      },
+    )
 
-pub returns-in-Err-Failed-clause-why : goal.returns-in-Err-Failed-clause-why
-returns-in-Err-Failed-clause-why g c w = subst (λ r. Waits r) (sym c.in-Err-Failed.ensures.err.0) w
+pub returns-in-Err-Failed-clause-more : goal.returns-in-Err-Failed-clause-more
+returns-in-Err-Failed-clause-more g c w =
+    let before = g.R.Source.seen c.args.reader.now in
+    let seen = g.R.Source.seen c.read.new.reader in
+    let P : ReadFault → Type 0 = λ f. seen.failed ≡ counted (has_failed (Err f)) before.failed in (
+      subst (λ r. Waits r) (sym c.in-Err-Failed.ensures.err.0) w,
+      (c.in-Err-Failed.ensures.ends, subst P c.in-Err-Failed.field-0-is c.in-Err-Failed.ensures.failed),
+    )
 
 pub returns-in-Err-clause-after : goal.returns-in-Err-clause-after
 returns-in-Err-clause-after g c o i =

@@ -1,6 +1,6 @@
 use Rattle.std.proofs.Common.{rules, ◌∙◌, [], ◌∷◌, ◌++◌}
 use Rattle.bt_pcap.specs.Steps.{captured}
-use Rattle.bt_capture.proofs.Outcomes.{read_packet, read_quiet, hands_none, hands_some, hands_fault, hands_more, hands_broken}
+use Rattle.bt_capture.proofs.Outcomes.{read_packet, read_quiet, hands_none, hands_some, hands_fault, hands_more, hands_faulty}
 use Rattle.bt_capture.proofs.Outcomes.{told_read, next_number, given_up}
 use Rattle.bt_capture.proofs.run.step.Goals as goal
 
@@ -45,4 +45,4 @@ pub returns-in-Ok-None-clause-waits : goal.returns-in-Ok-None-clause-waits
 returns-in-Ok-None-clause-waits c e = hands_more c.args.packets.now _ c.take.result (search rules) c.take.follows.holds-at-none.0
 
 pub returns-in-Err-clause-why : goal.returns-in-Err-clause-why
-returns-in-Err-clause-why c = hands_broken c.args.packets.now _ c.take.result c.in-Err.fault (search rules) c.take.follows.holds-at-none.0
+returns-in-Err-clause-why c = hands_faulty c.args.packets.now _ c.take.result c.in-Err.fault (search rules) c.take.follows.holds-at-none.0

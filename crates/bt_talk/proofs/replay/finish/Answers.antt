@@ -2,7 +2,7 @@ use Rattle.std.proofs.Common.{◌∙◌, ◌++◌, [], append-nil, append_assoc,
 use Rattle.bt_wire.specs.declared.item.Item.{Item}
 use Rattle.bt_talk.specs.Replays.{IsReplayOf, with_more}
 use Rattle.bt_talk.specs.Stages.{AreItemsIn}
-use Rattle.bt_talk.specs.Shown.{Turn, items_by}
+use Rattle.bt_talk.specs.Shown.{Turn, items_by, no_deeds}
 use Rattle.bt_talk.proofs.Replays.{begin, items_mine, nearer, took_turn}
 use Rattle.bt_talk.proofs.Shown.{seen_more}
 use Rattle.bt_talk.proofs.replay.finish.Goals as goal
@@ -11,7 +11,7 @@ pub returns-clause-opened : goal.returns-clause-opened
 returns-clause-opened c = λ since terms p q receiver cut n before r i h.
     let side = c.args.side in
     let old = c.args.watch.now in
-    let t0 : Turn = record { side = side; known = false; when = old.when; items = [] } in
+    let t0 : Turn = record { side = side; known = false; when = old.when; items = []; deeds = no_deeds } in
     let x = c.in_ok-pass_close.ensures.goes_on since p receiver cut n before t0
     (begin since p receiver cut n before side false old.when _ old c.turn_to.new.self c.turn_to.ensures i h) in
     let t : Turn = with_more t0 x.2 in
@@ -32,6 +32,7 @@ returns-clause-opened c = λ since terms p q receiver cut n before r i h.
       turn = all;
       side_is = refl;
       known = refl;
+      deeds = refl;
       when = refl;
       now = (took_turn t m.0 w w' m.2 y.turn).when;
       is = o.0;

@@ -53,10 +53,12 @@ returns-clause-judged c = λ since terms p q x y ra rb i.
           x_known = f.known;
           x_when = subst (λ (t : When). IsLatest marks t) (sym f.when) m.latest;
           x_items = f.items_are;
+          x_deeds = f.deeds;
           y_side = g.side_is;
           y_known = g.known;
           y_when = subst (λ (t : When). IsLatest marks t) (sym (g.when ∙ f.now)) m.latest;
           y_items = g.items_are;
+          y_deeds = g.deeds;
         };
       },
     )

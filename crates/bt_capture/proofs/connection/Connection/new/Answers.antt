@@ -1,7 +1,8 @@
-use Rattle.std.proofs.Common.{[], refl}
+use Rattle.std.proofs.Common.{false, [], ◌∷◌, refl}
 use Rattle.bt_talk.specs.Pasts.{no_past}
 use Rattle.bt_talk.specs.Talks.{of_side}
-use Rattle.bt_capture.proofs.Sending.{nothing_sent}
+use Rattle.bt_capture.specs.Arrivals.{arrived}
+use Rattle.bt_capture.proofs.Sending.{nothing_sent, was_all}
 use Rattle.bt_capture.proofs.Turns.{first_heard}
 use Rattle.bt_capture.proofs.connection.Connection.new.Goals as goal
 
@@ -27,6 +28,8 @@ returns-clause-open c when = record {
       unmarked = c.new.ensures.marks;
       unshut = c.new.ensures.not_shut;
       watched = c.new.ensures.watched;
+      unbegun = c.new.ensures.began;
+      ungrown = c.new.ensures.ungrown;
       heard = first_heard c.new.result c.new.ensures.is c.new.ensures.opening;
     };
     next = tt;
@@ -35,8 +38,11 @@ returns-clause-open c when = record {
 
 pub returns-clause-sent : goal.returns-clause-sent
 unfolding returns-clause-open
-returns-clause-sent c when side there =
-    ((returns-clause-open c when).made there, nothing_sent (of_side side no_past no_past) _ c.new.ensures.opening)
+returns-clause-sent c when side =
+    let x = arrived c.args.first.now when in
+    let m = (returns-clause-open c when).made c.new.ensures.there in
+    let none = nothing_sent (of_side side no_past no_past) _ c.new.ensures.opening in
+    record { early = was_all false side [] c.args.terms [] (x ∷ []) c.new.result m none; all = λ there. ((returns-clause-open c when).made there, none) }
 
 pub returns-clause-shown : goal.returns-clause-shown
 unfolding returns-clause-open

@@ -1,4 +1,5 @@
-use Rattle.std.proofs.Common.{rules, ◌≡◌, ◌∙◌, refl, ap, sym, subst, [], ◌∷◌}
+use Rattle.std.proofs.Common.{rules, ◌≡◌, ◌∙◌, refl, ap, sym, subst, false, [], ◌∷◌}
+use Rattle.bt_talk.specs.Talks.{is_lost}
 use Rattle.bt_remarks.specs.declared.events.Side.{Side}
 use Rattle.bt_capture.specs.Arrivals.{arrived}
 use Rattle.bt_capture.specs.Connections.{IsOpen}
@@ -15,10 +16,12 @@ returns-in-Ok-clause-finds c start now clock came when p es absent i =
     let Q : Connection → Type 0 = λ k. IsOpen c.args.self.now.terms [] (x ∷ []) k in
     let same : c.in-Ok.connection.value ≡ c.new-connection.result = search rules in
     let R : Connection → Type 0 = λ k. (side : Side) → HasSent side [] c.args.self.now.terms [] (x ∷ []) k in
+    let T : Connection → Type 0 = λ k. is_lost k.talk ≡ false in
     let S : Connection → Type 0 = λ k. (h : Heading) → HasShown h [] c.args.self.now.terms [] (x ∷ []) k in
     begun start now came x p c.in-Ok.connection es c.args.self.now _ absent refl refl refl refl c.saturating_add-self.ensures
     (subst Q (sym same) (c.new-connection.ensures.open when)) (ap (λ (k : Connection). k.number) same ∙ c.new-connection.ensures.number)
-    (subst R (sym same) (λ side. c.new-connection.ensures.sent when side)) (subst S (sym same) (λ h. c.new-connection.ensures.shown when h)) i
+    (subst R (sym same) (λ side. c.new-connection.ensures.sent when side)) (subst T (sym same) c.new-connection.ensures.there)
+    (subst S (sym same) (λ h. c.new-connection.ensures.shown when h)) i
 
 pub returns-in-Ok-clause-sent : goal.returns-in-Ok-clause-sent
 returns-in-Ok-clause-sent c = λ when side.

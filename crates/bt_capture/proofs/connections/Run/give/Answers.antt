@@ -75,7 +75,7 @@ returns-clause-shown c =
     on_ok c.show.result (λ text terms taken before h.
     let P : Heading → Type 0 = λ k. HasShown k before terms taken (x ∷ []) c.args.connection.now in
     let w = c.take.ensures.shown terms taken before c.turn_to.ensures.empty (subst P (sym heading) h) in
-    let Q : Heading → Type 0 = λ k. ShowsOn k before w.0 terms taken x c.take.new.self in
+    let Q : Heading → Type 0 = λ k. ShowsOn k before w.0 terms taken x c.args.connection.now c.take.new.self in
     let rows : (rows_in room).text.items ≡ shown_texts (showing_by form) w.0 = w.1 ∙ ap (λ (s : Showing). shown_texts s w.0) showing in (
       w.0,
       subst Q heading w.2,

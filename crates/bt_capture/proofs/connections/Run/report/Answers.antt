@@ -4,10 +4,9 @@ use Rattle.bt_talk.specs.declared.rows.Heading.{Heading}
 use Rattle.bt_talk.specs.declared.rows.Showing.{Showing}
 use Rattle.bt_talk.specs.Pasts.{Past}
 use Rattle.bt_remarks.specs.declared.events.Side.{Side}
-use Rattle.std.specs.List.{filter}
 use Rattle.bt_talk.specs.Rooms.{rows_in, sent_in, showing_in, wanted_in}
 use Rattle.bt_talk.specs.Sent.{IsSent, SendsOn}
-use Rattle.bt_talk.specs.Rows.{is_item, shown_texts}
+use Rattle.bt_talk.specs.Rows.{shown_texts}
 use Rattle.bt_talk.specs.Shown.{AreTurnRows, Turn}
 use Rattle.bt_talk.specs.Talks.{HasHeard, IsTalk, is_in_opening, is_lost, of_side}
 use Rattle.bt_talk.specs.declared.talk.Talk.{Talk}
@@ -44,7 +43,7 @@ returns-in-Ok-clause-goes c ph start now clock came p es cause absent may left i
     let rows = rows_in c.turn_to.new.self in
     let rows' = rows_in c.end_opening.new.room in
     let Q : Connection → Type 0 = λ x. (a b : Past) (turns : List Turn) → IsTalk a b x.talk → HasHeard turns a b x.talk
-    → (now : List Turn) × IsEnded a b x.talk talk turns now × ((packet : ℕ) → ShowsTurns packet rows rows' turns now) in
+    → (now : List Turn) × IsEnded a b x.talk talk turns now × ShowsTurns rows rows' turns now in
     let ends : Q c.deref_mut.result.now = λ a b turns t heard.
     let e = ends_on a b c.deref_mut.result.now.talk talk rows rows' turns c.in-Ok.ensures.over (c.in-Ok.ensures.opened a b t) c.in-Ok.ensures.open_already
     c.in-Ok.ensures.watch c.in-Ok.ensures.directions heard in (
@@ -56,6 +55,8 @@ returns-in-Ok-clause-goes c ph start now clock came p es cause absent may left i
         terms = c.in-Ok.ensures.terms;
         closing = c.in-Ok.ensures.closing;
         cuts = λ side. c.in-Ok.ensures.cuts a b side t;
+        began = c.in-Ok.ensures.began;
+        grown = c.in-Ok.ensures.grown;
         over = c.in-Ok.ensures.over;
         heard = e.1;
         opened = e.2;
@@ -81,23 +82,26 @@ returns-in-Ok-clause-goes c ph start now clock came p es cause absent may left i
     let same : number ≡ connection.number = search rules in
     let start_is : ℕ = unwrap_or c.args.self.now.start 0 in
     let more : List ℕ = handed form number room in
+    let IsHeaded : ℕ → ℕ → Type 0 = λ n from. (rows_in room).heading ≡ heading_of form n from in
     let R : Talk → Type 0 = λ t.
-    OnOk c.report-told.result ((h : P) → SaysAfter c.args.self.now.teller c.report-told.new.self number c.unwrap_or-from.result c.args.left t more h.rows) in
+    OnOk c.report-told.result ((h : P) → IsHeaded number c.unwrap_or-from.result
+    → SaysAfter c.args.self.now.teller c.report-told.new.self number c.unwrap_or-from.result c.args.left t more h.rows) in
     let S : ℕ → Type 0 = λ n.
-    OnOk c.report-told.result ((h : P) → SaysAfter c.args.self.now.teller c.report-told.new.self number n c.args.left talk more h.rows) in
+    OnOk c.report-told.result ((h : P) → IsHeaded number n → SaysAfter c.args.self.now.teller c.report-told.new.self number n c.args.left talk more h.rows) in
     let T : ℕ → Type 0 = λ n.
-    OnOk c.report-told.result ((h : P) → SaysAfter c.args.self.now.teller c.report-told.new.self n start_is c.args.left talk more h.rows) in
+    OnOk c.report-told.result ((h : P) → IsHeaded n start_is
+    → SaysAfter c.args.self.now.teller c.report-told.new.self n start_is c.args.left talk more h.rows) in
     let says = subst T same (subst S c.unwrap_or-from.ensures (subst R new c.report-told.ensures.told)) in
     let heading : (rows_in c.turn_to.new.self).heading ≡ heading_of form connection.number start_is = search rules in
     let showing_is : showing_in c.turn_to.new.self ≡ showing = ap (λ (h : Heading). h.showing) c.turn_to.ensures.heading ∙ c.showing.ensures in
-    let reports = on_ok c.report-told.result (λ says packet a b turns before t heard sh.
+    let reports = on_ok c.report-told.result (λ says a b turns before t heard sh.
     let e = ended a b turns t heard in
-    let w = e.2 packet before (subst (λ (h : Heading). AreTurnRows h turns before) (sym heading) sh) in
+    let w = e.2 before (subst (λ (h : Heading). AreTurnRows h turns before) (sym heading) sh) in
     let text : (rows_in room).text.items ≡ shown_texts showing w.0 =
     w.1.text ∙ ap (λ (l : List ℕ). l ++ shown_texts (showing_in c.turn_to.new.self) w.0) c.turn_to.ensures.empty
     ∙ ap (λ (s : Showing). shown_texts s w.0) showing_is in
     let h : P = record { showing_is = ap (λ (k : Heading). k.showing) w.1.heading ∙ showing_is; rows = w.0; text = text } in
-    (e.0, e.1, (w.0, subst (λ (k : Heading). AreTurnRows k e.0 (before ++ filter is_item w.0)) heading w.2, w.3, says h))) says in
+    (e.0, e.1, (w.0, subst (λ (k : Heading). AreTurnRows k e.0 (before ++ w.0)) heading w.2, says h (w.1.heading ∙ heading)))) says in
     let U : Connection → Type 0 = λ x. (a b : Past) (side : Side) → IsTalk a b x.talk → wanted_in c.turn_to.new.self ≡ Some side
     → SendsOn (is_in_opening x.talk) (of_side side a b) (is_in_opening talk) (of_side side a b) (sent_in room) in
     let sends = subst U old c.in-Ok.ensures.sent in
@@ -126,10 +130,10 @@ returns-then-is_silent-clause-sent c terms taken side sent some =
     cc
 
 pub returns-clause-sent : goal.returns-clause-sent
-returns-clause-sent c terms taken side sent some w there h = record {
+returns-clause-sent c terms taken side sent some w h = record {
   more = [];
   text = sym (append-nil c.args.self.now.teller.text.items);
-  whole = inl c.saturating_add-self.ensures;
+  whole = inl (c.saturating_add-self.ensures, refl, h.early);
 }
 
 pub returns-in-Ok-clause-sent : goal.returns-in-Ok-clause-sent
@@ -150,8 +154,9 @@ returns-in-Ok-clause-sent c =
     → SendsOn (is_in_opening x.talk) (of_side side a b) (is_in_opening talk) (of_side side a b) (sent_in room) in
     let sends = subst S old c.in-Ok.ensures.sent in
     let wanted : wanted_in c.turn_to.new.self ≡ wanted_by form connection.number = search rules in
-    on_ok c.report-told.result (λ text terms taken side sent some w there h.
-    let g = h there in
+    let there : is_lost c.deref_mut.result.now.talk ≡ false = not_lost _ _ _ c.in-Ok.ensures.stays in
+    on_ok c.report-told.result (λ text terms taken side sent some w h.
+    let g = h.all (subst (λ (x : Connection). is_lost x.talk ≡ false) old there) in
     let stream : is_stream form ≡ true = wants_stream connection.number form.stream (ap (λ (o : Option Side). is_some o) w) in
     let all : handed form number room ≡ sent_in room = handed_all form connection.number number room side same w in
     let P : List ℕ → Type 0 = λ l. IsSent false (of_side side g.0.a g.0.b) (sent ++ l) in

@@ -5,12 +5,12 @@ use Rattle.bt_pcap.specs.Steps.{captured}
 use Rattle.std.specs.List.{Contains}
 use Rattle.std.proofs.lemmas.List.Elements.{Contains-push}
 use Rattle.bt_talk.specs.declared.closing.When.{When}
-use Rattle.bt_capture.specs.Arrivals.{Arrival, Clock, arrivals, arrivals_in, clock_of, is_no_segment, is_skipped}
+use Rattle.bt_capture.specs.Arrivals.{Arrival, Clock, arrivals, arrivals_in, clock_of, is_no_segment, is_skipped, with_packet}
 use Rattle.bt_utp.specs.States.{AreCounted}
 use Rattle.bt_capture.specs.FlowTexts.{datagrams, datagrams_in}
 use Rattle.bt_capture.specs.Following.{Follows, Stops}
 use Rattle.bt_capture.proofs.FlowLines.{datagrams_more, ok_any}
-use Rattle.bt_capture.proofs.Steps.{all_earlier, all_within, arrivals_more, clock_more, follows_later, number_of, number_up, started, stops_later}
+use Rattle.bt_capture.proofs.Steps.{all_earlier, all_until, all_within, arrivals_more, clock_more, follows_later, number_of, number_up, started, stops_later}
 use Rattle.bt_capture.proofs.Skipping.{skipped_more}
 use Rattle.bt_capture.proofs.connections.Run.take.Goals as goal
 
@@ -26,13 +26,14 @@ returns-in-Ok-clause-goes c start now packets number time i =
     let now_on = clock_more packets p c.args.number number in
     let packet = number_of packets p c.args.number number in
     let begun = started start now packets c.args.self.now _ nanos time c.or-self.ensures refl refl refl refl refl i in
-    let P : List Arrival → Type 0 = λ l. Follows start now taken l run.table run in
+    let came = with_packet w taken in
+    let P : List Arrival → Type 0 = λ l. Follows start now came l run.table run in
     let same = ap (λ s. arrivals packets ++ arrivals_in c.args.number nanos s) c.sight_of.ensures in
     c.end_quiet.ensures.goes start now all (arrivals (packets ++ p ∷ [])) (subst (λ l. Contains l w) (sym now_on) (Contains-push clock.packets w)) packet
     (all_within packets p c.args.number number)
-    (follows_later start now taken all (w ∷ []) (arrivals (packets ++ p ∷ [])) run.table run now_on (omega (arith, packet))
+    (follows_later start now came all [] (arrivals (packets ++ p ∷ [])) run.table run (now_on ∙ sym (append-nil came.packets)) (omega (arith, packet))
     (subst P (same ∙ sym (arrivals_more packets p c.args.number number))
-    (c.in-Ok.ensures.goes start now taken (arrivals packets) (all_earlier packets c.args.number number) refl
+    (c.in-Ok.ensures.goes start now taken (arrivals packets) (all_earlier packets c.args.number number) refl (all_until packets c.args.number number)
     (follows_later start now clock taken [] (arrivals packets) c.args.self.now.table _ (sym (append-nil clock.packets))
     (number_up packets c.args.number number) begun))))
 
@@ -46,11 +47,12 @@ returns-in-Err-clause-goes c start now packets number time i =
     let taken : Clock = record { packets = clock.packets; number = c.args.number } in
     let now_on = clock_more packets p c.args.number number in
     let begun = started start now packets c.args.self.now _ nanos time c.or-self.ensures refl refl refl refl refl i in
-    let P : List Arrival → Type 0 = λ l. Stops start now taken l run in
+    let came = with_packet w taken in
+    let P : List Arrival → Type 0 = λ l. Stops start now came l run in
     let same = ap (λ s. arrivals packets ++ arrivals_in c.args.number nanos s) c.sight_of.ensures in
-    stops_later start now taken (clock_of (packets ++ p ∷ [])) (w ∷ []) (arrivals (packets ++ p ∷ [])) run now_on
+    stops_later start now came (clock_of (packets ++ p ∷ [])) [] (arrivals (packets ++ p ∷ [])) run (now_on ∙ sym (append-nil came.packets))
     (subst P (same ∙ sym (arrivals_more packets p c.args.number number))
-    (c.in-Err.ensures.goes start now taken (arrivals packets) (all_earlier packets c.args.number number) refl
+    (c.in-Err.ensures.goes start now taken (arrivals packets) (all_earlier packets c.args.number number) refl (all_until packets c.args.number number)
     (follows_later start now clock taken [] (arrivals packets) c.args.self.now.table _ (sym (append-nil clock.packets))
     (number_up packets c.args.number number) begun)))
 

@@ -1,6 +1,7 @@
-use Rattle.std.proofs.Common.{rules, ◌≡◌, ◌∙◌, Some, true, unwrap_or, sym, ap, subst, List, [], ◌∷◌, ◌++◌}
+use Rattle.std.proofs.Common.{rules, arith, ◌≡◌, ◌∙◌, ◌≤◌, Some, true, unwrap_or, refl, sym, ap, subst, List, [], ◌∷◌, ◌++◌}
+use Rattle.std.proofs.lemmas.List.Elements.{All-push, Contains-push}
 use Rattle.bt_remarks.specs.declared.events.Side.{Side}
-use Rattle.bt_capture.specs.Arrivals.{arrived}
+use Rattle.bt_capture.specs.Arrivals.{Arrival, arrived, with_packet}
 use Rattle.bt_capture.specs.Connections.{IsOpen}
 use Rattle.bt_capture.specs.Following.{told_by}
 use Rattle.bt_talk.specs.Rows.{Shown, shown_texts}
@@ -12,12 +13,12 @@ use Rattle.bt_capture.specs.declared.connection.Connection.{Connection}
 use Rattle.bt_capture.specs.declared.connections.Run.{Run}
 use Rattle.bt_capture.specs.declared.pair.Pair.{Pair}
 use Rattle.bt_capture.proofs.Reported.{follows_took, stops_more}
-use Rattle.bt_capture.proofs.Steps.{holds_stop, follows_table}
+use Rattle.bt_capture.proofs.Steps.{follows_later, follows_table, holds_stop, stops_later}
 use Rattle.bt_capture.proofs.Sending.{handed_none}
 use Rattle.bt_capture.proofs.connections.Run.take_segment.Goals as goal
 
 pub returns-in-Ok-give-clause-goes : goal.returns-in-Ok-give-clause-goes
-returns-in-Ok-give-clause-goes c start now clock came new packet i =
+returns-in-Ok-give-clause-goes c start now clock came new packet within i =
     let x = arrived c.args.segment.now c.args.when in
     let run = c.connection_of.new.self in
     let es : List (Pair × Held) = run.table in
@@ -39,18 +40,21 @@ returns-in-Ok-give-clause-goes c start now clock came new packet i =
     let sends = subst T was (λ side. c.give.ensures.sent run.terms h.taken side told) in
     let from = unwrap_or run.start 0 in
     let S : Connection → Type 0 = λ k. (before : List Shown) → HasShown (heading_of form k.number from) before run.terms h.taken (x ∷ []) k
-    → (rows : List Shown) × ShowsOn (heading_of form k.number from) before rows run.terms h.taken x after
+    → (rows : List Shown) × ShowsOn (heading_of form k.number from) before rows run.terms h.taken x k after
     × (c.give.new.self.teller.text.items ≡ run.teller.text.items ++ (shown_texts (showing_by form) rows ++ more)) in
     let shows = subst S was (c.in-Ok-give.ensures.shown run.terms h.taken) in
-    c.put.ensures.goes start now clock (came ++ x ∷ [])
+    let w = c.args.when in
+    c.put.ensures.goes start now (with_packet w clock) (came ++ x ∷ []) w (Contains-push clock.packets w) packet
+    (All-push (λ (y : Arrival). y.when.packet ≤ w.packet) came x within (omega arith))
+    (follows_later start now clock (with_packet w clock) (w ∷ []) (came ++ x ∷ []) _ _ refl (omega arith)
     (follows_table start now (came ++ x ∷ []) _ _ es _ _ (ap (λ (k : Run). k.table) rest)
     (follows_took start now came x c.of-pair.result c.in-Ok.connection _ es run c.give.new.self (sym c.of-pair.ensures.key) (ap (λ (k : Run). k.terms) rest)
     (ap (λ (k : Run). k.start) rest) (ap (λ (k : Run). k.lost) rest) (ap (λ (k : Run). k.begun) rest) c.give.ensures.form tells number h
     (c.give.ensures.takes run.terms h.taken taking) more text (λ w. handed_none form after.number c.give.new.self.room (ap (λ n. wanted_by form n) number ∙ w))
-    sends shows packet))
+    sends shows packet)))
 
 pub returns-in-Err-give-clause-goes : goal.returns-in-Err-give-clause-goes
-returns-in-Err-give-clause-goes c start now clock came new packet i =
+returns-in-Err-give-clause-goes c start now clock came new packet within i =
     let x = arrived c.args.segment.now c.args.when in
     let run = c.connection_of.new.self in
     let es : List (Pair × Held) = run.table in
@@ -59,10 +63,15 @@ returns-in-Err-give-clause-goes c start now clock came new packet i =
     let rest = c.give.ensures.rest in
     let O : Connection → Type 0 = λ k. IsOpen run.terms h.taken (x ∷ []) k in
     let taking = subst O (sym was) h.is in
-    holds_stop start now came x c.of-pair.result c.in-Ok.connection es run c.give.new.self (sym c.of-pair.ensures.key) (ap (λ (k : Run). k.terms) rest)
+    let w = c.args.when in
+    stops_later start now clock (with_packet w clock) (w ∷ []) (came ++ x ∷ []) _ refl
+    (holds_stop start now came x c.of-pair.result c.in-Ok.connection es run c.give.new.self (sym c.of-pair.ensures.key) (ap (λ (k : Run). k.terms) rest)
     (ap (λ (k : Run). k.start) rest) (ap (λ (k : Run). k.lost) rest) c.give.ensures.form (c.give.ensures.tells run.terms h.taken taking)
-    (c.in-Err-give.ensures.kept run.terms h.taken taking) h
+    (c.in-Err-give.ensures.kept run.terms h.taken taking) h)
 
 pub returns-in-Err-clause-goes : goal.returns-in-Err-clause-goes
-returns-in-Err-clause-goes c start now clock came new packet i =
-    stops_more start now came (arrived c.args.segment.now c.args.when ∷ []) _ (c.in-Err.ensures.finds start now clock came new packet i)
+returns-in-Err-clause-goes c start now clock came new packet within i =
+    let w = c.args.when in
+    let x = arrived c.args.segment.now w in
+    stops_later start now clock (with_packet w clock) (w ∷ []) (came ++ x ∷ []) _ refl
+    (stops_more start now came (x ∷ []) _ (c.in-Err.ensures.finds start now clock came new packet i))

@@ -1,4 +1,6 @@
 use Rattle.std.proofs.Common.{◌≡◌, ◌∙◌, ◌⊎◌, ℕ, true, List, [], ◌++◌, append-nil, append_assoc, inl, inr, ap, sym, subst}
+use Rattle.bt_talk.specs.declared.rows.Heading.{Heading}
+use Rattle.bt_talk.specs.Inside.{AreEndRows}
 use Rattle.bt_talk.specs.Rooms.{rows_in}
 use Rattle.bt_talk.specs.Rows.{shown_texts}
 use Rattle.bt_capture.specs.Forms.{handed, is_stream, showing_by}
@@ -20,15 +22,15 @@ IsPart t t' number room = is_stream t.form ≡ true → HasRows (showing_by t.fo
     → (t'.text.items ≡ t.text.items) ⊎ (t'.text.items ≡ t.text.items ++ handed t.form number room)
 
 pub returns-clause-told : goal.returns-clause-told
-returns-clause-told c = λ h.
-    let g = c.in_ok-show_gaps.ensures.others in
+returns-clause-told c = λ h head.
+    let g = c.in_ok-show_gaps.ensures.ends in
     let old = c.args.self.now in
     let form = old.form in
-    let rows = has_more (showing_by form) c.args.room.now c.show_gaps.new.room g.0 g.2 h in
+    let rows = has_more (showing_by form) c.args.room.now c.show_gaps.new.room g.0 g.1 h in
     let r = c.in_ok-report_on.ensures.told in
     let all : List ℕ = shown_texts (showing_by form) (h.rows ++ g.0) in
     let text : (rows_in c.show_gaps.new.room).text.items ≡ all =
-    texts_more (showing_by form) c.args.room.now c.show_gaps.new.room h.rows g.0 h.showing_is h.text g.2 in
+    texts_more (showing_by form) c.args.room.now c.show_gaps.new.room h.rows g.0 h.showing_is h.text g.1 in
     let bytes : List ℕ = handed form c.args.number c.args.room.now in
     let same : c.show_rows.new.self.form ≡ form = c.show_rows.ensures.form ∙ c.hand_out.ensures.form in
     let last : List ℕ = report_by form r.0 in
@@ -41,7 +43,7 @@ returns-clause-told c = λ h.
           (c.show_rows.ensures.told (in_form _ _ _ c.hand_out.ensures.form rows) start now reports written
           (c.hand_out.ensures.told start now reports written t)),
       g.0,
-      g.1,
+      λ a b t. subst (λ (k : Heading). AreEndRows k a b c.args.talk.now g.0) head (g.2 a b t),
       r.3 ∙ ap (λ (k : Form). c.show_rows.new.self.text.items ++ report_by k r.0) same ∙ ap (λ (l : List ℕ). l ++ last) shown
           ∙ append_assoc (old.text.items ++ bytes) all last ∙ append_assoc old.text.items bytes (all ++ last)
           ∙ ap (λ (l : List ℕ). old.text.items ++ l) (sym (append_assoc bytes all last)),
@@ -51,24 +53,24 @@ pub returns-in_err-show_rows-clause-same : goal.returns-in_err-show_rows-clause-
 returns-in_err-show_rows-clause-same c =
     on_err {P = HasRows (showing_by c.args.self.now.form) c.args.room.now → TellsOn c.args.self.now c.show_rows.new.self}
     c.from_residual-in_err-show_rows.result (λ h start now reports written t.
-    let g = c.in_ok-show_gaps.ensures.others in
-    let rows = has_more (showing_by c.args.self.now.form) c.args.room.now c.show_gaps.new.room g.0 g.2 h in
+    let g = c.in_ok-show_gaps.ensures.ends in
+    let rows = has_more (showing_by c.args.self.now.form) c.args.room.now c.show_gaps.new.room g.0 g.1 h in
     c.show_rows.ensures.told (in_form _ _ _ c.hand_out.ensures.form rows) start now reports written (c.hand_out.ensures.told start now reports written t))
 
 pub returns-in_err-report_on-clause-same : goal.returns-in_err-report_on-clause-same
 returns-in_err-report_on-clause-same c =
     on_err {P = HasRows (showing_by c.args.self.now.form) c.args.room.now → TellsOn c.args.self.now c.report_on.new.self}
     c.from_residual-in_err-report_on.result (λ h start now reports written t.
-    let g = c.in_ok-show_gaps.ensures.others in
-    let rows = has_more (showing_by c.args.self.now.form) c.args.room.now c.show_gaps.new.room g.0 g.2 h in
+    let g = c.in_ok-show_gaps.ensures.ends in
+    let rows = has_more (showing_by c.args.self.now.form) c.args.room.now c.show_gaps.new.room g.0 g.1 h in
     c.in_err-report_on.ensures.same start now reports written
     (c.show_rows.ensures.told (in_form _ _ _ c.hand_out.ensures.form rows) start now reports written (c.hand_out.ensures.told start now reports written t)))
 
 pub returns-clause-text : goal.returns-clause-text
 returns-clause-text c = λ stream h.
     let form = c.args.self.now.form in
-    let g = c.in_ok-show_gaps.ensures.others in
-    let rows = has_more (showing_by form) c.args.room.now c.show_gaps.new.room g.0 g.2 h in
+    let g = c.in_ok-show_gaps.ensures.ends in
+    let rows = has_more (showing_by form) c.args.room.now c.show_gaps.new.room g.0 g.1 h in
     let none : (rows_in c.show_gaps.new.room).text.items ≡ [] = rows.text ∙ no_rows form rows.rows stream in
     let handed : List ℕ = c.hand_out.new.self.text.items in
     c.in_ok-report_on.ensures.text (ap (λ k. is_stream k) (c.show_rows.ensures.form ∙ c.hand_out.ensures.form) ∙ stream) ∙ c.in_ok-show_rows.ensures.text
@@ -93,8 +95,8 @@ pub returns-in_err-report_on-clause-part : goal.returns-in_err-report_on-clause-
 returns-in_err-report_on-clause-part c =
     on_err {P = IsPart c.args.self.now c.report_on.new.self c.args.number c.args.room.now} c.from_residual-in_err-report_on.result (λ stream h.
     let form = c.args.self.now.form in
-    let g = c.in_ok-show_gaps.ensures.others in
-    let rows = has_more (showing_by form) c.args.room.now c.show_gaps.new.room g.0 g.2 h in
+    let g = c.in_ok-show_gaps.ensures.ends in
+    let rows = has_more (showing_by form) c.args.room.now c.show_gaps.new.room g.0 g.1 h in
     let none : (rows_in c.show_gaps.new.room).text.items ≡ [] = rows.text ∙ no_rows form rows.rows stream in
     let before : List ℕ = c.hand_out.new.self.text.items in
     inr (c.in_err-report_on.ensures.kept ∙ c.in_ok-show_rows.ensures.text ∙ ap (λ (l : List ℕ). before ++ l) none ∙ append-nil before

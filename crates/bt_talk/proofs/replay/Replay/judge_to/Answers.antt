@@ -23,6 +23,7 @@ returns c = λ p receiver cut n xs short i.
     (subst (λ (l : List ℕ). IsReplayOf p receiver cut i.start i.taken xs l self.judged self.close) parts i.is) in (
       m.0,
       record {
+        begun = i.begun;
         start = i.start;
         taken = i.taken ++ bytes;
         is = m.1;

@@ -11,7 +11,7 @@ use Rattle.bt_talk.proofs.replay.Replay.new.Goals as goal
 
 pub returns-in_default : goal.returns-in_default
 returns-in_default c = λ terms p q f all starts r.
-    subst (λ (o : Option Receiver). IsReplay p o (cut_length c.args.cut.now) 0 [] c.none.result) (sym c.in_default.is) (c.none.ensures p)
+    subst (λ (o : Option Receiver). IsReplay p o (cut_length c.args.cut.now) 0 [] c.none.result) (sym c.in_default.is) (c.none.ensures p starts)
 
 pub returns : goal.returns
 returns c = λ terms p q f all starts r.
@@ -28,6 +28,7 @@ returns c = λ terms p q f all starts r.
     let parted = c.part_at.ensures.parted p.out part in
     let k = begun p cut start rest held close first judged parted c.part_at.ensures.cut in
     record {
+      begun = first;
       start = start;
       taken = [];
       is = subst (λ (o : Option Receiver). IsReplayOf p o cut start [] [] rest (Some held) close)

@@ -45,6 +45,7 @@ returns-clause-goes_on c = λ since p receiver cut n before t i.
       m.0,
       replayed since p receiver cut k before t m.0 r w w' i.turn
           (record {
+            begun = i.is.begun;
             start = start;
             taken = taken ++ rest;
             is = (now.0, past_close p k receiver start (taken ++ rest) xs after c.judge_more.new.judged now.2 m.1, cut_by);

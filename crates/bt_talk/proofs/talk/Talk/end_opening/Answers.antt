@@ -1,13 +1,13 @@
-use Rattle.std.proofs.Common.{◌≡◌, ◌∙◌, true, false, List, [], append-nil, refl, sym, ap, subst, inl, inr}
+use Rattle.std.proofs.Common.{◌∙◌, true, false, [], refl, sym, ap, inl, inr}
 use Rattle.std.proofs.lemmas.Bool.{cases_Bool}
+use Rattle.bt_talk.specs.declared.course.Courses.{Courses}
 use Rattle.bt_talk.specs.declared.room.Room.{Room}
 use Rattle.bt_talk.specs.declared.talk.Talk.{Talk}
 use Rattle.bt_talk.specs.declared.watch.Watch.{Watch}
-use Rattle.bt_talk.specs.Rows.{Shown}
-use Rattle.bt_talk.specs.Talks.{AreShown, direction_of, is_in_opening, of_side}
+use Rattle.bt_talk.specs.Courses.{course_of}
+use Rattle.bt_talk.specs.Talks.{direction_of, is_in_opening, of_side}
 use Rattle.bt_talk.proofs.Lent.{Alike, with_watch, talk_alike, opened_alike}
 use Rattle.bt_talk.proofs.Shown.{appends_none, appends_same}
-use Rattle.bt_talk.proofs.Grows.{shown_after, shown_alike, shown_in, shows_opened}
 use Rattle.bt_talk.proofs.Sent.{sends_first, sends_nothing}
 use Rattle.bt_talk.proofs.Talks.{both_same, direction_same, flow_same}
 use Rattle.bt_talk.proofs.talk.Talk.end_opening.Goals as goal
@@ -85,36 +85,14 @@ returns-in-Ok-clause-sent c = λ a b side t w.
           (ap (λ (r : Room). r.out.items) (c.in-Ok.ensures.room_already o) ∙ c.clear.ensures.items)
     ]
 
-pub returns-in-Ok-clause-shown : goal.returns-in-Ok-clause-shown
-returns-in-Ok-clause-shown c = λ a b before t sh.
-    let self = c.args.self.now in
-    let mine = c.swap_rows.ensures.mine in
-    let back = c.swap_rows-2.ensures.mine in
-    let u : Talk = record self { is_lost = true; watch = c.swap_rows.new.self } in
-    let v = c.open-opened.new.self in
-    let w : Talk = record v { is_lost = false; watch = c.swap_rows-2.new.self } in
-    let i : Alike self u = with_watch self true c.swap_rows.new.self (ap (λ (x : Watch). x.matcher) mine) (ap (λ (x : Watch). x.a) mine)
-    (ap (λ (x : Watch). x.b) mine) in
-    let k : Alike v w = with_watch v false c.swap_rows-2.new.self (ap (λ (x : Watch). x.matcher) back) (ap (λ (x : Watch). x.a) back)
-    (ap (λ (x : Watch). x.b) back) in
-    let rows = c.args.room.now.rows in
-    let rows' = c.swap_rows-2.new.rows in
-    let head = rows.heading in
-    elim (cases_Bool (is_in_opening self)) [
-      | inl o ↦ shows_opened self.marks.items a b w rows rows' before (shown_in (is_in_opening self) head a b self before o sh)
-          (returns-in-Ok-clause-opened c a b t o)
-      | inr o ↦
-          let was = shown_alike head a b self u before i (shown_after (is_in_opening self) head a b self before o sh) in
-          let same : v ≡ u = c.in-Ok.ensures.open_already o in
-          let now : AreShown head a b v before = subst (λ (x : Talk). AreShown head a b x before) (sym same) was in (
-            [],
-            appends_same [] rows rows rows rows' refl (returns-in-Ok-clause-open_already c o) (appends_none rows),
-            subst (λ (l : List Shown). AreShown head a b w l) (sym (append-nil before)) (shown_alike head a b v w before k now),
-          )
-    ]
-
 pub returns-in-Ok-clause-directions : goal.returns-in-Ok-clause-directions
 returns-in-Ok-clause-directions c = λ o side.
     let self = c.args.self.now in
     let same = c.in-Ok.ensures.open_already o in
     direction_same side c.open-opened.new.self _ refl refl ∙ ap (direction_of side) same ∙ direction_same side self _ refl refl
+
+pub returns-in-Ok-clause-grown : goal.returns-in-Ok-clause-grown
+returns-in-Ok-clause-grown c = λ k. ap (λ (x : Courses). (course_of k x).grown) c.open-opened.ensures.courses
+
+pub returns-in-Err-clause-grown : goal.returns-in-Err-clause-grown
+returns-in-Err-clause-grown c = λ k. ap (λ (x : Courses). (course_of k x).grown) c.open-opened.ensures.courses

@@ -1,4 +1,4 @@
-use Rattle.std.proofs.Common.{◌∙◌, ◌++◌, Bool, List, refl, sym, ap, subst}
+use Rattle.std.proofs.Common.{◌∙◌, ◌++◌, Bool, List, sym, ap, subst}
 use Rattle.bt_remarks.specs.declared.events.Side.{Side}
 use Rattle.bt_remarks.specs.declared.events.Side.TheVariants.{A, B}
 use Rattle.bt_talk.specs.declared.stage.Stage.{Stage}
@@ -12,7 +12,6 @@ use Rattle.bt_talk.specs.Shows.{Appends}
 use Rattle.bt_talk.proofs.Items.{items_stay, opening_items}
 use Rattle.bt_talk.proofs.Shown.{no_rows, nil_right}
 use Rattle.bt_talk.specs.Cuts.{cut_length}
-use Rattle.bt_talk.proofs.Grows.{shown_on}
 use Rattle.bt_talk.proofs.Saying.{says_by}
 use Rattle.bt_talk.proofs.Talks.{acked_same, cuts_same}
 use Rattle.bt_talk.proofs.talk.Talk.exchange.Goals as goal
@@ -52,18 +51,6 @@ returns-in_ok-turn-in-A-clause-taken c = λ a b t.
         shown = s.2;
       },
       x.2,
-      λ before sh.
-          let z = x.1.2 (sh.heard.items A) sh.heard.a_items in
-          let k = z.2 sh.heard.events sh.heard.items sh.heard.watched in
-          shown_on self.watch.rows.heading self.watch.when A x.1.0 z.0 a b r.p' r.q' self _ before k.0 self.watch.rows c.turn.new.watch.rows sh
-          (record {
-            events = tell A x.1.0 z.0 sh.heard.events;
-            items = with_items A z.0 sh.heard.items;
-            a_items = z.1;
-            b_items = subst (λ (k : Stage). AreItemsIn k r.q' (sh.heard.items B)) (sym to)
-                (items_stay self.b.stage b r.q' (sh.heard.items B) same.0 same.1 sh.heard.b_items);
-            watched = k.1.watched;
-          }) refl (λ _. refl) k.1.shown k.2,
     )
 
 pub returns-in_ok-turn-in-B-clause-taken : goal.returns-in_ok-turn-in-B-clause-taken
@@ -101,18 +88,6 @@ returns-in_ok-turn-in-B-clause-taken c = λ a b t.
         shown = s.2;
       },
       λ e. subst (λ (o : Bool). IsReady o (is_wanted B c.args.room.now.wanted) b r.p' c.turn-in-B.new.room.out.items) (sym t.stages) (x.2 e),
-      λ before sh.
-          let z = x.1.2 (sh.heard.items B) sh.heard.b_items in
-          let k = z.2 sh.heard.events sh.heard.items sh.heard.watched in
-          shown_on self.watch.rows.heading self.watch.when B x.1.0 z.0 a b r.q' r.p' self _ before k.0 self.watch.rows c.turn-in-B.new.watch.rows sh
-          (record {
-            events = tell B x.1.0 z.0 sh.heard.events;
-            items = with_items B z.0 sh.heard.items;
-            a_items = subst (λ (k : Stage). AreItemsIn k r.q' (sh.heard.items A)) (sym to)
-                (items_stay self.a.stage a r.q' (sh.heard.items A) same.0 same.1 sh.heard.a_items);
-            b_items = z.1;
-            watched = k.1.watched;
-          }) refl (λ _. refl) k.1.shown k.2,
     )
 
 pub returns-in_ok-turn-in-A-clause-cuts : goal.returns-in_ok-turn-in-A-clause-cuts

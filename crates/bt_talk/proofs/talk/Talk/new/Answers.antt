@@ -21,5 +21,8 @@ returns-clause-is c = record {
 pub returns-clause-not_shut : goal.returns-clause-not_shut
 returns-clause-not_shut c = λ k. ap (λ (x : Course). x.is_closed) (c.new-5.ensures.sides k)
 
+pub returns-clause-ungrown : goal.returns-clause-ungrown
+returns-clause-ungrown c = λ k. ap (λ (x : Course). x.grown) (c.new-5.ensures.sides k)
+
 pub returns-clause-watched : goal.returns-clause-watched
 returns-clause-watched c = c.new-4.ensures

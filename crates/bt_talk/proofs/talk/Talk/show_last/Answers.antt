@@ -1,14 +1,12 @@
-use Rattle.std.proofs.Common.{◌∙◌, ◌++◌, List, [], unwrap_or, ap}
-use Rattle.std.specs.List.{filter}
-use Rattle.std.proofs.lemmas.List.Elements.{filter-append}
+use Rattle.std.proofs.Common.{◌++◌, [], unwrap_or, ap}
+use Rattle.bt_talk.specs.declared.rows.Heading.{Heading}
 use Rattle.bt_talk.specs.Courses.{end_of, gap_rows}
 use Rattle.bt_talk.specs.Inside.{inside_rows}
-use Rattle.bt_talk.specs.Rows.{Shown, is_item}
-use Rattle.bt_talk.proofs.Shown.{appends_more, gaps_none, inside_none, rows_before}
+use Rattle.bt_talk.proofs.Shown.{appends_more, rows_before}
 use Rattle.bt_talk.proofs.talk.Talk.show_last.Goals as goal
 
-pub returns-clause-others : goal.returns-clause-others
-returns-clause-others c =
+pub returns-clause-last : goal.returns-clause-last
+returns-clause-last c =
     let end = end_of c.args.side c.args.self.now.courses in
     let x = c.in_ok-show_inside.ensures.inside in
     let y = c.in_ok-show_gap.ensures.gap in
@@ -17,9 +15,16 @@ returns-clause-others c =
     let xs = inside_rows r.heading end c.args.side x.refusal in
     let ys = gap_rows m.heading end c.args.side (unwrap_or y.start 0) y.gaps.first in (
       xs ++ ys,
-      filter-append is_item xs ys ∙ ap (λ (l : List Shown). l ++ filter is_item ys) (inside_none r.heading end c.args.side x.refusal)
-          ∙ gaps_none m.heading end c.args.side (unwrap_or y.start 0) y.gaps.first,
       appends_more xs ys r m c.show_gap.new.room.rows x.appends y.appends,
+      λ a b t. record {
+        refusal = x.refusal;
+        inside = x.is a b t;
+        gaps = y.gaps;
+        gaps_are = (y.are a b t).0;
+        start = y.start;
+        start_is = (y.are a b t).1;
+        is = ap (λ (h : Heading). xs ++ gap_rows h end c.args.side (unwrap_or y.start 0) y.gaps.first) x.appends.heading;
+      },
     )
 
 pub returns-in_err-show_inside-clause-err : goal.returns-in_err-show_inside-clause-err

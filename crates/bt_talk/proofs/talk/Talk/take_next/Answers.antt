@@ -1,15 +1,18 @@
-use Rattle.std.proofs.Common.{◌≡◌, ◌∙◌, ℕ, ◌+◌, ◌-◌, ◌^◌, false, ◌++◌, [], min, List, length, Option, sym, ap, subst, refl}
+use Rattle.std.proofs.Common.{◌≡◌, ◌∙◌, ℕ, ◌+◌, ◌-◌, ◌^◌, false, ◌++◌, [], min, List, length, Option, Some, sym, ap, subst, refl}
 use Rattle.std.specs.Prelude.{◌↔◌}
-use Rattle.std.specs.List.{filter}
+use Rattle.std.specs.Option.{option_or}
 use Rattle.bt_remarks.specs.declared.events.Side.{Side}
 use Rattle.bt_remarks.specs.declared.events.Side.TheVariants.{A, B}
 use Rattle.bt_remarks.specs.Said.{other}
 use Rattle.bt_flow.specs.declared.flow.Flow.{Flow}
 use Rattle.bt_talk.specs.declared.closing.Closed.{Closed}
 use Rattle.bt_talk.specs.declared.closing.Closing.{Closing}
+use Rattle.bt_talk.specs.declared.closing.When.{When}
+use Rattle.bt_talk.specs.declared.course.Courses.{Courses}
 use Rattle.bt_talk.specs.declared.direction.Direction.{Direction}
 use Rattle.bt_talk.specs.declared.ends.Ends.{Ends}
 use Rattle.bt_talk.specs.declared.replay.Mark.{Mark}
+use Rattle.bt_talk.specs.declared.rows.Heading.{Heading}
 use Rattle.bt_talk.specs.declared.room.Room.{Room}
 use Rattle.bt_talk.specs.declared.talk.Talk.{Talk}
 use Rattle.bt_talk.specs.declared.watch.Watch.{Watch}
@@ -18,16 +21,16 @@ use Rattle.bt_talk.specs.Courses.{closes_by}
 use Rattle.bt_talk.specs.Replays.{HasOpened}
 use Rattle.bt_talk.specs.Stages.{IsRefusedIn}
 use Rattle.bt_talk.specs.Talks.{IsTalk, is_in_opening, direction_of, flow_of, cut_of, has_closed, marks_of, of_side}
-use Rattle.bt_talk.specs.Rows.{is_item}
+use Rattle.bt_talk.specs.Shown.{AreItemRows, deed_rows}
+use Rattle.bt_talk.specs.Shows.{Appends}
 use Rattle.bt_talk.specs.Sent.{IsReady, is_wanted}
 use Rattle.bt_talk.proofs.Closes.{closes_same}
 use Rattle.bt_talk.proofs.Lent.{Alike, talk_alike, opening_alike, opened_after, after_steps}
-use Rattle.bt_talk.proofs.Grows.{shown_same, shows_others_too}
-use Rattle.bt_talk.proofs.Others.{others_same}
+use Rattle.bt_talk.proofs.Deeds.{deeds_same}
 use Rattle.bt_talk.proofs.Saying.{says_same, stages_same}
 use Rattle.bt_talk.proofs.Shown.{appends_more, appends_same}
 use Rattle.bt_talk.proofs.Sent.{ready_kept, fronts_kept, sends_on, parts_of}
-use Rattle.bt_talk.proofs.Marked.{after_same, by_same, closed_same}
+use Rattle.bt_talk.proofs.Marked.{after_same, by_same, closed_same, grown_as, grown_same}
 use Rattle.bt_talk.proofs.Talks.{acked_same, end_same, flow_same, found, sender_same, sent_same, both_same}
 use Rattle.bt_talk.proofs.Watching.{watched_same}
 use Rattle.bt_talk.proofs.talk.Talk.take_next.Goals as goal
@@ -85,6 +88,12 @@ returns-clause-taken c = λ a b at t.
     let gone_flows : (k : Side) → flow_of k settled ≡ flow_of k gone = λ k. flows_kept k ∙ sym (flow_same k given gone begun.a begun.b) in
     let packet : gone.watch.when ≡ c.args.when =
     ap (λ (k : Talk). k.watch.when) c.go_on-closed.ensures.rest ∙ (x.shown t.said.events t.said.items t.said.watched).3 ∙ at in
+    let keep = c.keep_mark.new.self in
+    let kept_by : Alike given keep = after_steps given gone keep keep c.go_on-closed.ensures.rest c.keep_mark.ensures.rest refl in
+    let before : given.watch ≡ keep.watch =
+    sym (ap (λ (k : Talk). k.watch) c.keep_mark.ensures.rest ∙ ap (λ (k : Talk). k.watch) c.go_on-closed.ensures.rest) in
+    let sh = λ (o : is_in_opening self ≡ false).
+    c.in_ok-show.ensures.deeds (opening_alike given keep kept_by ∙ c.in_ok-exchange.ensures.opening ∙ o) in
     let noted_marks : marks_of c.note.new.self ≡ marks_of self ++ km.0 =
     ap marks_of c.note.ensures.rest ∙ ap (λ (l : _). l.items) c.cut.ensures.marks ∙ ap marks_of c.show.ensures.rest ∙ km.2
     ∙ ap (λ (k : Talk). marks_of k ++ km.0) c.go_on-closed.ensures.rest ∙ ap (λ (l : _). l.items ++ km.0) c.in_ok-exchange.ensures.marks in
@@ -122,11 +131,30 @@ returns-clause-taken c = λ a b at t.
             (λ k. stages_same k given settled (a_stage o) (b_stage o)) flows_kept (λ _ _ w. w)
             (λ events items w. watched_same events items given.watch settled.watch (ap (λ (w : Watch). w.matcher) (watch o) ∙ al.matcher)
             (ap (λ (w : Watch). w.a) (watch o) ∙ al.a_notes) (ap (λ (w : Watch). w.b) (watch o) ∙ al.b_notes) w) x.said;
+        did = λ o. record {
+          deeds = (sh o).0;
+          before = c.refusal-before.result;
+          before_is = subst (λ (k : Side). IsRefusedIn (direction_of k self).stage (of_side k a b) c.refusal-before.result) same
+              (subst (λ (d : Direction). IsRefusedIn d.stage (of_side by a b) c.refusal-before.result) c.direction.ensures
+              (c.refusal-before.ensures self.terms (of_side by a b) (of_side (other by) a b)
+              (found by a b self c.direction.result.now c.direction.ensures t)));
+          are = deeds_same by x.side c.refusal-before.result closed (closes_by s.flags (has_closed x.side self)) x.a' x.b' keep settled (sh o).0 same closes
+              (λ k. stages_same k keep settled (a_stage o ∙ sym (ap (λ (d : Direction). d.stage) kept_by.a))
+              (b_stage o ∙ sym (ap (λ (d : Direction). d.stage) kept_by.b)))
+              (λ k. flows_kept k ∙ sym (flow_same k given keep kept_by.a kept_by.b))
+              ((sh o).2 x.a' x.b' (talk_alike x.a' x.b' given keep kept_by x.is));
+        };
         marks = km.0;
         marked = λ o. by_same s.payload.now _ c.args.when by x.side closed _ x.a' x.b' gone settled km.0 packet same closes gone_flows
             (km.1 (opening_alike given gone begun ∙ c.in_ok-exchange.ensures.opening ∙ o));
         kept = λ o. ap (λ (l : _). l.items) (c.in_ok-settle.ensures.marks o) ∙ noted_marks;
         shut = λ k. closed_same gone settled k now_courses ∙ c.go_on-closed.ensures.shut k ∙ after_same s by x.side given self k same courses;
+        began = ap (λ (k : Courses). k.first) now_courses ∙ c.go_on-closed.ensures.first
+            ∙ ap (λ (k : Courses). option_or k.first (Some c.args.when)) courses;
+        grown = λ k. grown_same gone settled k now_courses ∙ c.go_on-closed.ensures.grown x.a' x.b' x.is k
+            ∙ grown_as s c.args.when by x.side c.length-length.result (length (of_side x.side a b).out) (length (of_side by x.a' x.b').out)
+            (length (of_side x.side x.a' x.b').out) given self k same (c.length-length.ensures a b t ∙ ap (λ (k : Side). length (of_side k a b).out) same)
+            (ap (λ (k : Side). length (of_side k x.a' x.b').out) same) courses;
       },
       λ o.
           let silent = c.in_ok-exchange.ensures.silent a b t o in
@@ -159,65 +187,24 @@ returns-clause-taken c = λ a b at t.
           (λ o. c.in_ok-settle.ensures.after (was ∙ o))
           (λ o. ap (λ (r : Room). r.out.items) (c.in_ok-settle.ensures.room_already (was ∙ o)))
           (λ o nil. c.in_ok-settle.ensures.sent x.a' x.b' side noted (was ∙ o) is nil),
-      λ before o sh.
-          let m = y.2 before sh in
-          let marked = c.keep_mark.new.self in
-          let others = c.in_ok-show.ensures.others.0 in
-          let before_is : given.watch ≡ marked.watch =
-          sym (ap (λ (k : Talk). k.watch) c.keep_mark.ensures.rest ∙ ap (λ (k : Talk). k.watch) c.go_on-closed.ensures.rest) in
-          let head = self.watch.rows.heading in (
-            m.0 ++ others.others,
-            appends_more m.0 others.others self.watch.rows given.watch.rows settled.watch.rows m.1
-                (appends_same others.others marked.watch.rows shown.watch.rows given.watch.rows settled.watch.rows
-                (ap (λ (w : Watch). w.rows) before_is) (ap (λ (w : Watch). w.rows) (watch o)) others.appends),
-            shows_others_too head x.a' x.b' settled before m.0 others.others others.no_item
-                (shown_same head x.a' x.b' given settled (before ++ filter is_item m.0) (a_stage o) (b_stage o)
-                (ap (λ (w : Watch). w.matcher) (watch o) ∙ al.matcher) (ap (λ (w : Watch). w.a) (watch o) ∙ al.a_notes)
-                (ap (λ (w : Watch). w.b) (watch o) ∙ al.b_notes) m.2),
-          ),
       λ o.
-          let keep = c.keep_mark.new.self in
-          let kept_by : Alike given keep = after_steps given gone keep keep c.go_on-closed.ensures.rest c.keep_mark.ensures.rest refl in
-          let all = x.shown t.said.events t.said.items t.said.watched in
-          let before : given.watch ≡ c.keep_mark.new.self.watch =
-          sym (ap (λ (k : Talk). k.watch) c.keep_mark.ensures.rest ∙ ap (λ (k : Talk). k.watch) c.go_on-closed.ensures.rest) in
-          let others = c.in_ok-show.ensures.others.0 in (
-            record {
-              side = x.side;
-              is_side = x.is_side;
-              known = x.said.known;
-              items = x.said.items;
-              others = others.others;
-              no_item = others.no_item;
-              follow = λ events items i.
-                  let g = x.shown events items i in (
-                    g.0,
-                    record {
-                      watched = watched_same _ _ given.watch settled.watch (ap (λ (w : Watch). w.matcher) (watch o) ∙ al.matcher)
-                          (ap (λ (w : Watch). w.a) (watch o) ∙ al.a_notes) (ap (λ (w : Watch). w.b) (watch o) ∙ al.b_notes) g.1.watched;
-                      shown = g.1.shown;
-                    },
-                    appends_more g.0 others.others self.watch.rows given.watch.rows settled.watch.rows g.2
-                        (appends_same others.others c.keep_mark.new.self.watch.rows shown.watch.rows given.watch.rows settled.watch.rows
-                        (ap (λ (w : Watch). w.rows) before) (ap (λ (w : Watch). w.rows) (watch o)) others.appends),
-                  );
-            },
-            record {
-              known = refl;
-              items = refl;
-              before = c.refusal-before.result;
-              before_is = subst (λ (k : Side). IsRefusedIn (direction_of k self).stage (of_side k a b) c.refusal-before.result) same
-                  (subst (λ (d : Direction). IsRefusedIn d.stage (of_side by a b) c.refusal-before.result) c.direction.ensures
-                  (c.refusal-before.ensures self.terms (of_side by a b) (of_side (other by) a b)
-                  (found by a b self c.direction.result.now c.direction.ensures t)));
-              others = others_same keep.watch.rows.heading self.watch.rows.heading keep.watch.when self.watch.when by x.side c.refusal-before.result closed
-                  (closes_by s.flags (has_closed x.side self)) x.a' x.b' keep settled others.others
-                  (ap (λ (w : Watch). w.rows.heading) (sym before) ∙ all.2.heading) (ap (λ (w : Watch). w.when) (sym before) ∙ all.3) same closes
-                  (λ k. stages_same k keep settled (a_stage o ∙ sym (ap (λ (d : Direction). d.stage) kept_by.a))
-                  (b_stage o ∙ sym (ap (λ (d : Direction). d.stage) kept_by.b)))
-                  (λ k. flows_kept k ∙ sym (flow_same k given keep kept_by.a kept_by.b))
-                  (c.in_ok-show.ensures.others.1 x.a' x.b' (talk_alike x.a' x.b' given keep kept_by x.is)
-                  (opening_alike given keep kept_by ∙ c.in_ok-exchange.ensures.opening ∙ o));
-            },
-          ),
+          let told = (sh o).1 in
+          record {
+            shown = λ events items i.
+                let g = x.shown events items i in
+                let deeds = deed_rows self.watch.rows.heading c.args.when x.side (sh o).0 in
+                let mine = subst (λ (p : When). AreItemRows self.watch.rows.heading p x.side x.said.known x.said.items events g.0) at g.1.shown in
+                let same = subst (λ (p : When). Appends (deed_rows self.watch.rows.heading p x.side (sh o).0) given.watch.rows settled.watch.rows) at
+                (subst (λ (k : Side). Appends (deed_rows self.watch.rows.heading self.watch.when k (sh o).0) given.watch.rows settled.watch.rows) same
+                (subst (λ (p : When). Appends (deed_rows self.watch.rows.heading p by (sh o).0) given.watch.rows settled.watch.rows)
+                (ap (λ (w : Watch). w.when) (sym before) ∙ g.3)
+                (subst (λ (h : Heading). Appends (deed_rows h keep.watch.when by (sh o).0) given.watch.rows settled.watch.rows)
+                (ap (λ (w : Watch). w.rows.heading) (sym before) ∙ g.2.heading)
+                (appends_same (deed_rows keep.watch.rows.heading keep.watch.when by (sh o).0) keep.watch.rows shown.watch.rows given.watch.rows
+                settled.watch.rows (ap (λ (w : Watch). w.rows) before) (ap (λ (w : Watch). w.rows) (watch o)) told)))) in (
+                  g.0 ++ deeds,
+                  (g.0, refl, mine),
+                  appends_more g.0 deeds self.watch.rows given.watch.rows settled.watch.rows g.2 same,
+                );
+          },
     )
