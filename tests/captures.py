@@ -734,9 +734,24 @@ def left_differs(program):
     yield "" if found == [True, None] else "replaced: %s" % found
 
 
+def late_differs(program):
+    """What is wrong with what is told of a stream of which bytes come after others that are more than 15 MiB ahead: their gap stays."""
+    hello, theirs = writer.handshakes()
+    piece = struct.pack(">IBII", 9 + 16_384, 7, 0, 0) + bytes(16_384)
+    talk = writer.Talk(size=40_000).say("B", theirs).say("A", hello + 1_000 * piece)
+    packets = talk.packets
+    packets.append(packets.pop([k for k, it in enumerate(packets) if it.side == "A" and it.payload][3]))
+    talk.close("A")
+    for at, packet in enumerate(packets):
+        packet.at = at
+    told, status = run(program, writer.pcap(writer.frames(packets)), "-")
+    wanted = "    gap at 120000: 40000 bytes aren't in the capture\n    free refused message=8 at=120000 EndInside (cut by the gap)\n"
+    yield "" if wanted in told.decode() and status == 0 else "late: got %d\n%s\nexpected 0 and\n%s" % (status, told.decode(), wanted)
+
+
 def main():
     program = sys.argv[1] if len(sys.argv) > 1 else os.path.join(ROOT, "bt_tool")
-    found = [*model_differs(program), *left_differs(program)]
+    found = [*model_differs(program), *left_differs(program), *late_differs(program)]
     if shutil.which("tshark"):
         found += tshark_differs(program)
     else:

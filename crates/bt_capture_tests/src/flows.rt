@@ -141,12 +141,17 @@ fn next_bytes(rt: HostRuntime) -> Result<(), Fail> {
     Ok(())
 }
 
-/// A segment that ends a byte more than 15 MiB past the next place: the gap is final, and later places are noted.
+/// A segment that ends a byte more than 15 MiB past the next place: the gap is final, and of later bytes those past it are noted.
 #[test]
 fn gives_up(rt: HostRuntime) -> Result<(), Fail> {
     let mut flow = Flow::new(rt.alloc());
     let mut out = Vec::new(rt.alloc());
-    let given: [(u32, &[u8]); 3] = [(0, b"ab"), (15_728_640, b"far"), (2, b"cd")];
+    let given: [(u32, &[u8]); 4] = [
+        (0, b"ab"),
+        (15_728_640, b"far"),
+        (2, b"cd"),
+        (15_728_638, b"..far."),
+    ];
     take_all(&mut flow, given.as_slice(), &mut out)?;
     assert_eq!(rt; out.as_slice(), b"ab".as_slice());
     assert_eq!(rt; flow.is_lost(), true);
@@ -156,11 +161,11 @@ fn gives_up(rt: HostRuntime) -> Result<(), Fail> {
     assert_eq!(rt;
         gaps.first,
         Some(Gap {
-            place: 4,
-            length: 15_728_636
+            place: 2,
+            length: 15_728_638
         })
     );
     assert_eq!(rt; gaps.count, 1);
-    assert_eq!(rt; gaps.sum, 15_728_636);
+    assert_eq!(rt; gaps.sum, 15_728_638);
     Ok(())
 }

@@ -4,21 +4,20 @@ use Rattle.std.specs.Prelude.{Option, Some, None, if◌then◌else◌, nat_lt}
 use Rattle.std.proofs.lemmas.Bool.{cases_lt, lt-ltb, le-ltb, ltb-false}
 use Rattle.bt_tcp.specs.declared.covered.Span.{Span}
 use Rattle.bt_tcp.specs.Covered.{in_span, is_covered, AreApart, Adds, IsAlone}
-use Rattle.bt_tcp.specs.Segments.{Segment}
 use Rattle.bt_tcp.proofs.CoveredProofs.{apart-before, apart-less}
 use Rattle.bt_flow.specs.declared.noted.Noted.{Noted}
 use Rattle.bt_flow.specs.Notes.{spans_in, spans_noted, AddsIfRoom, NotesMore, HasNoRoom, HasNoRoomFor, ReachBase}
-use Rattle.bt_flow.specs.Flows.{is_captured, IsNotedIfRoom, LacksRoom, LacksRoomAmong}
+use Rattle.bt_flow.specs.Flows.{IsNotedIfRoom, LacksRoom, LacksRoomAmong}
 
 -- ---- a place and a span
 
 pub in_it : (s : Span) (i : ℕ) → s.from ≤ i → i < s.to → in_span s i ≡ true
 in_it s i a b = ap (λ c. if c then false else nat_lt i s.to) (le-ltb i s.from a) ∙ lt-ltb i s.to b
 
-from_it : (s : Span) (i : ℕ) → s.from ≤ i → in_span s i ≡ nat_lt i s.to
+pub from_it : (s : Span) (i : ℕ) → s.from ≤ i → in_span s i ≡ nat_lt i s.to
 from_it s i a = ap (λ c. if c then false else nat_lt i s.to) (le-ltb i s.from a)
 
-before_it : (s : Span) (i : ℕ) → i < s.from → in_span s i ≡ false
+pub before_it : (s : Span) (i : ℕ) → i < s.from → in_span s i ≡ false
 before_it s i a = ap (λ c. if c then false else nat_lt i s.to) (lt-ltb i s.from a)
 
 neither : (b c : Bool) → c ≡ false → (if b then false else c) ≡ false
@@ -39,7 +38,7 @@ covered_in s spans i a b = ap (λ c. if c then true else is_covered spans i) (in
 
 -- ---- spans that begin before the base
 
-both_reach : (p c q d : Bool) → (if p then true else c) ≡ true → (p ≡ true → q ≡ true) → (c ≡ true → d ≡ true) → (if q then true else d) ≡ true
+pub both_reach : (p c q d : Bool) → (if p then true else c) ≡ true → (p ≡ true → q ≡ true) → (c ≡ true → d ≡ true) → (if q then true else d) ≡ true
 both_reach true c q d e h k = ap (λ b. if b then true else d) (h refl)
 both_reach false c true d e h k = refl
 both_reach false c false d e h k = k e
@@ -190,10 +189,10 @@ noted_if_room base next s o o' between r h a (inr f) (inr b) =
     ) in
     inr (room, λ i g. ap (λ x. is_covered x i) b.0 ∙ between_past base next (spans_noted o) between (inr f) i g)
 
-pub no_room : (segs : List Segment) (base next : ℕ) (s : Span) (spans : List Span) → AreApart 0 spans → ReachBase base spans
-    → ((i : ℕ) → next ≤ i → is_covered spans i ≡ is_captured segs i) → base ≤ next → HasNoRoomFor (record { from = base; to = next }) s spans
-    → LacksRoom segs base s next
-no_room segs base next s spans a r c h (inl w) = (
+pub no_room : (is_such : ℕ → Bool) (base next : ℕ) (s : Span) (spans : List Span) → AreApart 0 spans → ReachBase base spans
+    → ((i : ℕ) → next ≤ i → is_covered spans i ≡ is_such i) → base ≤ next → HasNoRoomFor (record { from = base; to = next }) s spans
+    → LacksRoom is_such base s next
+no_room is_such base next s spans a r c h (inl w) = (
   spans,
   w.0,
   inl (
@@ -201,7 +200,7 @@ no_room segs base next s spans a r c h (inl w) = (
     record { apart = apart-less next (next + 1) spans (omega arith) (all_past base next spans a r h w.1); covered = c },
   ),
 )
-no_room segs base next s spans a r c h (inr w) =
+no_room is_such base next s spans a r c h (inr w) =
     let cut = cut_at base w.0 w.1 (reach_one base next spans w.0 w.2 r) in (
       cut.0,
       cut.1.long ∙ w.3.0,
@@ -209,7 +208,7 @@ no_room segs base next s spans a r c h (inr w) =
         record {
           apart = cut.1.apart;
           covered = λ i b. cut.1.same i b ∙ w.2 i ∙ ap (λ x. if x then true else is_covered spans i) (from_it (record { from = base; to = next }) i b)
-              ∙ same_if (nat_lt i next) (is_covered spans i) (is_captured segs i) (λ e. c i (ltb-false i next e));
+              ∙ same_if (nat_lt i next) (is_covered spans i) (is_such i) (λ e. c i (ltb-false i next e));
         },
         alone_from base s w.0 cut.0 cut.1 w.3.1,
       ),

@@ -1,9 +1,10 @@
 -- What a direction has taken after a call.
 use Rattle.std.proofs.Common.{◌≡◌, ℕ, ◌+◌, ◌-◌, min, ◌<◌, ◌≤◌, ◌%◌, ◌^◌, Bool, true, false, List, [], ◌∷◌, ◌++◌, length}
 use Rattle.std.proofs.Common.{length-append, append_assoc, append-nil, refl, sym, ap, subst, ◌∙◌, arith, inl, inr}
-use Rattle.std.specs.Prelude.{Option, Some, None, not, unwrap_or, ◌⊎◌, if◌then◌else◌, nat_lt}
+use Rattle.std.specs.Prelude.{Option, Some, None, IsTrue, ◌↔◌, is_some, not, unwrap_or, ◌⊎◌, if◌then◌else◌, nat_lt}
 use Rattle.std.specs.Bool.{then_some}
 use Rattle.std.proofs.lemmas.Bool.{ltb-true}
+use Rattle.bt_tcp.specs.declared.covered.Span.{Span}
 use Rattle.bt_tcp.specs.Covered.{in_span, is_covered}
 use Rattle.bt_tcp.specs.declared.halves.Half.{Half}
 use Rattle.bt_tcp.specs.Segments.{Segment}
@@ -17,14 +18,14 @@ use Rattle.bt_flow.specs.declared.flow.Flow.{Flow}
 use Rattle.bt_flow.specs.declared.flow.Given.{Given}
 use Rattle.bt_flow.specs.declared.noted.Noted.{Noted}
 use Rattle.bt_flow.specs.Memory.{next_of, seen}
-use Rattle.bt_flow.specs.Notes.{AddsBothIfRoom, AreNoted, NotesBoth, NotesOne, FillsOne, HasNoRoomFor, is_full, spans_in, spans_noted}
+use Rattle.bt_flow.specs.Notes.{AddsBothIfRoom, AreNoted, IsNotedFrom, NotesBoth, NotesOne, FillsOne, HasNoRoomFor, is_full, spans_in, spans_noted}
 use Rattle.bt_flow.proofs.Filled.{apart_noted, no_room}
-use Rattle.bt_flow.proofs.Notes.{captured_more, fills_first, first_if_room, notes_if_room, notes_more, notes_none, noted_more, same_if_room}
+use Rattle.bt_flow.proofs.Notes.{IsNextOf, captured_more, fills_first, first_if_room, notes_if_room, notes_more, notes_none, noted_more, same_if_room}
 use Rattle.bt_flow.proofs.Streams.{conflicts_none}
 use Rattle.bt_flow.specs.Counts.{counts}
-use Rattle.bt_flow.specs.Streams.{IsStreamOf, conflicts_with}
+use Rattle.bt_flow.specs.Streams.{IsStreamOf, StreamTakes, conflicts_with}
 use Rattle.bt_flow.specs.Flows.{has_bytes, AreQuiet, IsBaseOf, IsStreamFor, is_lost_stream, with_segment, sent_at, FlowTakes, BeginsAt, StreamsOnly}
-use Rattle.bt_flow.specs.Flows.{AreNotedFor, NotesIn, FillsIn, first_held, CountsMore, IsCounted, GivesUpLate, LacksRoom, FillsLate}
+use Rattle.bt_flow.specs.Flows.{AreNotedFor, NotesFrom, needs_room, NotesIn, FillsIn, first_held, CountsMore, IsCounted, GivesUpLate, LacksRoom, FillsLate}
 use Rattle.bt_flow.specs.Flows.{is_captured, IsWithin, IsNotedIfRoom, NotesIfRoom, NotesSomeIn}
 
 quiet_more : (heard : List Heard) (e : Heard) → AreQuiet heard → has_bytes e ≡ false → AreQuiet (heard ++ e ∷ [])
@@ -139,9 +140,12 @@ counted : (segs : List Segment) (out : List ℕ) (o : Option Stream) (at : ℕ) 
     → counts at (length bytes) ≡ true → CountsMore segs out o at bytes o' → IsCounted segs out o at bytes o'
 counted segs out o at bytes o' y m = (λ n. absurd (let z : true ≡ false = sym y ∙ n in cc), λ _. m)
 
-fills_same : (segs : List Segment) (out : List ℕ) (o : Option Stream) (at : ℕ) (bytes : List ℕ) (n n' : Option Noted) → counts at (length bytes) ≡ false
-    → n' ≡ n → FillsLate segs out o at bytes n n'
-fills_same segs out o at bytes n n' u e = record {
+fills_same : (was : Bool) (segs : List Segment) (out : List ℕ) (o : Option Stream) (at : ℕ) (bytes : List ℕ) (n n' : Option Noted)
+    → counts at (length bytes) ≡ false
+    → n' ≡ n → FillsLate was segs out o at bytes n n'
+fills_same was segs out o at bytes n n' u e = record {
+  from = at;
+  starts = λ y. absurd (let z : true ≡ false = sym y ∙ u in cc);
   full = λ l. ap is_full e ∙ l;
   late = λ l x. absurd (let z : true ≡ false = sym x ∙ ap is_full e ∙ l in cc);
   same = λ _. e;
@@ -152,20 +156,30 @@ stays_full : (b : Bool) (n n' : Option Noted) → is_full n' ≡ b → (is_full 
 stays_full true n n' e f l = e
 stays_full false n n' e f l = absurd (let z : true ≡ false = sym l ∙ f e in cc)
 
-fills_late : (segs : List Segment) (out : List ℕ) (s : Stream) (next at : ℕ) (bytes : List ℕ) (n n' : Option Noted)
-    → counts at (length bytes) ≡ true → next_of s.window ≡ s.base + length out → next ≤ next_of s.window → AreNoted segs s.base next n
-    → NotesOne (next_of s.window) (record { from = at; to = at + length bytes }) n n'
-    → NotesIfRoom s.base (next_of s.window) (record { from = at; to = at + length bytes }) n n'
-    → FillsOne s.base (next_of s.window) (record { from = at; to = at + length bytes }) n n' → FillsLate segs out (Some s) at bytes n n'
-fills_late segs out s next at bytes n n' k e l a m z f = record {
-  full = stays_full (is_full n') n n' refl (λ x. (m x).0);
-  late = λ o full. (
-      subst (λ x. LacksRoom segs s.base (record { from = at; to = at + length bytes }) x) e
-      (no_room segs s.base (next_of s.window) (record { from = at; to = at + length bytes }) (spans_noted n) (apart_noted n) a.reach
-      (λ i h. a.all o i (omega (arith, l, h))) (omega (arith, e)) (f o full)));
-  same = λ x. absurd (let y : true ≡ false = sym k ∙ x in cc);
-  noted = λ _. subst (λ x. IsNotedIfRoom s.base x (record { from = at; to = at + length bytes }) n n') e (z.room (omega (arith, e)) a.reach);
-}
+needed : (was : Bool) (segs : List Segment) (base next : ℕ) (n : Option Noted) → AreNoted was segs base next n → is_full n ≡ false → (i : ℕ) → next ≤ i
+    → is_covered (spans_noted n) i ≡ needs_room was segs n i
+needed false segs base next n a o i h = a.all refl o i h
+needed true segs base next n a o i h = refl
+
+fills_late : (was : Bool) (segs : List Segment) (out : List ℕ) (s : Stream) (next at : ℕ) (bytes : List ℕ) (n n' : Option Noted) (from : ℕ)
+    → counts at (length bytes) ≡ true → next_of s.window ≡ s.base + length out → next ≤ next_of s.window → AreNoted was segs s.base next n
+    → IsNotedFrom was s.is_lost at (at + length bytes) (next_of s.window) n from
+    → NotesOne (next_of s.window) (record { from = from; to = at + length bytes }) n n'
+    → NotesIfRoom s.base (next_of s.window) (record { from = from; to = at + length bytes }) n n'
+    → FillsOne s.base (next_of s.window) (record { from = from; to = at + length bytes }) n n' → FillsLate was segs out (Some s) at bytes n n'
+fills_late was segs out s next at bytes n n' from k e l a g m z f =
+    let span : Span = record { from = from; to = at + length bytes } in
+    record {
+      from = from;
+      starts = λ _. subst (λ x. IsNotedFrom was s.is_lost at (at + length bytes) x n from) e g;
+      full = stays_full (is_full n') n n' refl (λ x. (m x).0);
+      late = λ o full. (
+          subst (λ x. LacksRoom (needs_room was segs n) s.base span x) e
+          (no_room (needs_room was segs n) s.base (next_of s.window) span (spans_noted n) (apart_noted n) a.reach
+          (λ i h. needed was segs s.base next n a o i (omega (arith, l, h))) (omega (arith, e)) (f o full)));
+      same = λ x. absurd (let y : true ≡ false = sym k ∙ x in cc);
+      noted = λ _. subst (λ x. IsNotedIfRoom s.base x span n n') e (z.room (omega (arith, e)) a.reach);
+    }
 
 late_same : (out : List ℕ) (o : Option Stream) (at : ℕ) (bytes : List ℕ) (o' : Option Stream) → o' ≡ o → GivesUpLate out o at bytes o'
 late_same out o at bytes None e = tt
@@ -194,18 +208,72 @@ takes_quiet g flow given flow' at s m h n = record {
         },
         uncounted segs out flow.stream at g.payload.now flow'.stream n s,
         late_same out flow.stream at g.payload.now flow'.stream s,
-        fills_same segs (out ++ []) flow'.stream at g.payload.now flow.noted flow'.noted n m,
+        fills_same (is_lost_stream flow.stream) segs (out ++ []) flow'.stream at g.payload.now flow.noted flow'.noted n m,
       ));
 }
 
-noted_none : (segs : List Segment) (base next : ℕ) (n : Option Noted) → segs ≡ [] → n ≡ None → AreNoted segs base next n
-noted_none segs base next n s e =
-    let z : AreNoted [] base next None = record {
+noted_none : (lost : Bool) (segs : List Segment) (base next : ℕ) (n : Option Noted) → segs ≡ [] → n ≡ None → AreNoted lost segs base next n
+noted_none lost segs base next n s e =
+    let z : AreNoted lost [] base next None = record {
       only = λ i h x. x;
-      all = λ full k h. refl;
+      all = λ _ full k h. refl;
+      past = λ full k j h g x. refl;
+      here = refl;
       reach = λ i h x. absurd (let y : true ≡ false = sym x in cc);
     } in
-    subst (λ x. AreNoted x base next n) (sym s) (subst (λ x. AreNoted [] base next x) (sym e) z)
+    subst (λ x. AreNoted lost x base next n) (sym s) (subst (λ x. AreNoted lost [] base next x) (sym e) z)
+
+-- ---- what a stream that was there, or began, notes
+
+next_same : (segs segs' : List Segment) (out more : List ℕ) (s s' : Stream) → IsStreamOf segs out s → IsStreamOf segs' (out ++ more) s' → s'.base ≡ s.base
+    → more ≡ [] → next_of s'.window ≡ next_of s.window
+next_same segs segs' out more s s' i j b e =
+    let l : length more ≡ 0 = ap length e in
+    omega (arith, i.next_is, j.next_is, b, l, length-append out more)
+
+next_after : (at : ℕ) (bytes : List ℕ) (s : Stream) (more : List ℕ) (s' : Stream) → StreamTakes at bytes s more s' → (segs : List Segment) (out : List ℕ)
+    → IsStreamOf segs out s
+    → IsNextOf s.is_lost s'.is_lost segs (segs ++ record { place = at; bytes = bytes } ∷ []) (next_of s.window) (next_of s'.window)
+next_after at bytes s more s' t segs out i =
+    let segs' : List Segment = segs ++ record { place = at; bytes = bytes } ∷ [] in
+    let j = t.taken segs out i in
+    let same : more ≡ [] → next_of s'.window ≡ next_of s.window = next_same segs segs' out more s s' i j t.base in
+    record {
+      ends = λ l. ap (is_captured segs') j.next_is ∙ ap is_some (j.stream l).ends;
+      falls = λ l x. ap (is_captured segs) (same (t.lost l x).1 ∙ i.next_is) ∙ ap is_some (i.stream l).ends;
+      stays = λ l. (t.final l, same (t.none l));
+    }
+
+starts_after : (at : ℕ) (bytes : List ℕ) (s : Stream) (more : List ℕ) (s' : Stream) (n : Option Noted) (from : ℕ) → StreamTakes at bytes s more s'
+    → NotesFrom s.is_lost at (at + length bytes) (Some s') n from → (segs : List Segment) (out : List ℕ) → IsStreamOf segs out s
+    → AreNoted s.is_lost segs s.base (next_of s.window) n
+    → IsNotedFrom s.is_lost s'.is_lost at (at + length bytes) (next_of s'.window) n from
+starts_after at bytes s more s' n from t f segs out i a =
+    let same : more ≡ [] → next_of s'.window ≡ next_of s.window
+    = next_same segs (segs ++ record { place = at; bytes = bytes } ∷ []) out more s s' i (t.taken segs out i) t.base in
+    f (λ l. ap (is_covered (spans_noted n)) (same (t.none l)) ∙ a.here) (λ l x. (let p = t.lost l x in omega (arith, p.0, same p.1)))
+
+noted_after : (at : ℕ) (bytes : List ℕ) (s : Stream) (more : List ℕ) (s' : Stream) (n n' : Option Noted) (from : ℕ) → StreamTakes at bytes s more s'
+    → NotesFrom s.is_lost at (at + length bytes) (Some s') n from → NotesIn from (at + length bytes) (Some s') n n'
+    → NotesSomeIn from (at + length bytes) (Some s') n n' → (segs : List Segment) (out : List ℕ) → IsStreamOf segs out s
+    → AreNoted s.is_lost segs s.base (next_of s.window) n
+    → AreNoted s'.is_lost (segs ++ record { place = at; bytes = bytes } ∷ []) s'.base (next_of s'.window) n'
+noted_after at bytes s more s' n n' from t f w z segs out i a =
+    let j = t.taken segs out i in
+    let l : next_of s.window ≤ next_of s'.window = omega (arith, t.base, i.next_is, j.next_is, length-append out more) in
+    noted_more s.is_lost s'.is_lost segs at bytes s'.base (next_of s.window) (next_of s'.window) n n' from l (omega (arith, j.next_is))
+    (next_after at bytes s more s' t segs out i) (subst (λ x. AreNoted s.is_lost segs x (next_of s.window) n) (sym t.base) a)
+    (starts_after at bytes s more s' n from t f segs out i a) w z
+
+fills_after : (at : ℕ) (bytes : List ℕ) (s : Stream) (more : List ℕ) (s' : Stream) (n n' : Option Noted) (from : ℕ) → counts at (length bytes) ≡ true
+    → StreamTakes at bytes s more s' → NotesFrom s.is_lost at (at + length bytes) (Some s') n from → NotesIn from (at + length bytes) (Some s') n n'
+    → NotesSomeIn from (at + length bytes) (Some s') n n' → FillsIn from (at + length bytes) (Some s') n n' → (segs : List Segment) (out : List ℕ)
+    → IsStreamOf segs out s → AreNoted s.is_lost segs s.base (next_of s.window) n → FillsLate s.is_lost segs (out ++ more) (Some s') at bytes n n'
+fills_after at bytes s more s' n n' from u t f w z q segs out i a =
+    let j = t.taken segs out i in
+    let l : next_of s.window ≤ next_of s'.window = omega (arith, t.base, i.next_is, j.next_is, length-append out more) in
+    fills_late s.is_lost segs (out ++ more) s' (next_of s.window) at bytes n n' from u j.next_is l
+    (subst (λ x. AreNoted s.is_lost segs x (next_of s.window) n) (sym t.base) a) (starts_after at bytes s more s' n from t f segs out i a) w z q
 
 record TakesBytes (at : ℕ) (bytes : List ℕ) (sent : Sent) (half : Half) (o : Option Stream) (more : List ℕ) (o' : Option Stream)
     (n n' : Option Noted) : Type 0 where
@@ -217,18 +285,19 @@ record TakesBytes (at : ℕ) (bytes : List ℕ) (sent : Sent) (half : Half) (o :
   counted : (heard : List Heard) (segs : List Segment) (out : List ℕ) → IsStreamFor heard segs out o → CountsMore segs out o at bytes o'
   late : (heard : List Heard) (segs : List Segment) (out : List ℕ) → IsStreamFor heard segs out o → GivesUpLate out o at bytes o'
   fills : (heard : List Heard) (segs : List Segment) (out : List ℕ) → IsStreamFor heard segs out o → AreNotedFor segs o n
-      → FillsLate segs (out ++ more) o' at bytes n n'
+      → FillsLate (is_lost_stream o) segs (out ++ more) o' at bytes n n'
 
 takes_bytes : (at : ℕ) (bytes : List ℕ) (sent : Sent) (flow : Flow) (o o1 : Option Stream) (more : List ℕ) (o2 : Option Stream)
-    (n n' : Option Noted)
+    (n n' : Option Noted) (from : ℕ)
     → counts at (length bytes) ≡ true → has_bytes (Took sent) ≡ true → sent.place ≡ at → BeginsAt at flow o o1 → StreamsOnly at bytes o1 more o2
-    → NotesIn at (at + length bytes) o2 n n' → NotesSomeIn at (at + length bytes) o2 n n' → FillsIn at (at + length bytes) o2 n n'
+    → NotesFrom (is_lost_stream o) at (at + length bytes) o2 n from
+    → NotesIn from (at + length bytes) o2 n n' → NotesSomeIn from (at + length bytes) o2 n n' → FillsIn from (at + length bytes) o2 n n'
     → TakesBytes at bytes sent flow.half o more o2 n n'
-takes_bytes at bytes sent flow None None more o2 n n' u y p b t w z q = absurd b
-takes_bytes at bytes sent flow (Some s) None more o2 n n' u y p b t w z q = absurd b
-takes_bytes at bytes sent flow None (Some s1) more None n n' u y p b t w z q = absurd t
-takes_bytes at bytes sent flow (Some s) (Some s1) more None n n' u y p b t w z q = absurd t
-takes_bytes at bytes sent flow (Some s) (Some s1) more (Some s2) n n' u y p b t w z q = record {
+takes_bytes at bytes sent flow None None more o2 n n' from u y p b t f w z q = absurd b
+takes_bytes at bytes sent flow (Some s) None more o2 n n' from u y p b t f w z q = absurd b
+takes_bytes at bytes sent flow None (Some s1) more None n n' from u y p b t f w z q = absurd t
+takes_bytes at bytes sent flow (Some s) (Some s1) more None n n' from u y p b t f w z q = absurd t
+takes_bytes at bytes sent flow (Some s) (Some s1) more (Some s2) n n' from u y p b t f w z q = record {
   none = λ l. (let l1 : s1.is_lost ≡ true = ap (λ x. x.is_lost) b ∙ l in (t.none l1, t.final l1));
   taken = λ heard segs out i h. (
       let e : s2.base ≡ s.base = t.base ∙ ap (λ x. x.base) b in (
@@ -236,27 +305,22 @@ takes_bytes at bytes sent flow (Some s) (Some s1) more (Some s2) n n' u y p b t 
         t.taken segs out (subst
             (λ x. IsStreamOf segs out x) (sym b) i.1),
       ));
-  noted = λ heard segs out i a. (
-      let e : s2.base ≡ s.base = t.base ∙ ap (λ x. x.base) b in
-      let j = t.taken segs out (subst (λ x. IsStreamOf segs out x) (sym b) i.1) in
-      let l : next_of s.window ≤ next_of s2.window = omega (arith, e, i.1.next_is, j.next_is, length-append out more) in
-      let a2 : AreNoted segs s2.base (next_of s.window) n = subst (λ x. AreNoted segs x (next_of s.window) n) (sym e) a in
-      noted_more segs at bytes s2.base (next_of s.window) (next_of s2.window) n n' l (omega (arith, j.next_is)) a2 w z);
+  noted = λ heard segs out i a. noted_after at bytes s1 more s2 n n' from t
+      (subst (λ (x : Stream). NotesFrom x.is_lost at (at + length bytes) (Some s2) n from) (sym b) f) w z segs out
+      (subst (λ x. IsStreamOf segs out x) (sym b) i.1) (subst (λ (x : Stream). AreNoted x.is_lost segs x.base (next_of x.window) n) (sym b) a);
   counted = λ heard segs out i. (
       let i1 : IsStreamOf segs out s1 = subst (λ x. IsStreamOf segs out x) (sym b) i.1 in
       counted_more s1.is_lost segs out s1 s2 at bytes i1 refl t.base (t.counted segs out i1)
       ∙ ap (λ x. min (2 ^ 64 - 1) (x.conflicts + conflicts (first_held x.is_lost segs s2.base out) at bytes)) b);
-  fills = λ heard segs out i a. (
-      let e : s2.base ≡ s.base = t.base ∙ ap (λ x. x.base) b in
-      let j = t.taken segs out (subst (λ x. IsStreamOf segs out x) (sym b) i.1) in
-      let l : next_of s.window ≤ next_of s2.window = omega (arith, e, i.1.next_is, j.next_is, length-append out more) in
-      let a2 : AreNoted segs s2.base (next_of s.window) n = subst (λ x. AreNoted segs x (next_of s.window) n) (sym e) a in
-      fills_late segs (out ++ more) s2 (next_of s.window) at bytes n n' u j.next_is l a2 w z q);
+  fills = λ heard segs out i a. subst (λ (x : Stream). FillsLate x.is_lost segs (out ++ more) (Some s2) at bytes n n') b
+      (fills_after at bytes s1 more s2 n n' from u t
+      (subst (λ (x : Stream). NotesFrom x.is_lost at (at + length bytes) (Some s2) n from) (sym b) f) w z q segs out
+      (subst (λ x. IsStreamOf segs out x) (sym b) i.1) (subst (λ (x : Stream). AreNoted x.is_lost segs x.base (next_of x.window) n) (sym b) a));
   late = λ heard segs out i l x. (
       let i1 : IsStreamOf segs out s1 = subst (λ x. IsStreamOf segs out x) (sym b) i.1 in
-      omega (arith, t.lost (ap (λ x. x.is_lost) b ∙ l) x, i1.next_is, t.base));
+      omega (arith, (t.lost (ap (λ x. x.is_lost) b ∙ l) x).0, i1.next_is, t.base));
 }
-takes_bytes at bytes sent flow None (Some s1) more (Some s2) n n' u y p b t w z q = record {
+takes_bytes at bytes sent flow None (Some s1) more (Some s2) n n' from u y p b t f w z q = record {
   none = λ l. absurd (let e : false ≡ true = l in cc);
   taken = λ heard segs out i h. (
       let u = b.3 (heard ++ Took sent ∷ []) h in
@@ -277,36 +341,46 @@ takes_bytes at bytes sent flow None (Some s1) more (Some s2) n n' u y p b t w z 
         },
         t.taken segs out i0,
       ));
-  noted = λ heard segs out i a. (
-      let j = t.taken [] [] b.0 in
-      let l : next_of s1.window ≤ next_of s2.window = omega (arith, t.base, b.0.next_is, j.next_is, length-append [] more) in
-      noted_more segs at bytes s2.base (next_of s1.window) (next_of s2.window) n n' l (omega (arith, j.next_is))
-      (noted_none segs s2.base (next_of s1.window) n i.1 a) w z);
+  noted = λ heard segs out i a. noted_after at bytes s1 more s2 n n' from t
+      (subst (λ x. NotesFrom x at (at + length bytes) (Some s2) n from) (sym b.1) f) w z segs out
+      (subst (λ x. IsStreamOf segs x s1) (sym i.2) (subst (λ x. IsStreamOf x [] s1) (sym i.1) b.0))
+      (noted_none s1.is_lost segs s1.base (next_of s1.window) n i.1 a);
   counted = λ heard segs out i. (
       let i1 : IsStreamOf segs out s1 = subst (λ x. IsStreamOf segs x s1) (sym i.2) (subst (λ x. IsStreamOf x [] s1) (sym i.1) b.0) in
       counted_more false segs out s1 s2 at bytes i1 b.1 t.base (t.counted segs out i1)
       ∙ ap (λ x. min (2 ^ 64 - 1) (x + conflicts (first_held false segs s2.base out) at bytes)) b.2);
-  fills = λ heard segs out i a. (
-      let i1 : IsStreamOf segs out s1 = subst (λ x. IsStreamOf segs x s1) (sym i.2) (subst (λ x. IsStreamOf x [] s1) (sym i.1) b.0) in
-      let j = t.taken segs out i1 in
-      let l : next_of s1.window ≤ next_of s2.window = omega (arith, t.base, i1.next_is, j.next_is, length-append out more) in
-      fills_late segs (out ++ more) s2 (next_of s1.window) at bytes n n' u j.next_is l
-      (noted_none segs s2.base (next_of s1.window) n i.1 a) w z q);
+  fills = λ heard segs out i a. subst (λ x. FillsLate x segs (out ++ more) (Some s2) at bytes n n') b.1
+      (fills_after at bytes s1 more s2 n n' from u t
+      (subst (λ x. NotesFrom x at (at + length bytes) (Some s2) n from) (sym b.1) f) w z q segs out
+      (subst (λ x. IsStreamOf segs x s1) (sym i.2) (subst (λ x. IsStreamOf x [] s1) (sym i.1) b.0))
+      (noted_none s1.is_lost segs s1.base (next_of s1.window) n i.1 a));
   late = λ heard segs out i l x. (
       let i1 : IsStreamOf segs out s1 = subst (λ x. IsStreamOf segs x s1) (sym i.2) (subst (λ x. IsStreamOf x [] s1) (sym i.1) b.0) in
-      omega (arith, t.lost b.1 x, i1.next_is, t.base));
+      omega (arith, (t.lost b.1 x).0, i1.next_is, t.base));
 }
 
-pub takes_counted : (g : Given) (flow : Flow) (given more : List ℕ) (flow0 flow1 flow2 flow3 : Flow) (at : ℕ)
-    → flow3.half ≡ flow2.half → flow3.stream ≡ flow2.stream → NotesIn at (at + length g.payload.now) flow2.stream flow2.noted flow3.noted
-    → NotesSomeIn at (at + length g.payload.now) flow2.stream flow2.noted flow3.noted
-    → FillsIn at (at + length g.payload.now) flow2.stream flow2.noted flow3.noted
+same_truth : (b c : Bool) → IsTrue b ↔ (c ≡ true) → b ≡ c
+same_truth true c e = sym (e.0 refl)
+same_truth false false e = refl
+same_truth false true e = absurd (let z : false ≡ true = e.1 refl in cc)
+
+pub lost_before : (was : Bool) (was_there : Option Stream) (at «end» : ℕ) (o : Option Stream) (n : Option Noted) (from : ℕ)
+    → IsTrue was ↔ (is_lost_stream was_there ≡ true) → NotesFrom was at «end» o n from → NotesFrom (is_lost_stream was_there) at «end» o n from
+lost_before was was_there at «end» o n from e f = subst (λ x. NotesFrom x at «end» o n from) (same_truth was (is_lost_stream was_there) e) f
+
+pub takes_counted : (g : Given) (flow : Flow) (given more : List ℕ) (flow0 flow1 flow2 flow3 : Flow) (at from : ℕ)
+    → flow3.half ≡ flow2.half → flow3.stream ≡ flow2.stream
+    → NotesFrom (is_lost_stream flow.stream) at (at + length g.payload.now) flow2.stream flow2.noted from
+    → NotesIn from (at + length g.payload.now) flow2.stream flow2.noted flow3.noted
+    → NotesSomeIn from (at + length g.payload.now) flow2.stream flow2.noted flow3.noted
+    → FillsIn from (at + length g.payload.now) flow2.stream flow2.noted flow3.noted
     → flow2.noted ≡ flow1.noted → flow1.noted ≡ flow.noted → flow0.stream ≡ flow.stream → HearsMore flow.half (Took (sent_at g at)) flow0.half
     → counts at (length g.payload.now) ≡ true → BeginsAt at flow0 flow0.stream flow1.stream → flow1.half ≡ flow0.half → flow2.half ≡ flow1.half
     → StreamsOnly at g.payload.now flow1.stream more flow2.stream → FlowTakes g flow given flow3 (given ++ more)
-takes_counted g flow given more flow0 flow1 flow2 flow3 at u v w z q m1 m0 s h y b e f t =
+takes_counted g flow given more flow0 flow1 flow2 flow3 at from u v p w z q m1 m0 s h y b e f t =
     let r : TakesBytes at g.payload.now (sent_at g at) flow0.half flow0.stream more flow2.stream flow2.noted flow3.noted
-    = takes_bytes at g.payload.now (sent_at g at) flow0 flow0.stream flow1.stream more flow2.stream flow2.noted flow3.noted y y refl b t w z q in
+    = takes_bytes at g.payload.now (sent_at g at) flow0 flow0.stream flow1.stream more flow2.stream flow2.noted flow3.noted from y y refl b t
+    (subst (λ o. NotesFrom (is_lost_stream o) at (at + length g.payload.now) flow2.stream flow2.noted from) (sym s) p) w z q in
     record {
       more = more;
       is = refl;
@@ -337,10 +411,11 @@ takes_counted g flow given more flow0 flow1 flow2 flow3 at u v w z q m1 m0 s h y
                 (r.counted heard segs out (subst (λ o. IsStreamFor heard segs out o) (sym s) i.stream)))),
             subst (λ o. GivesUpLate out flow.stream at g.payload.now o) (sym v) (subst (λ o. GivesUpLate out o at g.payload.now flow2.stream) s
                 (r.late heard segs out (subst (λ o. IsStreamFor heard segs out o) (sym s) i.stream))),
-            subst (λ o. FillsLate segs (out ++ more) o at g.payload.now flow.noted flow3.noted) (sym v)
-                (subst (λ n. FillsLate segs (out ++ more) flow2.stream at g.payload.now n flow3.noted) (m1 ∙ m0)
+            subst (λ o. FillsLate (is_lost_stream flow.stream) segs (out ++ more) o at g.payload.now flow.noted flow3.noted) (sym v)
+                (subst (λ n. FillsLate (is_lost_stream flow.stream) segs (out ++ more) flow2.stream at g.payload.now n flow3.noted) (m1 ∙ m0)
+                (subst (λ o. FillsLate (is_lost_stream o) segs (out ++ more) flow2.stream at g.payload.now flow2.noted flow3.noted) s
                 (r.fills heard segs out (subst (λ o. IsStreamFor heard segs out o) (sym s) i.stream)
-                (same_noted segs flow.stream flow0.stream flow.noted flow2.noted s (m1 ∙ m0) i.noted))),
+                (same_noted segs flow.stream flow0.stream flow.noted flow2.noted s (m1 ∙ m0) i.noted)))),
           ));
     }
 

@@ -92,7 +92,7 @@ pub advance_lost : (at : ℕ) (bytes : List ℕ) (s s' : Stream) → s'.base ≡
 advance_lost at bytes s s' b c l n h z p = record {
   base = b;
   conflicts = c;
-  lost = λ _. p;
+  lost = λ _. (p, refl);
   taken = λ segs out i. lost_one at bytes s s' b l n h segs out i z;
 }
 
@@ -120,7 +120,7 @@ takes_on at bytes s more s1 s' b l n a keep counted = record {
   base = a.base ∙ b;
   none = λ x. absurd (let t : true ≡ false = sym x ∙ l in cc);
   final = λ x. absurd (let t : true ≡ false = sym x ∙ l in cc);
-  lost = λ _ x. subst (λ k. k + 15728640 < at + length bytes) n (a.lost x);
+  lost = λ _ x. (subst (λ k. k + 15728640 < at + length bytes) n (a.lost x).0, (a.lost x).1);
   counted = λ segs out i. a.conflicts ∙ counted segs out i;
   taken = λ segs out i. a.taken segs out (keep segs out i);
 }

@@ -11,7 +11,7 @@ use Rattle.bt_tcp.specs.Heard.{Heard, Sent, Took, Acked, opening_of, high_of, fi
 use Rattle.bt_tcp.specs.Halves.{IsHalf, IsOutOfRange}
 use Rattle.bt_flow.specs.declared.stream.Stream.{Stream}
 use Rattle.bt_flow.specs.declared.noted.Noted.{Noted}
-use Rattle.bt_flow.specs.Notes.{AddsSome, AreNoted, NotesOne, FillsOne, ReachBase, spans_noted, is_full}
+use Rattle.bt_flow.specs.Notes.{AddsSome, AreNoted, IsNotedFrom, NotesOne, FillsOne, ReachBase, spans_noted, is_full}
 use Rattle.bt_flow.specs.Memory.{next_of, capacity_of}
 use Rattle.bt_flow.specs.declared.flow.Flow.{Flow}
 use Rattle.bt_flow.specs.declared.flow.Given.{Given}
@@ -52,7 +52,7 @@ IsWithin segs high = (i : ℕ) → is_captured segs i ≡ true → i < high
 -- Before the first captured byte nothing is noted.
 abbrev pub AreNotedFor : List Segment → Option Stream → Option Noted → Type 0
 AreNotedFor segs None o = o ≡ None
-AreNotedFor segs (Some s) o = AreNoted segs s.base (next_of s.window) o
+AreNotedFor segs (Some s) o = AreNoted s.is_lost segs s.base (next_of s.window) o
 
 -- This was heard, these segments were taken, and these bytes were handed out.
 pub record IsFlow (heard : List Heard) (segs : List Segment) (out : List ℕ) (flow : Flow) : Type 0 where
@@ -108,29 +108,30 @@ abbrev pub GivesUpLate : List ℕ → Option Stream → ℕ → List ℕ → Opt
 GivesUpLate out o at bytes None = Unit {0}
 GivesUpLate out o at bytes (Some s') = is_lost_stream o ≡ false → s'.is_lost ≡ true → s'.base + length out + 15728640 < at + length bytes
 
--- handed out, since it is before the next place, or captured
-abbrev pub is_taken : List Segment → ℕ → ℕ → Bool
-is_taken segs next i = if nat_lt i next then true else is_captured segs i
+-- handed out, since it is before the next place, or such
+abbrev pub or_before : ℕ → (ℕ → Bool) → ℕ → Bool
+or_before next is_such i = if nat_lt i next then true else is_such i
 
 -- Such places, from one on, are these spans, which don't touch.
 pub record AreSpansOf (is_such : ℕ → Bool) (from : ℕ) (spans : List Span) : Type 0 where
   pub apart : AreApart from spans
   pub covered : (i : ℕ) → from ≤ i → is_covered spans i ≡ is_such i
 
--- There is no room for a segment if 1,024 spans of captured places are past the next place,
--- or if there are 1,024 spans of taken places, of which those handed out are one, and the segment touches none of them.
-abbrev pub LacksRoom : List Segment → ℕ → Span → ℕ → Type 0
-LacksRoom segs base s next =
-    (spans : List Span) × (length spans ≡ 1024) × (((is_captured segs next ≡ false) × AreSpansOf (is_captured segs) next spans)
-    ⊎ (AreSpansOf (is_taken segs next) base spans × IsAlone s spans))
+-- There is no room for a segment if 1,024 spans of such places are past the next place,
+-- or if there are 1,024 spans with those handed out as one of them, and the segment touches none of them.
+abbrev pub LacksRoom : (ℕ → Bool) → ℕ → Span → ℕ → Type 0
+LacksRoom is_such base s next =
+    (spans : List Span) × (length spans ≡ 1024) × (((is_such next ≡ false) × AreSpansOf is_such next spans)
+    ⊎ (AreSpansOf (or_before next is_such) base spans × IsAlone s spans))
 
-abbrev pub LacksRoomFor : List Segment → List ℕ → Option Stream → ℕ → List ℕ → Type 0
-LacksRoomFor segs out None at bytes = ⊥
-LacksRoomFor segs out (Some s) at bytes = LacksRoom segs s.base (record { from = at; to = at + length bytes }) (s.base + length out)
+-- the places that need room: the captured ones, but once a gap is final only those that are noted
+abbrev pub needs_room : Bool → List Segment → Option Noted → ℕ → Bool
+needs_room false segs n = is_captured segs
+needs_room true segs n = is_covered (spans_noted n)
 
--- handed out, since it is before the next place, or such
-abbrev pub or_before : ℕ → (ℕ → Bool) → ℕ → Bool
-or_before next is_such i = if nat_lt i next then true else is_such i
+abbrev pub LacksRoomFor : (ℕ → Bool) → List ℕ → Option Stream → Span → Type 0
+LacksRoomFor is_such out None span = ⊥
+LacksRoomFor is_such out (Some s) span = LacksRoom is_such s.base span (s.base + length out)
 
 -- There are 1,024 spans of such places from the next one on, or with those handed out as one of them, and another span touches none of them.
 abbrev pub LacksRoomAmong : (ℕ → Bool) → ℕ → Span → ℕ → Type 0
@@ -143,25 +144,34 @@ IsNotedIfRoom base next s n n' =
     ((i : ℕ) → next ≤ i → is_covered (spans_noted n') i ≡ (if in_span s i then true else is_covered (spans_noted n) i))
     ⊎ (LacksRoomAmong (is_covered (spans_noted n)) base s next × ((i : ℕ) → next ≤ i → is_covered (spans_noted n') i ≡ is_covered (spans_noted n) i))
 
-abbrev pub IsSegmentNoted : List ℕ → Option Stream → ℕ → List ℕ → Option Noted → Option Noted → Type 0
-IsSegmentNoted out None at bytes n n' = n' ≡ n
-IsSegmentNoted out (Some s) at bytes n n' = IsNotedIfRoom s.base (s.base + length out) (record { from = at; to = at + length bytes }) n n'
+abbrev pub IsSegmentNoted : List ℕ → Option Stream → Span → Option Noted → Option Noted → Type 0
+IsSegmentNoted out None span n n' = n' ≡ n
+IsSegmentNoted out (Some s) span n n' = IsNotedIfRoom s.base (s.base + length out) span n n'
 
--- How the table of captured places goes on. Once it is full, some of them aren't noted.
-pub record FillsLate (segs : List Segment) (out : List ℕ) (o : Option Stream) (at : ℕ) (bytes : List ℕ) (n n' : Option Noted) : Type 0 where
+-- The place from which on a segment is noted: `was_lost` says whether a gap was final before it came.
+abbrev pub StartsAt : Bool → List ℕ → Option Stream → ℕ → ℕ → Option Noted → ℕ → Type 0
+StartsAt was_lost out None at «end» n from = from ≡ at
+StartsAt was_lost out (Some s) at «end» n from = IsNotedFrom was_lost s.is_lost at «end» (s.base + length out) n from
+
+-- How the table of captured places goes on. Once it is full, some of them aren't noted, and once a gap is final, none of that gap's.
+pub record FillsLate (was_lost : Bool) (segs : List Segment) (out : List ℕ) (o : Option Stream) (at : ℕ) (bytes : List ℕ)
+    (n n' : Option Noted) : Type 0 where
+  -- the place from which on the segment is noted, if its bytes count
+  pub from : ℕ
+  pub starts : counts at (length bytes) ≡ true → StartsAt was_lost out o at (at + length bytes) n from
   -- It stays full, and becomes full only if it has no room for a segment.
   pub full : is_full n ≡ true → is_full n' ≡ true
-  pub late : is_full n ≡ false → is_full n' ≡ true → LacksRoomFor segs out o at bytes
-  -- Bytes that don't count leave it as it is. A segment whose bytes count is noted, if there is room for it.
+  pub late : is_full n ≡ false → is_full n' ≡ true → LacksRoomFor (needs_room was_lost segs n) out o (record { from = from; to = at + length bytes })
+  -- Bytes that don't count leave it as it is. A segment whose bytes count is noted from there on, if there is room for it.
   pub same : counts at (length bytes) ≡ false → n' ≡ n
-  pub noted : counts at (length bytes) ≡ true → IsSegmentNoted out o at bytes n n'
+  pub noted : counts at (length bytes) ≡ true → IsSegmentNoted out o (record { from = from; to = at + length bytes }) n n'
 
 -- The segment was taken at its place, or its place is out of range and nothing has changed.
 abbrev pub HasTaken : Given → List Heard → List Segment → List ℕ → Flow → List ℕ → Flow → Type 0
 HasTaken g heard segs out flow more flow' =
     ((at : ℕ) × IsFlow (heard ++ Took (sent_at g at) ∷ []) (with_segment segs at g.payload.now) (out ++ more) flow'
     × IsCounted segs out flow.stream at g.payload.now flow'.stream × GivesUpLate out flow.stream at g.payload.now flow'.stream
-    × FillsLate segs (out ++ more) flow'.stream at g.payload.now flow.noted flow'.noted)
+    × FillsLate (is_lost_stream flow.stream) segs (out ++ more) flow'.stream at g.payload.now flow.noted flow'.noted)
     ⊎ (IsOutOfRange flow.half ((g.sequence + (if g.syn then 1 else 0)) % 2 ^ 32) (length g.payload.now) g.length × (more ≡ []) × IsFlow heard segs out flow'
     × (flow'.stream ≡ flow.stream) × (flow'.noted ≡ flow.noted))
 
@@ -208,17 +218,19 @@ is_noted flow = is_covered (spans_noted flow.noted)
 
 -- the runs of places from the next one on that aren't noted
 pub record AreGapsFrom (heard : List Heard) (segs : List Segment) (flow : Flow) (next : ℕ) (gaps : Gaps) : Type 0 where
-  -- Only captured places are noted, and all of them, unless the table is full.
+  -- Only captured places are noted, and all of them, unless a gap is final or the table is full.
   pub only : (i : ℕ) → next ≤ i → is_noted flow i ≡ true → is_captured segs i ≡ true
-  pub all : is_full flow.noted ≡ false → (i : ℕ) → next ≤ i → is_noted flow i ≡ is_captured segs i
+  pub all : is_lost_stream flow.stream ≡ false → is_full flow.noted ≡ false → (i : ℕ) → next ≤ i → is_noted flow i ≡ is_captured segs i
+  -- Past the first gap all of them are noted, though it is final.
+  pub past : is_full flow.noted ≡ false → (i j : ℕ) → next ≤ j → j ≤ i → is_noted flow j ≡ true → is_noted flow i ≡ is_captured segs i
   -- the gaps by their places, and by their offsets from the base
   pub base : ℕ
   pub found : Gaps
   pub base_is : IsBaseNow heard flow.stream (Some base)
   pub found_are : AreGaps (is_noted flow) next (gaps_end heard next) found
   pub is : gaps ≡ from_base base found
-  -- Unless a gap is final, the first one begins at the next place, if bytes are known to be sent from there on.
-  pub first : is_lost_stream flow.stream ≡ false → next < gaps_end heard next → (gap : Gap) × (gaps.first ≡ Some gap) × (gap.place ≡ next - base)
+  -- The first one begins at the next place, if bytes are known to be sent from there on.
+  pub first : next < gaps_end heard next → (gap : Gap) × (gaps.first ≡ Some gap) × (gap.place ≡ next - base)
 
 abbrev pub AreGapsAt : List Heard → List Segment → Flow → Option ℕ → Gaps → Type 0
 AreGapsAt heard segs flow None gaps = gaps ≡ no_gaps
@@ -251,6 +263,13 @@ StreamsOnly at bytes _ more _ = ⊥
 
 abbrev pub StreamOnly : ℕ → List ℕ → Flow → List ℕ → Flow → Type 0
 StreamOnly at bytes flow more flow' = StreamsOnly at bytes flow.stream more flow'.stream
+
+-- The same, if after a gap was final the next place isn't noted, and if the segment that makes it final ends past that place.
+abbrev pub NotesFrom : Bool → ℕ → ℕ → Option Stream → Option Noted → ℕ → Type 0
+NotesFrom was_lost at «end» None n from = from ≡ at
+NotesFrom was_lost at «end» (Some s) n from =
+    (was_lost ≡ true → is_covered (spans_noted n) (next_of s.window) ≡ false) → (was_lost ≡ false → s.is_lost ≡ true → next_of s.window < «end»)
+    → IsNotedFrom was_lost s.is_lost at «end» (next_of s.window) n from
 
 abbrev pub NotesIn : ℕ → ℕ → Option Stream → Option Noted → Option Noted → Type 0
 NotesIn at «end» None o o' = o' ≡ o

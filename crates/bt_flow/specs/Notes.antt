@@ -1,5 +1,5 @@
 -- The captured places that are noted.
-use Rattle.std.specs.Prelude.{◌≡◌, ℕ, ◌+◌, ◌<◌, ◌≤◌, Bool, true, false, List, [], length, Option, Some, None, ◌⊎◌, is_some, if◌then◌else◌}
+use Rattle.std.specs.Prelude.{◌≡◌, ℕ, ◌+◌, ◌<◌, ◌≤◌, max, Bool, true, false, List, [], length, Option, Some, None, ◌⊎◌, is_some, if◌then◌else◌}
 use Rattle.bt_tcp.specs.declared.covered.Span.{Span}
 use Rattle.bt_tcp.specs.Covered.{is_covered, in_span, spans_of, AreApart, Adds, IsAlone}
 use Rattle.bt_tcp.specs.Segments.{Segment, byte_at}
@@ -67,8 +67,26 @@ NotesOne next s o o' =
 abbrev pub FillsOne : ℕ → ℕ → Span → Option Noted → Option Noted → Type 0
 FillsOne base next s o o' = is_full o ≡ false → is_full o' ≡ true → HasNoRoomFor (record { from = base; to = next }) s (spans_noted o)
 
--- From the next place on only captured places are noted, and all of them, unless the table is full.
-pub record AreNoted (segs : List Segment) (base next : ℕ) (o : Option Noted) : Type 0 where
+-- From the next place on only captured places are noted, and all of them, unless a gap is final or the table is full.
+pub record AreNoted (lost : Bool) (segs : List Segment) (base next : ℕ) (o : Option Noted) : Type 0 where
   pub only : (i : ℕ) → next ≤ i → is_covered (spans_noted o) i ≡ true → is_some (byte_at segs i) ≡ true
-  pub all : is_full o ≡ false → (i : ℕ) → next ≤ i → is_covered (spans_noted o) i ≡ is_some (byte_at segs i)
+  pub all : lost ≡ false → is_full o ≡ false → (i : ℕ) → next ≤ i → is_covered (spans_noted o) i ≡ is_some (byte_at segs i)
+  -- Past the first gap all of them are noted, though it is final.
+  pub past : is_full o ≡ false → (i j : ℕ) → next ≤ j → j ≤ i → is_covered (spans_noted o) j ≡ true
+      → is_covered (spans_noted o) i ≡ is_some (byte_at segs i)
+  -- The next place isn't noted.
+  pub here : is_covered (spans_noted o) next ≡ false
   pub reach : ReachBase base (spans_noted o)
+
+-- The gap at the next place goes on up to this one: that is noted, unless a segment with this end is before it.
+pub record GoesUpTo (next «end» : ℕ) (o : Option Noted) (past : ℕ) : Type 0 where
+  pub after : next < «end» → next < past
+  pub missing : (i : ℕ) → next ≤ i → i < past → is_covered (spans_noted o) i ≡ false
+  pub ends : past < «end» → is_covered (spans_noted o) past ≡ true
+
+-- From where on a segment is noted: from its first place on, but after a gap was final not before the end of the gap.
+-- The segment that makes a gap final may lie in it, but isn't noted at the next place.
+abbrev pub IsNotedFrom : Bool → Bool → ℕ → ℕ → ℕ → Option Noted → ℕ → Type 0
+IsNotedFrom was_lost false at «end» next o from = from ≡ at
+IsNotedFrom false true at «end» next o from = from ≡ max at (next + 1)
+IsNotedFrom true true at «end» next o from = (past : ℕ) × GoesUpTo next «end» o past × (from ≡ max at past)

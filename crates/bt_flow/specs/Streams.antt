@@ -23,13 +23,13 @@ conflicts_with out s at bytes = conflicts (kept s.base out) at bytes + conflicts
 pub record Advances (at : ℕ) (bytes : List ℕ) (s : Stream) (more : List ℕ) (s' : Stream) : Type 0 where
   pub base : s'.base ≡ s.base
   pub conflicts : s'.conflicts ≡ s.conflicts
-  pub lost : s'.is_lost ≡ true → next_of s.window + 15728640 < at + length bytes
+  pub lost : s'.is_lost ≡ true → (next_of s.window + 15728640 < at + length bytes) × (more ≡ [])
   pub taken : (segs : List Segment) (out : List ℕ) → IsStreamOf segs out s → IsStreamOf (segs ++ record { place = at; bytes = bytes } ∷ []) (out ++ more) s'
 
 pub record StreamTakes (at : ℕ) (bytes : List ℕ) (s : Stream) (more : List ℕ) (s' : Stream) : Type 0 where
   pub base : s'.base ≡ s.base
   pub none : s.is_lost ≡ true → more ≡ []
   pub final : s.is_lost ≡ true → s'.is_lost ≡ true
-  pub lost : s.is_lost ≡ false → s'.is_lost ≡ true → next_of s.window + 15728640 < at + length bytes
+  pub lost : s.is_lost ≡ false → s'.is_lost ≡ true → (next_of s.window + 15728640 < at + length bytes) × (more ≡ [])
   pub counted : (segs : List Segment) (out : List ℕ) → IsStreamOf segs out s → s'.conflicts ≡ min (2 ^ 64 - 1) (s.conflicts + conflicts_with out s at bytes)
   pub taken : (segs : List Segment) (out : List ℕ) → IsStreamOf segs out s → IsStreamOf (segs ++ record { place = at; bytes = bytes } ∷ []) (out ++ more) s'

@@ -79,7 +79,7 @@ fn offsets(gaps: Gaps, base: u64) -> Gaps
 impl Flow {
     ghost use Rattle.bt_tcp.specs.Heard.{Heard, Acked, opening_of};
     ghost use Rattle.bt_tcp.specs.Segments.{Segment};
-    ghost use Rattle.bt_flow.specs.Flows.{IsFlow, FlowTakes, FlowTakesNext, IsLost, Begins, StreamOnly, IsBaseNow, IsPlaceNow, HasHole, IsClosed, conflicts_in, held_in, high_in, NotesIn, NotesSomeIn, FillsIn, AreGapsOf, gaps_end};
+    ghost use Rattle.bt_flow.specs.Flows.{IsFlow, FlowTakes, FlowTakesNext, IsLost, Begins, StreamOnly, IsBaseNow, IsPlaceNow, HasHole, IsClosed, conflicts_in, held_in, high_in, NotesFrom, NotesIn, NotesSomeIn, FillsIn, AreGapsOf, gaps_end};
     ghost use Rattle.bt_flow.specs.Views.{AppendsAfter};
     ghost use Rattle.bt_flow.specs.Notes.{spans_noted};
     ghost use Rattle.bt_tcp.specs.Covered.{is_covered, AreGaps, sent_end};
@@ -132,6 +132,38 @@ impl Flow {
         match &mut self.stream {
             Some(stream) => stream.take(at, part, later),
             None => unreachable!(),
+        }
+    }
+
+    /// Returns the gaps from a place up to another one, or up to the last noted place, if that is later.
+    fn gaps_up_to(&self, next: u64, sent: u64) -> Gaps
+        ensures { AreGaps (is_covered (spans_noted self.now.noted)) next (sent_end (spans_noted self.now.noted) sent) result }
+    {
+        match &self.noted {
+            Some(noted) => noted.gaps(next, sent),
+            None => Spans::new(&[]).gaps(&[], next, sent),
+        }
+    }
+
+    /// Returns the place from which on a segment is noted. Once a gap is final, its places aren't noted any more.
+    ///
+    /// `was_lost` says whether one was final before this segment came.
+    fn noted_from(&self, was_lost: bool, at: u64, end: u64) -> u64
+        ensures { NotesFrom was_lost at end self.now.stream self.now.noted result }
+    {
+        let Some(stream) = &self.stream else {
+            return at;
+        };
+        if !stream.is_lost() {
+            return at;
+        }
+        let next = stream.next();
+        if !was_lost {
+            return at.max(next.saturating_add(1));
+        }
+        match self.gaps_up_to(next, end).first {
+            Some(gap) => at.max(gap.place.saturating_add(gap.length)),
+            None => at.max(end),
         }
     }
 
@@ -192,9 +224,12 @@ impl Flow {
         if !has_bytes(at, part.len()) {
             return Ok(&[]);
         }
+        let was_lost = self.is_lost();
         self.begin(at)?;
         let fresh = self.go_on(at, part, later)?;
-        self.note(at, at + part.len() as u64)?;
+        let end = at + part.len() as u64;
+        let from = self.noted_from(was_lost, at, end);
+        self.note(from, end)?;
         Ok(fresh)
     }
 
@@ -269,16 +304,13 @@ impl Flow {
     {
         let high = self.half.high();
         let sent = self.half.sent(next.max(high)).max(high);
-        match &self.noted {
-            Some(noted) => noted.gaps(next, sent),
-            None => Spans::new(&[]).gaps(&[], next, sent),
-        }
+        self.gaps_up_to(next, sent)
     }
 
     /// Returns the runs of bytes that were sent but not captured, with offsets from the base.
     ///
     /// Once there were 1,024 spans of captured bytes past the next one, some that were captured may not be noted. These count as
-    /// not captured.
+    /// not captured. So do those of a gap that is final, if they come later.
     pub fn gaps(&self) -> Gaps
         ensures { (heard : List Heard) → (segs : List Segment) → (out : List ℕ) → IsFlow heard segs out self.now → AreGapsOf heard segs out self.now result }
     {

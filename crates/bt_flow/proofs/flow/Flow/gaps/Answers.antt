@@ -1,9 +1,9 @@
 use Rattle.std.proofs.Common.{Some, arith}
 use Rattle.bt_tcp.specs.Covered.{is_covered}
 use Rattle.bt_flow.specs.Notes.{spans_noted}
-use Rattle.bt_flow.specs.Flows.{is_captured, gaps_end}
+use Rattle.bt_flow.specs.Flows.{gaps_end}
 use Rattle.bt_flow.proofs.Filled.{apart_noted}
-use Rattle.bt_flow.proofs.Told.{base_there, noted_from, only_from, next_missing, gaps_within, first_at, not_noted}
+use Rattle.bt_flow.proofs.Told.{base_there, noted_from, past_from, only_from, next_missing, gaps_within, first_at}
 use Rattle.bt_flow.proofs.flow.Flow.gaps.Goals as goal
 
 pub returns-in-Some : goal.returns-in-Some
@@ -20,13 +20,13 @@ returns-in-Some c = λ heard segs out f.
       record {
         only = only;
         all = noted_from heard segs out stream noted next p f.stream f.noted;
+        past = past_from heard segs out stream noted next p f.stream f.noted;
         base = c.unwrap_or.result;
         found = c.gaps_from.result;
         base_is = base_there heard out stream c.base.result next c.unwrap_or.result p (c.base.ensures heard segs out f) c.unwrap_or.ensures;
         found_are = found;
         is = c.offsets.ensures;
-        first = λ l h. first_at (is_covered (spans_noted noted)) c.unwrap_or.result next (gaps_end heard next) c.gaps_from.result _ found c.offsets.ensures
-            (not_noted (is_covered (spans_noted noted) next) (is_captured segs next) (only next (omega arith))
-            (next_missing heard segs out stream next p f.stream l)) h;
+        first = λ h. first_at (is_covered (spans_noted noted)) c.unwrap_or.result next (gaps_end heard next) c.gaps_from.result _ found c.offsets.ensures
+            (next_missing heard segs out stream noted next p f.stream f.noted) h;
       },
     )
