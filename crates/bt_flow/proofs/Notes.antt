@@ -148,7 +148,7 @@ same_if_room base next from to o l = record {
 none_before : (from to i : ℕ) → i < from → in_span (record { from = from; to = to }) i ≡ false
 none_before from to i h = before_it (record { from = from; to = to }) i h
 
--- Two spans have the same of the places from one on, and of those before both.
+-- Of two spans with one end both have a place that is past both starts, and neither has one before both.
 span_alike : (from at to i : ℕ) → at ≤ from → from ≤ max at i → in_span (record { from = from; to = to }) i ≡ in_span (record { from = at; to = to }) i
 span_alike from at to i h f = elim (cases_lt i at) [
   | inl l ↦ none_before from to i (omega (arith, h, l)) ∙ sym (none_before at to i l)

@@ -34,7 +34,7 @@ HasNoRoom s spans = (length spans ≡ 1024) × IsAlone s spans
 abbrev pub AddsIfRoom : Span → List Span → List Span → Type 0
 AddsIfRoom s spans spans' = Adds s spans spans' ⊎ ((spans' ≡ spans) × HasNoRoom s spans)
 
--- the same of two spans, one after the other
+-- Two spans are noted so, one after the other.
 abbrev pub AddsBothIfRoom : Span → Span → List Span → List Span → Type 0
 AddsBothIfRoom first second spans spans' =
     (between : List Span) × AreApart 0 between × AddsIfRoom first spans between × AddsIfRoom second between spans'
