@@ -141,6 +141,18 @@ fn next_bytes(rt: HostRuntime) -> Result<(), Fail> {
     Ok(())
 }
 
+/// A segment that ends 15 MiB past the next place: the gap may still be filled.
+#[test]
+fn waits(rt: HostRuntime) -> Result<(), Fail> {
+    let mut flow = Flow::new(rt.alloc());
+    let mut out = Vec::new(rt.alloc());
+    let given: [(u32, &[u8]); 3] = [(0, b"ab"), (15_728_639, b"far"), (2, b"cd")];
+    take_all(&mut flow, given.as_slice(), &mut out)?;
+    assert_eq!(rt; out.as_slice(), b"abcd".as_slice());
+    assert_eq!(rt; flow.is_lost(), false);
+    Ok(())
+}
+
 /// A segment that ends a byte more than 15 MiB past the next place: the gap is final, and of later bytes those past it are noted.
 #[test]
 fn gives_up(rt: HostRuntime) -> Result<(), Fail> {

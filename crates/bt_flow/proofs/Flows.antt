@@ -1,7 +1,7 @@
 -- What a direction has taken after a call.
 use Rattle.std.proofs.Common.{◌≡◌, ℕ, ◌+◌, ◌-◌, min, ◌<◌, ◌≤◌, ◌%◌, ◌^◌, Bool, true, false, List, [], ◌∷◌, ◌++◌, length}
 use Rattle.std.proofs.Common.{length-append, append_assoc, append-nil, refl, sym, ap, subst, ◌∙◌, arith, inl, inr}
-use Rattle.std.specs.Prelude.{Option, Some, None, IsTrue, ◌↔◌, is_some, not, unwrap_or, ◌⊎◌, if◌then◌else◌, nat_lt}
+use Rattle.std.specs.Prelude.{Option, Some, None, is_some, not, unwrap_or, ◌⊎◌, if◌then◌else◌, nat_lt}
 use Rattle.std.specs.Bool.{then_some}
 use Rattle.std.proofs.lemmas.Bool.{ltb-true}
 use Rattle.bt_tcp.specs.declared.covered.Span.{Span}
@@ -24,8 +24,9 @@ use Rattle.bt_flow.proofs.Notes.{IsNextOf, captured_more, fills_first, first_if_
 use Rattle.bt_flow.proofs.Streams.{conflicts_none}
 use Rattle.bt_flow.specs.Counts.{counts}
 use Rattle.bt_flow.specs.Streams.{IsStreamOf, StreamTakes, conflicts_with}
+use Rattle.bt_flow.specs.Views.{IsNear}
 use Rattle.bt_flow.specs.Flows.{has_bytes, AreQuiet, IsBaseOf, IsStreamFor, is_lost_stream, with_segment, sent_at, FlowTakes, BeginsAt, StreamsOnly}
-use Rattle.bt_flow.specs.Flows.{AreNotedFor, NotesFrom, needs_room, NotesIn, FillsIn, first_held, CountsMore, IsCounted, GivesUpLate, LacksRoom, FillsLate}
+use Rattle.bt_flow.specs.Flows.{AreNotedFor, NotesFrom, needs_room, NotesIn, FillsIn, first_held, CountsMore, IsCounted, GivesUp, LacksRoom, FillsLate}
 use Rattle.bt_flow.specs.Flows.{is_captured, IsWithin, IsNotedIfRoom, NotesIfRoom, NotesSomeIn}
 
 quiet_more : (heard : List Heard) (e : Heard) → AreQuiet heard → has_bytes e ≡ false → AreQuiet (heard ++ e ∷ [])
@@ -181,9 +182,13 @@ fills_late was segs out s next at bytes n n' from k e l a g m z f =
       noted = λ _. subst (λ x. IsNotedIfRoom s.base x span n n') e (z.room (omega (arith, e)) a.reach);
     }
 
-late_same : (out : List ℕ) (o : Option Stream) (at : ℕ) (bytes : List ℕ) (o' : Option Stream) → o' ≡ o → GivesUpLate out o at bytes o'
-late_same out o at bytes None e = tt
-late_same out o at bytes (Some s') e = λ l x. absurd (let z : true ≡ false = sym x ∙ ap is_lost_stream e ∙ l in cc)
+late_same : (out : List ℕ) (o : Option Stream) (at : ℕ) (bytes : List ℕ) (o' : Option Stream) → counts at (length bytes) ≡ false → o' ≡ o
+    → GivesUp out o at bytes o'
+late_same out o at bytes None n e = tt
+late_same out o at bytes (Some s') n e = (
+  λ l x. absurd (let z : true ≡ false = sym x ∙ ap is_lost_stream e ∙ l in cc),
+  λ c. absurd (let z : true ≡ false = sym c ∙ n in cc),
+)
 
 -- one that isn't counted
 pub takes_quiet : (g : Given) (flow : Flow) (given : List ℕ) (flow' : Flow) (at : ℕ) → flow'.stream ≡ flow.stream → flow'.noted ≡ flow.noted
@@ -207,7 +212,7 @@ takes_quiet g flow given flow' at s m h n = record {
           within = subst (λ x. IsWithin x (high_of (heard ++ Took (sent_at g at) ∷ []))) e (within_more heard (Took (sent_at g at)) segs f.within);
         },
         uncounted segs out flow.stream at g.payload.now flow'.stream n s,
-        late_same out flow.stream at g.payload.now flow'.stream s,
+        late_same out flow.stream at g.payload.now flow'.stream n s,
         fills_same (is_lost_stream flow.stream) segs (out ++ []) flow'.stream at g.payload.now flow.noted flow'.noted n m,
       ));
 }
@@ -283,7 +288,7 @@ record TakesBytes (at : ℕ) (bytes : List ℕ) (sent : Sent) (half : Half) (o :
   noted : (heard : List Heard) (segs : List Segment) (out : List ℕ) → IsStreamFor heard segs out o → AreNotedFor segs o n
       → AreNotedFor (segs ++ record { place = at; bytes = bytes } ∷ []) o' n'
   counted : (heard : List Heard) (segs : List Segment) (out : List ℕ) → IsStreamFor heard segs out o → CountsMore segs out o at bytes o'
-  late : (heard : List Heard) (segs : List Segment) (out : List ℕ) → IsStreamFor heard segs out o → GivesUpLate out o at bytes o'
+  late : (heard : List Heard) (segs : List Segment) (out : List ℕ) → IsStreamFor heard segs out o → GivesUp out o at bytes o'
   fills : (heard : List Heard) (segs : List Segment) (out : List ℕ) → IsStreamFor heard segs out o → AreNotedFor segs o n
       → FillsLate (is_lost_stream o) segs (out ++ more) o' at bytes n n'
 
@@ -316,9 +321,10 @@ takes_bytes at bytes sent flow (Some s) (Some s1) more (Some s2) n n' from u y p
       (fills_after at bytes s1 more s2 n n' from u t
       (subst (λ (x : Stream). NotesFrom x.is_lost at (at + length bytes) (Some s2) n from) (sym b) f) w z q segs out
       (subst (λ x. IsStreamOf segs out x) (sym b) i.1) (subst (λ (x : Stream). AreNoted x.is_lost segs x.base (next_of x.window) n) (sym b) a));
-  late = λ heard segs out i l x. (
+  late = λ heard segs out i. (
       let i1 : IsStreamOf segs out s1 = subst (λ x. IsStreamOf segs out x) (sym b) i.1 in
-      omega (arith, (t.lost (ap (λ x. x.is_lost) b ∙ l) x).0, i1.next_is, t.base));
+      let e : next_of s1.window ≡ s2.base + length out = omega (arith, i1.next_is, t.base) in
+      (λ l x. omega (arith, (t.lost (ap (λ x. x.is_lost) b ∙ l) x).0, e), λ c l. subst (IsNear at (length bytes)) e (t.near l)));
 }
 takes_bytes at bytes sent flow None (Some s1) more (Some s2) n n' from u y p b t f w z q = record {
   none = λ l. absurd (let e : false ≡ true = l in cc);
@@ -354,19 +360,11 @@ takes_bytes at bytes sent flow None (Some s1) more (Some s2) n n' from u y p b t
       (subst (λ x. NotesFrom x at (at + length bytes) (Some s2) n from) (sym b.1) f) w z q segs out
       (subst (λ x. IsStreamOf segs x s1) (sym i.2) (subst (λ x. IsStreamOf x [] s1) (sym i.1) b.0))
       (noted_none s1.is_lost segs s1.base (next_of s1.window) n i.1 a));
-  late = λ heard segs out i l x. (
+  late = λ heard segs out i. (
       let i1 : IsStreamOf segs out s1 = subst (λ x. IsStreamOf segs x s1) (sym i.2) (subst (λ x. IsStreamOf x [] s1) (sym i.1) b.0) in
-      omega (arith, (t.lost b.1 x).0, i1.next_is, t.base));
+      let e : next_of s1.window ≡ s2.base + length out = omega (arith, i1.next_is, t.base) in
+      (λ l x. omega (arith, (t.lost b.1 x).0, e), λ c l. subst (IsNear at (length bytes)) e (t.near l)));
 }
-
-same_truth : (b c : Bool) → IsTrue b ↔ (c ≡ true) → b ≡ c
-same_truth true c e = sym (e.0 refl)
-same_truth false false e = refl
-same_truth false true e = absurd (let z : false ≡ true = e.1 refl in cc)
-
-pub lost_before : (was : Bool) (was_there : Option Stream) (at «end» : ℕ) (o : Option Stream) (n : Option Noted) (from : ℕ)
-    → IsTrue was ↔ (is_lost_stream was_there ≡ true) → NotesFrom was at «end» o n from → NotesFrom (is_lost_stream was_there) at «end» o n from
-lost_before was was_there at «end» o n from e f = subst (λ x. NotesFrom x at «end» o n from) (same_truth was (is_lost_stream was_there) e) f
 
 pub takes_counted : (g : Given) (flow : Flow) (given more : List ℕ) (flow0 flow1 flow2 flow3 : Flow) (at from : ℕ)
     → flow3.half ≡ flow2.half → flow3.stream ≡ flow2.stream
@@ -409,7 +407,7 @@ takes_counted g flow given more flow0 flow1 flow2 flow3 at from u v p w z q m1 m
             counted segs out flow.stream at g.payload.now flow3.stream y
                 (subst (λ o. CountsMore segs out flow.stream at g.payload.now o) (sym v) (subst (λ o. CountsMore segs out o at g.payload.now flow2.stream) s
                 (r.counted heard segs out (subst (λ o. IsStreamFor heard segs out o) (sym s) i.stream)))),
-            subst (λ o. GivesUpLate out flow.stream at g.payload.now o) (sym v) (subst (λ o. GivesUpLate out o at g.payload.now flow2.stream) s
+            subst (λ o. GivesUp out flow.stream at g.payload.now o) (sym v) (subst (λ o. GivesUp out o at g.payload.now flow2.stream) s
                 (r.late heard segs out (subst (λ o. IsStreamFor heard segs out o) (sym s) i.stream))),
             subst (λ o. FillsLate (is_lost_stream flow.stream) segs (out ++ more) o at g.payload.now flow.noted flow3.noted) (sym v)
                 (subst (λ n. FillsLate (is_lost_stream flow.stream) segs (out ++ more) flow2.stream at g.payload.now n flow3.noted) (m1 ∙ m0)

@@ -10,7 +10,7 @@ use Rattle.bt_tcp.specs.History.{IsHistory, differs, conflicts, kept, held}
 use Rattle.bt_tcp.proofs.Taken.{front_push}
 use Rattle.bt_flow.specs.declared.stream.Stream.{Stream}
 use Rattle.bt_flow.specs.Memory.{next_of, seen}
-use Rattle.bt_flow.specs.Views.{TakesIn, AppendsAfter}
+use Rattle.bt_flow.specs.Views.{TakesIn, AppendsAfter, IsNear}
 use Rattle.bt_flow.specs.Streams.{IsStreamOf, Advances, StreamTakes, conflicts_with}
 
 same : (b : Bool) (o : Option ℕ) → o ≡ None → (if b then None else o) ≡ None
@@ -51,6 +51,7 @@ advance at bytes s more s' b c l l' t h = record {
   base = b;
   conflicts = c;
   lost = λ x. absurd (let e : true ≡ false = sym x ∙ l' in cc);
+  near = λ _. t.near;
   taken = λ segs out i. (
       let one : Segment = record { place = at; bytes = bytes } in
       let both = t.taken segs s.base out (i.taken l) in
@@ -93,6 +94,7 @@ advance_lost at bytes s s' b c l n h z p = record {
   base = b;
   conflicts = c;
   lost = λ _. (p, refl);
+  near = λ x. absurd (let e : true ≡ false = sym l ∙ x in cc);
   taken = λ segs out i. lost_one at bytes s s' b l n h segs out i z;
 }
 
@@ -105,6 +107,7 @@ takes_lost at bytes s s' b l l' n h w counted = record {
   none = λ _. refl;
   final = λ _. l';
   lost = λ x _. absurd (let t : true ≡ false = sym l ∙ x in cc);
+  near = λ x. absurd (let t : true ≡ false = sym l' ∙ x in cc);
   counted = counted;
   taken = λ segs out i. lost_one at bytes s s' b l' n h segs out i (λ k. w k ∙ i.none l k);
 }
@@ -121,6 +124,7 @@ takes_on at bytes s more s1 s' b l n a keep counted = record {
   none = λ x. absurd (let t : true ≡ false = sym x ∙ l in cc);
   final = λ x. absurd (let t : true ≡ false = sym x ∙ l in cc);
   lost = λ _ x. (subst (λ k. k + 15728640 < at + length bytes) n (a.lost x).0, (a.lost x).1);
+  near = λ x. subst (IsNear at (length bytes)) n (a.near x);
   counted = λ segs out i. a.conflicts ∙ counted segs out i;
   taken = λ segs out i. a.taken segs out (keep segs out i);
 }

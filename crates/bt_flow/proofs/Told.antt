@@ -1,5 +1,5 @@
 -- What a direction tells.
-use Rattle.std.proofs.Common.{◌≡◌, ℕ, ◌+◌, ◌-◌, ◌<◌, ◌≤◌, min, max, Bool, true, false, List, [], ◌∷◌, length, refl, sym, ap, subst, ◌∙◌, arith, inl, inr}
+use Rattle.std.proofs.Common.{◌≡◌, ℕ, ◌+◌, ◌-◌, ◌<◌, ◌≤◌, Bool, true, false, List, [], ◌∷◌, length, refl, sym, ap, subst, ◌∙◌, arith, inl, inr}
 use Rattle.std.specs.Prelude.{Option, Some, None, unwrap_or, ◌⊎◌}
 use Rattle.std.proofs.lemmas.Bool.{cases_lt}
 use Rattle.bt_tcp.specs.Segments.{Segment}
@@ -7,12 +7,12 @@ use Rattle.bt_tcp.specs.Heard.{Heard, IsStart}
 use Rattle.bt_tcp.specs.declared.covered.Span.{Span}
 use Rattle.bt_tcp.specs.declared.covered.Gap.{Gap}
 use Rattle.bt_tcp.specs.declared.covered.Gaps.{Gaps}
-use Rattle.bt_tcp.specs.Covered.{in_span, is_covered, AreApart, AreGaps, IsFirst, IsFirstGap, sent_end, count_places, begins_gap, is_missing}
+use Rattle.bt_tcp.specs.Covered.{in_span, is_covered, AreApart, AreGaps, IsFirst, sent_end, count_places, begins_gap, is_missing}
 use Rattle.bt_flow.specs.declared.stream.Stream.{Stream}
 use Rattle.bt_flow.specs.declared.noted.Noted.{Noted}
 use Rattle.bt_flow.specs.Memory.{next_of}
-use Rattle.bt_flow.specs.Notes.{GoesUpTo, IsNotedFrom, spans_noted, is_full}
-use Rattle.bt_flow.specs.Flows.{IsBaseNow, IsPlaceNow, IsStreamFor, AreNotedFor, NotesFrom, is_captured, is_lost_stream}
+use Rattle.bt_flow.specs.Notes.{spans_noted, is_full}
+use Rattle.bt_flow.specs.Flows.{IsBaseNow, IsPlaceNow, IsStreamFor, AreNotedFor, is_captured, is_lost_stream}
 use Rattle.bt_flow.specs.Counts.{gap_from, from_base}
 use Rattle.bt_flow.proofs.Filled.{covered_in, one_reaches}
 
@@ -129,53 +129,3 @@ first_at covered base next «end» found gaps g e m l =
 pub not_noted : (b c : Bool) → (b ≡ true → c ≡ true) → c ≡ false → b ≡ false
 not_noted true c f e = absurd (let z : true ≡ false = sym (f refl) ∙ e in cc)
 not_noted false c f e = refl
-
--- ---- from where on a segment is noted after a gap was final
-
--- up to the end of a gap, as far as numbers go
-pub up_to_gap : (n : Option Noted) (next «end» most : ℕ) (o : Option Gap) (gap : Gap) (past : ℕ) → o ≡ Some gap
-    → IsFirst (is_covered (spans_noted n)) next (sent_end (spans_noted n) «end») o → past ≡ min most (gap.place + gap.length) → «end» ≤ most
-    → is_covered (spans_noted n) next ≡ false → GoesUpTo next «end» n past
-up_to_gap n next «end» most o gap past e g m l c =
-    let f : IsFirstGap (is_covered (spans_noted n)) next (sent_end (spans_noted n) «end») gap
-    = subst (IsFirst (is_covered (spans_noted n)) next (sent_end (spans_noted n) «end»)) e g in
-    let p : gap.place ≤ next = elim (cases_lt next gap.place) [
-      | inl a ↦ absurd (let z : true ≡ false = sym (f.before next (omega arith) a) ∙ c in cc)
-      | inr a ↦ a
-    ] in
-    record {
-      after = λ h. omega (arith, m, h, l, f.after, f.some);
-      missing = λ i h k. f.missing i (omega (arith, p, h)) (omega (arith, k, m));
-      ends = λ h. (
-          let k : past ≡ gap.place + gap.length = omega (arith, m, h, l) in
-          ap (is_covered (spans_noted n)) k ∙ f.ends (omega (arith, sym k, h, end_least (spans_noted n) «end»)));
-    }
-
--- There is no gap before the end of the segment, and so the next place isn't before it.
-pub up_to_end : (n : Option Noted) (next «end» : ℕ) (o : Option Gap) → o ≡ None
-    → IsFirst (is_covered (spans_noted n)) next (sent_end (spans_noted n) «end») o
-    → is_covered (spans_noted n) next ≡ false → GoesUpTo next «end» n «end»
-up_to_end n next «end» o e g c =
-    let none : «end» ≤ next = elim (cases_lt next «end») [
-      | inl l ↦ absurd (
-          let f : IsFirst (is_covered (spans_noted n)) next (sent_end (spans_noted n) «end») None
-          = subst (IsFirst (is_covered (spans_noted n)) next (sent_end (spans_noted n) «end»)) e g in
-          let z : true ≡ false = sym (f next (omega arith) (omega (arith, l, end_least (spans_noted n) «end»))) ∙ c in
-          cc)
-      | inr l ↦ l
-    ] in
-    record {
-      after = λ h. absurd (omega (arith, h, none));
-      missing = λ i h k. absurd (omega (arith, h, k, none));
-      ends = λ h. absurd (omega (arith, h));
-    }
-
-pub from_past : (was lost : Bool) (at «end» next past from : ℕ) (o : Option Stream) (s : Stream) (n : Option Noted) → o ≡ Some s
-    → next ≡ next_of s.window → was ≡ true → lost ≡ s.is_lost → lost ≡ true
-    → (is_covered (spans_noted n) next ≡ false → GoesUpTo next «end» n past) → from ≡ max at past → NotesFrom was at «end» o n from
-from_past was lost at «end» next past from o s n e k w l t g f =
-    let found : is_covered (spans_noted n) (next_of s.window) ≡ false → IsNotedFrom was s.is_lost at «end» (next_of s.window) n from = λ c.
-    subst (λ x. IsNotedFrom x s.is_lost at «end» (next_of s.window) n from) (sym w)
-    (subst (λ x. IsNotedFrom true x at «end» (next_of s.window) n from) (sym t ∙ l)
-    (past, subst (λ x. GoesUpTo x «end» n past) k (g (ap (is_covered (spans_noted n)) k ∙ c)), f)) in
-    subst (λ x. NotesFrom was at «end» x n from) (sym e) (λ c _. found (c w))

@@ -17,7 +17,7 @@ use Rattle.bt_flow.specs.declared.flow.Flow.{Flow}
 use Rattle.bt_flow.specs.declared.flow.Given.{Given}
 use Rattle.bt_flow.specs.Counts.{counts, is_closed_at, from_base}
 use Rattle.bt_flow.specs.Streams.{IsStreamOf, StreamTakes}
-use Rattle.bt_flow.specs.Views.{AppendsAfter}
+use Rattle.bt_flow.specs.Views.{AppendsAfter, IsNear}
 
 abbrev pub has_bytes : Heard → Bool
 has_bytes (Took s) = counts s.place s.captured
@@ -103,10 +103,14 @@ abbrev pub IsCounted : List Segment → List ℕ → Option Stream → ℕ → L
 IsCounted segs out o at bytes o' =
     (counts at (length bytes) ≡ false → o' ≡ o) × (counts at (length bytes) ≡ true → CountsMore segs out o at bytes o')
 
--- A gap becomes final only if a segment ends more than 15 MiB past the next place.
-abbrev pub GivesUpLate : List ℕ → Option Stream → ℕ → List ℕ → Option Stream → Type 0
-GivesUpLate out o at bytes None = Unit {0}
-GivesUpLate out o at bytes (Some s') = is_lost_stream o ≡ false → s'.is_lost ≡ true → s'.base + length out + 15728640 < at + length bytes
+-- A gap becomes final if the segment ends more than 15 MiB past the next place, and only then. A segment of more bytes than that may be taken all the same.
+abbrev pub IsGivenUp : (at size next : ℕ) → (was_lost lost : Bool) → Type 0
+IsGivenUp at size next was_lost lost =
+    (was_lost ≡ false → lost ≡ true → next + 15728640 < at + size) × (counts at size ≡ true → lost ≡ false → IsNear at size next)
+
+abbrev pub GivesUp : List ℕ → Option Stream → ℕ → List ℕ → Option Stream → Type 0
+GivesUp out o at bytes None = Unit {0}
+GivesUp out o at bytes (Some s') = IsGivenUp at (length bytes) (s'.base + length out) (is_lost_stream o) s'.is_lost
 
 -- handed out, since it is before the next place, or such
 abbrev pub or_before : ℕ → (ℕ → Bool) → ℕ → Bool
@@ -170,7 +174,7 @@ pub record FillsLate (was_lost : Bool) (segs : List Segment) (out : List ℕ) (o
 abbrev pub HasTaken : Given → List Heard → List Segment → List ℕ → Flow → List ℕ → Flow → Type 0
 HasTaken g heard segs out flow more flow' =
     ((at : ℕ) × IsFlow (heard ++ Took (sent_at g at) ∷ []) (with_segment segs at g.payload.now) (out ++ more) flow'
-    × IsCounted segs out flow.stream at g.payload.now flow'.stream × GivesUpLate out flow.stream at g.payload.now flow'.stream
+    × IsCounted segs out flow.stream at g.payload.now flow'.stream × GivesUp out flow.stream at g.payload.now flow'.stream
     × FillsLate (is_lost_stream flow.stream) segs (out ++ more) flow'.stream at g.payload.now flow.noted flow'.noted)
     ⊎ (IsOutOfRange flow.half ((g.sequence + (if g.syn then 1 else 0)) % 2 ^ 32) (length g.payload.now) g.length × (more ≡ []) × IsFlow heard segs out flow'
     × (flow'.stream ≡ flow.stream) × (flow'.noted ≡ flow.noted))

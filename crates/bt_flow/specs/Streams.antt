@@ -5,6 +5,7 @@ use Rattle.bt_tcp.specs.Windows.{IsTaken}
 use Rattle.bt_tcp.specs.History.{IsHistory, conflicts, kept, held}
 use Rattle.bt_flow.specs.declared.stream.Stream.{Stream}
 use Rattle.bt_flow.specs.Memory.{next_of, seen}
+use Rattle.bt_flow.specs.Views.{IsNear}
 
 -- Of these segments the bytes `out` were handed out. Until a gap is final they are the whole stream, and after that a prefix of it, and no bytes are ahead.
 pub record IsStreamOf (segs : List Segment) (out : List ℕ) (s : Stream) : Type 0 where
@@ -19,11 +20,12 @@ pub record IsStreamOf (segs : List Segment) (out : List ℕ) (s : Stream) : Type
 abbrev pub conflicts_with : List ℕ → Stream → ℕ → List ℕ → ℕ
 conflicts_with out s at bytes = conflicts (kept s.base out) at bytes + conflicts (held (next_of s.window) (seen s.window)) at bytes
 
--- A segment was taken, and makes these bytes ready. There are none after a final gap, and one is final only past 15 MiB.
+-- A segment was taken, and makes these bytes ready. There are none after a final gap, and one is final past 15 MiB.
 pub record Advances (at : ℕ) (bytes : List ℕ) (s : Stream) (more : List ℕ) (s' : Stream) : Type 0 where
   pub base : s'.base ≡ s.base
   pub conflicts : s'.conflicts ≡ s.conflicts
   pub lost : s'.is_lost ≡ true → (next_of s.window + 15728640 < at + length bytes) × (more ≡ [])
+  pub near : s'.is_lost ≡ false → IsNear at (length bytes) (next_of s.window)
   pub taken : (segs : List Segment) (out : List ℕ) → IsStreamOf segs out s → IsStreamOf (segs ++ record { place = at; bytes = bytes } ∷ []) (out ++ more) s'
 
 pub record StreamTakes (at : ℕ) (bytes : List ℕ) (s : Stream) (more : List ℕ) (s' : Stream) : Type 0 where
@@ -31,5 +33,6 @@ pub record StreamTakes (at : ℕ) (bytes : List ℕ) (s : Stream) (more : List �
   pub none : s.is_lost ≡ true → more ≡ []
   pub final : s.is_lost ≡ true → s'.is_lost ≡ true
   pub lost : s.is_lost ≡ false → s'.is_lost ≡ true → (next_of s.window + 15728640 < at + length bytes) × (more ≡ [])
+  pub near : s'.is_lost ≡ false → IsNear at (length bytes) (next_of s.window)
   pub counted : (segs : List Segment) (out : List ℕ) → IsStreamOf segs out s → s'.conflicts ≡ min (2 ^ 64 - 1) (s.conflicts + conflicts_with out s at bytes)
   pub taken : (segs : List Segment) (out : List ℕ) → IsStreamOf segs out s → IsStreamOf (segs ++ record { place = at; bytes = bytes } ∷ []) (out ++ more) s'

@@ -6,10 +6,14 @@ use Rattle.bt_tcp.specs.declared.rings.Put.TheVariants.{Taken, Full}
 use Rattle.bt_tcp.specs.Segments.{Segment, IsStream}
 use Rattle.bt_tcp.specs.Windows.{IsTaken, TakesOneMore}
 
--- A window is full only if a segment ends more than 15 MiB past the next place.
+-- A segment with a byte ends at most 15 MiB past the next place, unless it has more bytes than that.
+abbrev pub IsNear : ℕ → ℕ → ℕ → Type 0
+IsNear at size next = 0 < size → size ≤ 15728640 → at + size ≤ next + 15728640
+
+-- A window is full only if a segment ends more than 15 MiB past the next place, and always then, but for a segment with more bytes than that.
 abbrev pub Places : ℕ → List ℕ → ℕ → (ℕ → Option ℕ) → Put → ℕ → (ℕ → Option ℕ) → Type 0
 Places at bytes next ahead (Taken from len) next' ahead' =
-    (from + len ≤ length bytes) × (next' ≡ next + len) × TakesOneMore at bytes next ahead (Taken from len) next' ahead'
+    (from + len ≤ length bytes) × (next' ≡ next + len) × IsNear at (length bytes) next × TakesOneMore at bytes next ahead (Taken from len) next' ahead'
 Places at bytes next ahead Full next' ahead' = (next + 15728640 < at + length bytes) × (next' ≡ next)
 
 -- Bytes that were ahead were appended.
@@ -27,6 +31,7 @@ pub record HandsOut (next : ℕ) (ahead : ℕ → Option ℕ) (given : List ℕ)
 -- One segment was taken, and makes these bytes ready.
 pub record TakesIn (at : ℕ) (bytes : List ℕ) (next : ℕ) (ahead : ℕ → Option ℕ) (more : List ℕ) (next' : ℕ) (ahead' : ℕ → Option ℕ) : Type 0 where
   pub next_is : next' ≡ next + length more
+  pub near : IsNear at (length bytes) next
   pub taken : (segs : List Segment) (base : ℕ) (out : List ℕ) → IsTaken segs base out next ahead
       → IsTaken (segs ++ record { place = at; bytes = bytes } ∷ []) base (out ++ more) next' ahead' × IsStream (segs ++ record { place = at; bytes = bytes } ∷ []) base (out ++ more)
 

@@ -1,5 +1,5 @@
 //! One direction of a captured TCP connection.
-ghost use Rattle.std.specs.Prelude.{◌≡◌, ℕ, ◌+◌, ◌<◌, ◌≤◌, ◌^◌, List, [], ◌∷◌, ◌++◌, length, IsSome, IsTrue, ◌↔◌, IfOk, OnOk, OnErr, take, drop};
+ghost use Rattle.std.specs.Prelude.{◌≡◌, ℕ, ◌+◌, ◌<◌, ◌≤◌, ◌^◌, List, [], ◌∷◌, ◌++◌, length, IsSome, IfOk, OnOk, OnErr, take, drop};
 ghost use Rattle.std.specs.List.{slice_rotate_right};
 ghost use Rattle.bt_flow.specs.Counts.{counts, is_closed_at, from_base};
 
@@ -79,10 +79,10 @@ fn offsets(gaps: Gaps, base: u64) -> Gaps
 impl Flow {
     ghost use Rattle.bt_tcp.specs.Heard.{Heard, Acked, opening_of};
     ghost use Rattle.bt_tcp.specs.Segments.{Segment};
-    ghost use Rattle.bt_flow.specs.Flows.{IsFlow, FlowTakes, FlowTakesNext, IsLost, Begins, StreamOnly, IsBaseNow, IsPlaceNow, HasHole, IsClosed, conflicts_in, held_in, high_in, NotesFrom, NotesIn, NotesSomeIn, FillsIn, AreGapsOf, gaps_end};
+    ghost use Rattle.bt_flow.specs.Flows.{IsFlow, FlowTakes, FlowTakesNext, IsLost, Begins, StreamOnly, IsBaseNow, IsPlaceNow, HasHole, IsClosed, conflicts_in, held_in, high_in, is_lost_stream, NotesFrom, NotesIn, NotesSomeIn, FillsIn, AreGapsOf, gaps_end};
     ghost use Rattle.bt_flow.specs.Views.{AppendsAfter};
     ghost use Rattle.bt_flow.specs.Notes.{spans_noted};
-    ghost use Rattle.bt_tcp.specs.Covered.{is_covered, AreGaps, sent_end};
+    ghost use Rattle.bt_tcp.specs.Covered.{is_covered, AreGaps, IsFirstFrom, sent_end};
     ghost use Rattle.bt_tcp.specs.Halves.{IsHalf};
 
     /// Returns a direction of which nothing was captured.
@@ -135,13 +135,13 @@ impl Flow {
         }
     }
 
-    /// Returns the gaps from a place up to another one, or up to the last noted place, if that is later.
-    fn gaps_up_to(&self, next: u64, sent: u64) -> Gaps
-        ensures { AreGaps (is_covered (spans_noted self.now.noted)) next (sent_end (spans_noted self.now.noted) sent) result }
+    /// Returns the first place from `next` on that is noted, if there is one.
+    fn first_noted(&self, next: u64) -> Option<u64>
+        ensures { IsFirstFrom (is_covered (spans_noted self.now.noted)) next result }
     {
         match &self.noted {
-            Some(noted) => noted.gaps(next, sent),
-            None => Spans::new(&[]).gaps(&[], next, sent),
+            Some(noted) => noted.first_from(next),
+            None => None,
         }
     }
 
@@ -161,10 +161,7 @@ impl Flow {
         if !was_lost {
             return at.max(next.saturating_add(1));
         }
-        match self.gaps_up_to(next, end).first {
-            Some(gap) => at.max(gap.place.saturating_add(gap.length)),
-            None => at.max(end),
-        }
+        at.max(self.first_noted(next).unwrap_or(end))
     }
 
     /// Notes captured places, if some are ahead.
@@ -304,7 +301,10 @@ impl Flow {
     {
         let high = self.half.high();
         let sent = self.half.sent(next.max(high)).max(high);
-        self.gaps_up_to(next, sent)
+        match &self.noted {
+            Some(noted) => noted.gaps(next, sent),
+            None => Spans::new(&[]).gaps(&[], next, sent),
+        }
     }
 
     /// Returns the runs of bytes that were sent but not captured, with offsets from the base.
@@ -360,7 +360,7 @@ impl Flow {
 
     /// Tells whether a gap is final, so that nothing more is handed out.
     pub fn is_lost(&self) -> bool
-        ensures { IsTrue result ↔ IsLost self.now }
+        ensures { result ≡ is_lost_stream self.now.stream }
     {
         match &self.stream {
             Some(stream) => stream.is_lost(),

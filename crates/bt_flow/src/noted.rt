@@ -23,7 +23,7 @@ pub struct Noted {
 }
 
 impl Noted {
-    ghost use Rattle.bt_tcp.specs.Covered.{is_covered, AreGaps, sent_end};
+    ghost use Rattle.bt_tcp.specs.Covered.{is_covered, AreGaps, IsFirstFrom, sent_end};
     ghost use Rattle.bt_flow.specs.Notes.{spans_in, NotesMore, NotesBoth, HasNoRoom, HasNoRoomFor, AddsIfRoom, AddsBothIfRoom};
 
     /// Returns no spans.
@@ -63,6 +63,13 @@ impl Noted {
     {
         self.add(base, next);
         self.add(from, to);
+    }
+
+    /// Returns the first place from `next` on that is noted, if there is one.
+    pub fn first_from(&self, next: u64) -> Option<u64>
+        ensures { IsFirstFrom (is_covered (spans_in self.now)) next result }
+    {
+        self.spans.first_from(&self.table, next)
     }
 
     /// Returns the gaps from `next` up to `sent`, or up to the last span's end, if that is later.

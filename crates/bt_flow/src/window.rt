@@ -46,6 +46,7 @@ pub struct Window {
     ahead: Vec<u8>,
     ghost inside: { ring.head < places known.items },
     ghost same: { length ahead.items ≡ places known.items },
+    ghost most: { length ahead.items ≤ 15728640 },
     ghost over: { (k : ℕ) → ring.end ≤ ring.next + k → is_known known.items ring.head k ≡ false },
 }
 

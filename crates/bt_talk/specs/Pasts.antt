@@ -5,7 +5,7 @@ use Rattle.bt_tcp.specs.Heard.{Heard, Took, Acked}
 use Rattle.bt_tcp.specs.Halves.{IsOutOfRange}
 use Rattle.bt_flow.specs.declared.flow.Flow.{Flow}
 use Rattle.bt_flow.specs.declared.flow.Given.{Given}
-use Rattle.bt_flow.specs.Flows.{IsFlow, IsLost, is_lost_stream, sent_at, with_segment, IsCounted, GivesUpLate, FillsLate}
+use Rattle.bt_flow.specs.Flows.{IsFlow, IsLost, is_lost_stream, sent_at, with_segment, IsCounted, GivesUp, FillsLate}
 use Rattle.bt_packet.specs.declared.tcp.Segment.{Segment as TcpSegment}
 
 -- what was heard of a side, the segments with data that it sent, the bytes that they make up, and those of the opening
@@ -25,7 +25,7 @@ IsFlowOf p flow = IsFlow p.heard p.segs p.out flow
 abbrev pub IsAdded : Given → Past → Flow → List ℕ → Past → Flow → Type 0
 IsAdded g p flow more p' flow' =
     ((at : ℕ) × (p'.heard ≡ p.heard ++ Took (sent_at g at) ∷ []) × (p'.segs ≡ with_segment p.segs at g.payload.now)
-    × IsCounted p.segs p.out flow.stream at g.payload.now flow'.stream × GivesUpLate p.out flow.stream at g.payload.now flow'.stream
+    × IsCounted p.segs p.out flow.stream at g.payload.now flow'.stream × GivesUp p.out flow.stream at g.payload.now flow'.stream
     × FillsLate (is_lost_stream flow.stream) p.segs (p.out ++ more) flow'.stream at g.payload.now flow.noted flow'.noted)
     ⊎ (IsOutOfRange flow.half ((g.sequence + (if g.syn then 1 else 0)) % 2 ^ 32) (length g.payload.now) g.length × (more ≡ []) × (p'.heard ≡ p.heard)
     × (p'.segs ≡ p.segs) × (flow'.stream ≡ flow.stream) × (flow'.noted ≡ flow.noted))

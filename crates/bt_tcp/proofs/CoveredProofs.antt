@@ -1,7 +1,7 @@
 -- Lemmas on spans, and on a span more.
 use Rattle.std.proofs.Common.{◌≡◌, ℕ, zero, suc, ◌+◌, ◌-◌, ◌<◌, ◌≤◌, Bool, true, false, List, [], ◌∷◌, ◌++◌, length, get_or, take, drop, set}
 use Rattle.std.proofs.Common.{refl, sym, ap, ◌∙◌, arith}
-use Rattle.std.specs.Prelude.{if◌then◌else◌, nat_lt}
+use Rattle.std.specs.Prelude.{Some, if◌then◌else◌, max, nat_le, nat_lt}
 use Rattle.std.proofs.lemmas.Grind.{common_steps}
 use Rattle.std.proofs.Common.{length-take, length-drop, length-append, append_assoc}
 use Rattle.std.proofs.lemmas.List.{drop-take, drop-drop, take-take, take-append-drop, set-append_left, take_more_set}
@@ -10,7 +10,7 @@ use Rattle.std.proofs.Math.Seq.{paste, take-set-lt}
 use Rattle.std.specs.List.{copy_within}
 use Rattle.std.specs.List.Sorted.{IsNonDecreasingBy}
 use Rattle.bt_tcp.specs.declared.covered.Span.{Span}
-use Rattle.bt_tcp.specs.Covered.{in_span, is_covered, AreApart, Adds, IsAlone, hull, join, add}
+use Rattle.bt_tcp.specs.Covered.{in_span, is_covered, AreApart, Adds, IsAlone, IsFirstFrom, hull, join, add}
 
 pub apart-less : (least more : ℕ) (spans : List Span) → least ≤ more → AreApart more spans → AreApart least spans
 apart-less least more [] l a = tt
@@ -208,3 +208,37 @@ add-after s (t ∷ spans) zero h p q = ap (λ b. if b then t ∷ add s spans els
 add-after s (t ∷ spans) (suc n) h p q =
     let more = add-after s spans n (omega arith) (λ k d l m. p (suc k) d (omega arith) (omega arith)) (λ k d l m. q (suc k) d (omega arith) (omega arith)) in
     ap (λ b. if b then t ∷ add s spans else join s (t ∷ spans)) (p 0 t (omega arith) (omega arith)) ∙ ap (λ x. t ∷ x) more
+
+-- ---- the first covered place
+
+first_there : (least next : ℕ) (t : Span) (spans : List Span) → AreApart least (t ∷ spans) → nat_le t.to next ≡ false
+    → IsFirstFrom (is_covered (t ∷ spans)) next (Some (max t.from next))
+first_there least next t spans a e =
+    let l : next < t.to = grind (arith, common_steps) in
+    let i : in_span t (max t.from next) ≡ true = grind (arith, common_steps) in (
+      omega arith,
+      ap (λ b. if b then true else is_covered spans (max t.from next)) i,
+      λ k p q. apart-before t.from (t ∷ spans) k (omega arith, a.1, a.2) (omega arith),
+    )
+
+past_first : (next : ℕ) (t : Span) (spans : List Span) → nat_le t.to next ≡ true → (i : ℕ) → next ≤ i → is_covered (t ∷ spans) i ≡ is_covered spans i
+past_first next t spans e i h =
+    let z : in_span t i ≡ false = grind (arith, common_steps) in
+    ap (λ b. if b then true else is_covered spans i) z
+
+-- Spans before this one don't end past the place, and it does.
+pub first-after : (least next : ℕ) (spans : List Span) (n : ℕ) (d : Span) → AreApart least spans → n < length spans
+    → ((k : ℕ) (d : Span) → 0 ≤ k → k < n → nat_le (get_or spans k d).to next ≡ true) → nat_le (get_or spans n d).to next ≡ false
+    → IsFirstFrom (is_covered spans) next (Some (max (get_or spans n d).from next))
+first-after least next [] n d a h p q = absurd (omega arith)
+first-after least next (t ∷ spans) zero d a h p q = first_there least next t spans a q
+first-after least next (t ∷ spans) (suc n) d a h p q =
+    let past = past_first next t spans (p 0 t (omega arith) (omega arith)) in
+    let f = first-after (t.to + 1) next spans n d a.2 (omega arith) (λ k d l m. p (suc k) d (omega arith) (omega arith)) q in
+    (f.0, past (max (get_or spans n d).from next) f.0 ∙ f.1, λ i l m. past i l ∙ f.2 i l m)
+
+-- None of the spans ends past the place.
+pub none-after : (next : ℕ) (spans : List Span) → ((k : ℕ) (d : Span) → k < length spans → nat_le (get_or spans k d).to next ≡ true)
+    → (i : ℕ) → next ≤ i → is_covered spans i ≡ false
+none-after next [] p i h = refl
+none-after next (t ∷ spans) p i h = past_first next t spans (p 0 t (omega arith)) i h ∙ none-after next spans (λ k d l. p (suc k) d (omega arith)) i h

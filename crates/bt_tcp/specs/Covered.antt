@@ -36,6 +36,11 @@ Adds s spans spans' = (i : ℕ) → is_covered spans' i ≡ (if in_span s i then
 abbrev pub IsAlone : Span → List Span → Type 0
 IsAlone s spans = (i : ℕ) → s.from ≤ i + 1 → i ≤ s.to → is_covered spans i ≡ false
 
+-- the first place from one on that is covered, if there is one
+abbrev pub IsFirstFrom : (ℕ → Bool) → ℕ → Option ℕ → Type 0
+IsFirstFrom covered next None = (i : ℕ) → next ≤ i → covered i ≡ false
+IsFirstFrom covered next (Some place) = (next ≤ place) × (covered place ≡ true) × ((i : ℕ) → next ≤ i → i < place → covered i ≡ false)
+
 -- ---- a span more, as a list
 
 -- the span of the places of both, and of those between

@@ -1,7 +1,7 @@
 //! Places whose bytes were captured after a gap that is final: spans in the caller's memory, and the gaps that they leave.
-ghost use Rattle.std.specs.Prelude.{◌≡◌, ℕ, ◌+◌, ◌-◌, ◌<◌, ◌≤◌, false, List, ◌∷◌, ◌++◌, length, take, drop, OnOk, OnErr, nat_lt};
+ghost use Rattle.std.specs.Prelude.{◌≡◌, ℕ, ◌+◌, ◌-◌, ◌<◌, ◌≤◌, false, List, ◌∷◌, ◌++◌, length, take, drop, OnOk, OnErr, nat_le, nat_lt};
 ghost use Rattle.bt_tcp.specs.declared.covered.Span.{Span};
-ghost use Rattle.bt_tcp.specs.Covered.{is_covered, AreApart, IsTable, spans_of, Adds, IsAlone, join, add, AreGaps, sent_end, with_gap};
+ghost use Rattle.bt_tcp.specs.Covered.{is_covered, AreApart, IsTable, spans_of, Adds, IsAlone, join, add, AreGaps, IsFirstFrom, sent_end, with_gap};
 
 /// The places from `from` on and before `to`.
 #[derive(Clone, Copy, Debug, PartialEq, Eq)]
@@ -154,6 +154,24 @@ impl Spans {
         replace(table, self.count, fit.before, fit.after, fit.hull);
         self.count = fit.before + 1 + (self.count - fit.after);
         Ok(())
+    }
+
+    /// Returns the first place from `next` on that is in a span, if there is one.
+    pub fn first_from(&self, table: &[Span], next: u64) -> Option<u64>
+        requires { IsTable self.now table.now }
+        ensures { IsFirstFrom (is_covered (spans_of self.now table.now)) next result }
+    {
+        let spans = &table[..self.count];
+        let passed = spans.partition_point(
+            |it: &Span| -> bool
+                ensures { result ≡ nat_le it.now.to next }
+            { it.to <= next },
+        );
+        if passed < spans.len() {
+            Some(spans[passed].from.max(next))
+        } else {
+            None
+        }
     }
 
     /// Returns the gaps from `next` up to `sent`, or up to the last span's end, if that is later.

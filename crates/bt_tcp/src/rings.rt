@@ -1,5 +1,5 @@
 //! The reassembly window as a ring over the caller's memory.
-ghost use Rattle.std.specs.Prelude.{◌≡◌, ℕ, ◌+◌, ◌-◌, ◌<◌, ◌≤◌, ◌^◌, true, false, List, [], length, slice_index_or, None, OnOk, OnErr, nat_le};
+ghost use Rattle.std.specs.Prelude.{◌≡◌, ℕ, ◌+◌, ◌-◌, ◌<◌, ◌≤◌, ◌^◌, max, true, false, List, [], length, slice_index_or, None, OnOk, OnErr, nat_le};
 ghost use Rattle.bt_tcp.specs.Bits.{places, flag};
 ghost use Rattle.bt_tcp.specs.Segments.{Segment, or_else, byte_in};
 ghost use Rattle.bt_tcp.specs.Cells.{slot_of, is_known, ring, IsRing, IsWritten};
@@ -385,6 +385,7 @@ impl Ring {
         ensures sound { IsSound self.new known.new.items bytes.new.items }
         ensures next { self.new.next ≡ self.old.next }
         ensures room { OnOk result (count ≤ places known.new.items) }
+        ensures most { places known.new.items ≤ max (places known.old.items) (count + 7) }
         ensures ahead { (k : ℕ) → ahead self.new known.new.items bytes.new.items k ≡ ahead self.old known.old.items bytes.old.items k }
         ensures taken { GoesOn self.old.next (ahead self.old known.old.items bytes.old.items) self.new.next (ahead self.new known.new.items bytes.new.items) }
     {

@@ -1,5 +1,6 @@
-use Rattle.std.proofs.Common.{refl, sym, ◌∙◌}
-use Rattle.bt_flow.proofs.Flows.{takes_refused, takes_quiet, takes_counted, lost_before}
+use Rattle.std.proofs.Common.{refl, sym, subst, length, ◌∙◌, ◌+◌}
+use Rattle.bt_flow.specs.Flows.{NotesFrom}
+use Rattle.bt_flow.proofs.Flows.{takes_refused, takes_quiet, takes_counted}
 use Rattle.bt_flow.proofs.Streams.{nothing_after}
 use Rattle.bt_flow.proofs.flow.Flow.take_next.Goals as goal
 
@@ -27,8 +28,8 @@ returns c =
                 = c.args.self.now.noted;
           }) c.begin.new.self c.go_on.new.self c.note.new.self c.in-Ok.at c.noted_from-from.result
           c.note.ensures.half c.note.ensures.stream
-          (lost_before c.is_lost-was_lost.result c.args.self.now.stream _ _ c.go_on.new.self.stream c.go_on.new.self.noted _ c.is_lost-was_lost.ensures
-          c.noted_from-from.ensures)
+          (subst (λ was. NotesFrom was c.in-Ok.at (c.in-Ok.at + length c.args.given.now.payload.now) c.go_on.new.self.stream c.go_on.new.self.noted
+          c.noted_from-from.result) c.is_lost-was_lost.ensures c.noted_from-from.ensures)
           c.in_ok-note.ensures.noted c.in_ok-note.ensures.some c.in_ok-note.ensures.full c.go_on.ensures.noted
           c.begin.ensures.noted refl c.in-Ok.ensures.taken
           (sym c.has_bytes.ensures ∙ c.if-not-has_bytes.false) c.in_ok-begin.ensures.begins c.begin.ensures.half c.go_on.ensures.half
