@@ -83,9 +83,10 @@ def direction_lines(side, found):
     if "conflicts" in found:
         yield "    repeated with other bytes: %d; the first ones count\n" % found.pop("conflicts")
     if "gap" in found:
-        gaps, missing = found.pop("gaps"), found.pop("missing")
+        gap, gaps, missing = found.pop("gap"), found.pop("gaps"), found.pop("missing")
+        late = ", or came more than 15 MiB late" if gap.pop("final", False) else ""
         more = "; %d gaps, %d bytes in all" % (gaps, missing) if gaps > 1 else ""
-        yield "    gap at %(offset)d: %(bytes)d bytes aren't in the capture" % found.pop("gap") + more + "\n"
+        yield "    gap at %(offset)d: %(bytes)d bytes aren't in the capture" % gap + late + more + "\n"
     if "free" in found:
         yield from judged_lines(found)
 

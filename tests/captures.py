@@ -699,6 +699,23 @@ def crowds_differ(program, crowd, count):
             name, done.returncode, found, status, wanted)
 
 
+def early_differ(program, crowd, packet):
+    """What is wrong with what is said of two more than are followed at once, if a RST ends the first, or the first two, which have one frame
+    and two: such a one counts as given up early, not as unread, if the last two, of one frame each, come before four seconds."""
+    link, frames = crowd
+    resets = [writer.frames([packet, writer.Packet("B", RST, 7, 0, b"", 0)], ends=(("10.0.0.%d" % number, 6881), ("10.1.0.1", 6881)))[1]
+              for number in range(2)]
+    early = "capture: %s that had ended %s given up early: too many at once\n"
+    runs = [(resets[0] + frames[1:], [1], "capture: 1 connection was not read further: too many at once\n" + early % ("1 connection", "was"))]
+    for at, said in ((0, early % ("2 connections", "were")), (3_999, early % ("2 connections", "were")), (4_000, "")):
+        runs.append((resets[0] + resets[1] + frames[3:-2] + [(at, frame) for _, frame in frames[-2:]], [], said))
+    for found, unread, said in runs:
+        done = subprocess.run([program, "capture", "--json", "-"], input=writer.pcap((link, found)), capture_output=True, timeout=100)
+        numbers = [it["connection"] for it in map(json.loads, done.stdout.splitlines()) if it.get("not_read_further")]
+        yield "" if (numbers, done.stderr.decode()) == (unread, said) else "crowded: with ones that ended: got %s\n%s\nexpected %s\n%s" % (
+            numbers, done.stderr.decode(), unread, said)
+
+
 def left_differs(program):
     """What is wrong with how connections were left: the first two of two more than are followed at once, the second of which has ended its
     other direction, and one whose ports another takes."""
@@ -722,12 +739,7 @@ def left_differs(program):
     yield "" if numbers == [0, 1] else "crowded: these aren't read further: %s" % numbers
     closed = [it["connection"] for it in objects if "closed" in it]
     yield "" if closed == [1] and "\n  B closed first, by FIN, at " in told[1] else "crowded: these are closed: %s" % closed
-    # (one that a RST ended isn't one that wasn't read further)
-    reset = writer.frames([packet, writer.Packet("B", RST, 7, 0, b"", 0)], ends=(("10.0.0.0", 6881), ("10.1.0.1", 6881)))[1]
-    done = subprocess.run([program, "capture", "--json", "-"], input=writer.pcap((link, reset + frames[1:])), capture_output=True, timeout=100)
-    found = [it["connection"] for it in map(json.loads, done.stdout.splitlines()) if it.get("not_read_further")], done.stderr.decode()
-    wanted = [1], "capture: 1 connection was not read further: too many at once\n"
-    yield "" if found == wanted else "crowded: with one that ended: got %s\nexpected %s" % (found, wanted)
+    yield from early_differ(program, (link, frames), packet)
     first, second = (writer.Talk(start=start).say("A", hello).packets for start in (7, 70_000))
     objects = map(json.loads, run(program, writer.pcap(writer.frames(first + second)), "--json", "-")[0].splitlines())
     found = [it.get("replaced") for it in objects]
@@ -744,9 +756,14 @@ def late_differs(program):
     talk.close("A")
     for at, packet in enumerate(packets):
         packet.at = at
-    told, status = run(program, writer.pcap(writer.frames(packets)), "-")
-    wanted = "    gap at 120000: 40000 bytes aren't in the capture\n    free refused message=8 at=120000 EndInside (cut by the gap)\n"
+    capture = writer.pcap(writer.frames(packets))
+    told, status = run(program, capture, "-")
+    wanted = "    gap at 120000: 40000 bytes aren't in the capture, or came more than 15 MiB late\n"
+    wanted += "    free refused message=8 at=120000 EndInside (cut by the gap)\n"
     yield "" if wanted in told.decode() and status == 0 else "late: got %d\n%s\nexpected 0 and\n%s" % (status, told.decode(), wanted)
+    found = json.loads(run(program, capture, "--json", "-")[0])["from_a"]["gap"]
+    wanted = {"offset": 120_000, "bytes": 40_000, "final": True}
+    yield "" if found == wanted else "late: got %s\nexpected %s" % (found, wanted)
 
 
 def main():

@@ -20,6 +20,7 @@ pub mod Outcomes
 pub mod Shown
 pub mod Sending
 pub mod Skipping
+mod Each
 mod Rowing
 mod Seeing
 mod Parting

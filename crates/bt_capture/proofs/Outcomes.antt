@@ -1,10 +1,11 @@
 -- What is told while a capture is read, and at its end.
-use Rattle.std.proofs.Common.{◌≡◌, ◌∙◌, inl, inr, ℕ, ◌+◌, ◌-◌, ◌^◌, ◌<◌, min, Bool, true, if◌then◌else◌, List, [], ◌∷◌, ◌++◌, length}
+use Rattle.std.proofs.Common.{◌≡◌, ◌∙◌, inl, inr, ℕ, ◌+◌, ◌-◌, ◌^◌, ◌<◌, ◌≤◌, min, Bool, true, if◌then◌else◌, List, [], ◌∷◌, ◌++◌, length}
 use Rattle.std.proofs.Common.{append-nil, append_assoc, Option, Some, None, is_some, unwrap_or, Result, Ok, Err, refl, sym, ap, subst, arith}
 use Rattle.std.specs.List.{All}
 use Rattle.std.specs.List.Sorted.{IsNonDecreasing, IsPermutation}
+use Rattle.std.specs.Map.{lookup}
 use Rattle.std.specs.Io.KnownBytes.{Appends, Consumes, Keeps}
-use Rattle.std.proofs.lemmas.List.{nil_from_length}
+use Rattle.std.proofs.lemmas.List.{length-append, nil_from_length}
 use Rattle.std.proofs.lemmas.List.Elements.{All-contains, All-nil}
 use Rattle.std.proofs.KnownBytes.{Appends-nil, Appends-trans, Consumes-nil, Consumes-trans, Consumes-kept}
 use Rattle.bt_io.specs.Counts.{Grew}
@@ -25,24 +26,26 @@ use Rattle.bt_capture.specs.declared.ending.Form.{Form}
 use Rattle.bt_capture.specs.declared.pair.Pair.{Pair}
 use Rattle.bt_capture.specs.Arrivals.{arrivals, clock_of, first_time}
 use Rattle.bt_capture.specs.FlowTexts.{datagrams, flow_texts}
-use Rattle.bt_capture.specs.Following.{AreInOrder, IsTimely, numbers}
+use Rattle.bt_capture.specs.Following.{AreInOrder, Coming, During, IsTimely, numbers}
 use Rattle.bt_capture.specs.Following.{AtEnd, Finished, IsFinished, IsSentBy, IsShared, IsStreaming, IsStreamSoFar, Follows, Phase, Stops, Streams}
 use Rattle.bt_capture.specs.Following.{reports_of, told_by}
 use Rattle.bt_capture.specs.Forms.{absent_from, is_stream, wanted_by}
-use Rattle.bt_capture.specs.Readings.{Reading, IsReading, GoesOn, Hands, IsFaulty, Waits, nothing_read, shown, with_bytes}
-use Rattle.bt_capture.specs.Tables.{Held}
+use Rattle.bt_capture.specs.Readings.{Reading, IsReading, Advances, GoesOn, Hands, IsFaulty, Waits, nothing_read, shown, with_bytes}
+use Rattle.bt_capture.specs.Tables.{Held, same_pair}
 use Rattle.bt_capture.specs.Tellings.{Tells, IsStopped, IsEmpty, AreTexts}
-use Rattle.bt_capture.specs.Runs.{Origin, HasRead, IsTelling, IsTellingIn, IsLeft, IsEndOf, AreOver, AreAllOver, AreToldSoFar, ArePartlyWritten, Adds}
-use Rattle.bt_capture.specs.Runs.{AreRowsTold, IsToldTo, IsOnlyStream, IsStreamTold, StreamsSoFar, utp_lines}
-use Rattle.bt_capture.proofs.Going.{fresh}
+use Rattle.bt_capture.specs.Runs.{Origin, HasRead, IsTelling, IsTellingIn, IsLeftIn, IsEndOf, AreOver, AreAllOver, AreToldSoFar, ArePartlyWritten, Adds}
+use Rattle.bt_capture.specs.Runs.{AreLines, AreRowsTold, IsToldIn, IsToldTo, IsOnlyStream, IsStreamTold, StreamsSoFar, utp_lines}
+use Rattle.bt_capture.proofs.Each.{each_numbered}
+use Rattle.bt_capture.proofs.Going.{fresh, goes_both}
 use Rattle.bt_capture.proofs.InOrder.{no_texts}
 use Rattle.bt_capture.proofs.Numbers.{one_if_began}
 use Rattle.bt_capture.proofs.Parting.{parted_all}
 use Rattle.bt_capture.proofs.Order.{order_nothing}
-use Rattle.bt_capture.proofs.Reported.{follows_end, follows_flushed, follows_same, follows_so_far, stops_of}
+use Rattle.bt_capture.proofs.Reported.{follows_end, follows_flushed, follows_same, stops_of}
 use Rattle.bt_capture.proofs.Steps.{follows_moved}
 use Rattle.bt_capture.proofs.Rowing.{going_of, rows_same}
-use Rattle.bt_capture.proofs.SoFar.{so_far_same}
+use Rattle.bt_capture.proofs.Shares.{share_same}
+use Rattle.bt_capture.proofs.SoFar.{left_so_far, so_far_same}
 use Rattle.bt_capture.proofs.Streaming.{find_over, numbered_end, streaming_same, untold_end}
 use Rattle.bt_capture.proofs.Wants.{absent_before, begun_or_absent, wanted_if_asked}
 
@@ -108,6 +111,34 @@ read_kept o left left' packets r r' same keeps i = record {
   reading = subst (λ x. IsReading i.all packets x) (sym same) i.reading;
 }
 
+-- A packet was handed out.
+pub advances_packet : (r r' : Reading) (p : Captured) → GoesOn r [] (p ∷ []) r' → Advances r r'
+advances_packet r r' p goes = record { more = []; given = p ∷ []; goes_on = goes; some = omega arith }
+
+-- Bytes were read.
+pub advances_bytes : (r r' : Reading) (bytes : List ℕ) → 1 ≤ length bytes → GoesOn r bytes [] r' → Advances r r'
+advances_bytes r r' bytes some goes = record { more = bytes; given = []; goes_on = goes; some = omega (arith, some) }
+
+-- Nothing came before that.
+pub advances_after : (a b c : Reading) → GoesOn a [] [] b → Advances b c → Advances a c
+advances_after a b c quiet i = record {
+  more = i.more;
+  given = i.given;
+  goes_on = goes_both a b c [] i.more [] i.given quiet i.goes_on;
+  some = i.some;
+}
+
+-- As many bytes and packets came as there were turns, and one more.
+pub counts_turn : (o : Origin) (left : Option (List ℕ)) (packets : List Captured) (r r' : Reading) (n : ℕ) → HasRead o left packets r → Advances r r'
+    → n < 2 ^ 64 - 1 → n ≤ r.bytes + r.packets → n + 1 ≤ r'.bytes + r'.packets
+counts_turn o left packets r r' n i a below le =
+    let j = a.goes_on.reads i.all packets i.reading in
+    omega (arith, le, below, a.some, i.reading.bytes, i.reading.count, j.bytes, j.count, length-append i.all a.more, length-append packets a.given)
+
+counts_all : (o : Origin) (left : Option (List ℕ)) (packets : List Captured) (r : Reading) → (i : HasRead o left packets r)
+    → 2 ^ 64 - 1 ≤ r.bytes + r.packets → 2 ^ 64 - 1 ≤ length i.all + length packets
+counts_all o left packets r i le = omega (arith, le, i.reading.bytes, i.reading.count)
+
 -- ---- a step
 
 pub told_read : {ph : Phase} (o : Origin) (left left' : Option (List ℕ)) (now : TargetSeen) (es : List (Pair × Held)) (run : Run) (r r' : Reading)
@@ -168,52 +199,57 @@ so_far_by o packets fs run written terms form time i =
     so_far_same run.teller.form o.form told told run.terms o.terms (unwrap_or run.start 0) (unwrap_or (first_time packets) 0) (arrivals packets) fs
     (sym form) refl (sym terms) (ap (λ x. unwrap_or x 0) (sym time)) i
 
-so_far : {ph : Phase} (o : Origin) (left : Option (List ℕ)) (now : TargetSeen) (es : List (Pair × Held)) (run : Run) (r : Reading)
-    → (i : IsTellingIn ph o left now es run r)
-    → StreamsSoFar o i.packets i.follows.fs (told_by i.follows.written run)
-so_far o left now es run r i =
-    so_far_by o i.packets i.follows.fs run i.follows.written i.terms i.form i.time (follows_so_far o.target now (arrivals i.packets) es run i.follows)
-
 -- no lines follow the reports yet
 no_lines : (o : Origin) (now : TargetSeen) (text : List ℕ) → AppendsPrefix o.target.held now.held text → AppendsPrefix o.target.held now.held (text ++ [])
 no_lines o now text front = subst (AppendsPrefix o.target.held now.held) (sym (append-nil text)) front
 
 -- the parts that are told, by what was asked for
 told_so_far : {ph : Phase} (o : Origin) (left : Option (List ℕ)) (now : TargetSeen) (es : List (Pair × Held)) (run : Run) (r : Reading)
-    → (i : IsTellingIn ph o left now es run r) → AreToldSoFar o i.packets i.follows.fs (told_by i.follows.written run)
-told_so_far {ph} o left now es run r i =
+    → (i : IsTellingIn ph o left now es run r) → AreToldSoFar ph o i.packets i.follows.fs (told_by i.follows.written run)
+told_so_far o left now es run r i =
     let f = i.follows in
     let text = told_by f.written run in
     let rows = rows_same run.teller.form o.form f.packet f.parts text text run.terms o.terms (unwrap_or run.start 0) (unwrap_or (first_time i.packets) 0)
     run.begun run.begun (arrivals i.packets) f.fs es (sym i.form) refl (sym i.terms) (ap (λ x. unwrap_or x 0) (sym i.time)) refl f.rows in
+    let streams = streams_by o i.packets f.fs es run f.written i.terms i.form i.time f.streams in
     record {
-      begun = run.begun;
-      place = f.order.place;
-      order = f.order.order;
-      phase = ph;
+      stream = record {
+        over = streams.sent;
+        begun = run.begun;
+        place = f.order.place;
+        order = f.order.order;
+        left = left_so_far o.form text o.terms (unwrap_or (first_time i.packets) 0) run.begun (arrivals i.packets) f.fs es f.apart streams f.order
+            (λ k. share_same run.teller.form o.form text text run.terms o.terms (arrivals i.packets) f.fs k (lookup (same_pair k) es) (sym i.form) refl
+            (sym i.terms) (f.shared k));
+      };
       parting = f.parting;
       parts = f.parts;
       parts_are = rows.rowed.parts_are;
       rows = rows.rowed.over;
       none = rows.rowed.none;
       going = going_of o.form f.packet f.parts text o.terms (unwrap_or (first_time i.packets) 0) run.begun (arrivals i.packets) f.fs es f.apart
-          f.streams.numbered rows;
+          f.streams.numbered f.order rows;
+      each = each_numbered (arrivals i.packets) f.fs es run.begun f.begun f.streams.numbered f.order run.teller.form text run.terms f.shared;
       packet = f.packet;
       times = f.times;
     }
 
+no_lines_in : (ph : Phase) (o : Origin) (packets : List Captured) (fs : List Finished) → AreLines ph o packets fs []
+no_lines_in During o packets fs = refl
+no_lines_in (Coming p x) o packets fs = refl
+no_lines_in AtEnd o packets fs = inl refl
+
 pub left_by : {ph : Phase} (o : Origin) (left : Option (List ℕ)) (now after : TargetSeen) (es : List (Pair × Held)) (run : Run) (r : Reading)
     → ((reports : List Report) (written : List ℕ) → Tells o.target now run.teller reports written
     → IsStopped run.teller.form o.target after reports (written ++ run.teller.text.items))
-    → IsTellingIn ph o left now es run r → IsLeft o left after
-left_by o left now after es run r stopped i =
+    → IsTellingIn ph o left now es run r → IsLeftIn ph o left after r
+left_by {ph} o left now after es run r stopped i =
     let s = stops_of o.target now (arrivals i.packets) es run i.follows in
     let fs = i.follows.fs in
     let text = told_by i.follows.written run in
     let is = subst (λ b. IsStopped b o.target after (reports_of fs) text) i.form (stopped (reports_of fs) i.follows.written i.follows.known.tells) in
     record {
       packets = i.packets;
-      r = r;
       read = i.read;
       fs = fs;
       over = record {
@@ -224,8 +260,7 @@ left_by o left now after es run r stopped i =
       text = text;
       texts_are = is.texts_are;
       lines = [];
-      are_lines = inl refl;
-      stream = so_far o left now es run r i;
+      are_lines = no_lines_in ph o i.packets fs;
       front = no_lines o after text is.front;
       failed = is.failed;
       told = told_so_far o left now es run r i;
@@ -233,40 +268,41 @@ left_by o left now after es run r stopped i =
 
 pub given_up : (o : Origin) (left : Option (List ℕ)) (now : TargetSeen) (packets : List Captured) (run : Run) (r : Reading) → HasRead o left packets r
     → run.terms ≡ o.terms → run.teller.form ≡ o.form → run.start ≡ first_time packets → Stops o.target now (clock_of packets) (arrivals packets) run
-    → ArePartlyWritten o left now
+    → ArePartlyWritten o left now r
 given_up o left now packets run r read terms form time s =
     let t = s.known.tells in
     let text = told_by s.written run in
     record {
       packets = packets;
-      r = r;
       read = read;
       fs = s.fs;
       over = over_by o now packets run terms time s;
       text = text;
       texts_are = subst (λ f. AreTexts f (reports_of s.fs) text) form t.whole;
-      lines = [];
-      are_lines = inl refl;
       stream = so_far_by o packets s.fs run s.written terms form time s.so_far;
-      front = no_lines o now text (s.written, run.teller.text.items, refl, t.held);
+      front = (s.written, run.teller.text.items, refl, t.held);
+      calm = t.calm;
     }
 
 pub partly : {ph : Phase} (o : Origin) (left : Option (List ℕ)) (now : TargetSeen) (es : List (Pair × Held)) (run : Run) (r : Reading)
-    → IsTellingIn ph o left now es run r → ArePartlyWritten o left now
+    → IsTellingIn ph o left now es run r → ArePartlyWritten o left now r
 partly o left now es run r i =
     given_up o left now i.packets run r i.read i.terms i.form i.time (stops_of o.target now (arrivals i.packets) es run i.follows)
 
-pub nothing_told : (o : Origin) → ArePartlyWritten o o.source.left o.target
-nothing_told o = record {
+-- All turns of reading were taken.
+pub turned : {ph : Phase} (o : Origin) (left : Option (List ℕ)) (now : TargetSeen) (es : List (Pair × Held)) (run : Run) (r : Reading)
+    → IsTellingIn ph o left now es run r → 2 ^ 64 - 1 ≤ r.bytes + r.packets → IsToldIn ph Turns o left now r
+unfolding partly given_up
+turned o left now es run r i le = (partly o left now es run r i, counts_all o left i.packets r i.read le)
+
+nothing_written : (o : Origin) → ArePartlyWritten o o.source.left o.target nothing_read
+nothing_written o = record {
   packets = [];
-  r = nothing_read;
   read = read_nothing o;
   fs = [];
   over = record { finished = All-nil (IsFinished o.terms 0); shared = λ k. ([], refl); timely = All-nil (IsTimely (clock_of [])) };
   text = [];
   texts_are = no_texts o.form;
-  lines = [];
-  are_lines = inl refl;
   stream =
       let none = order_nothing [] 0 refl refl in
       record {
@@ -277,7 +313,11 @@ nothing_told o = record {
         left = λ n side asked small none. inl refl;
       };
   front = ([], [], refl, Appends-nil o.target.held);
+  calm = refl;
 }
+
+pub nothing_told : (o : Origin) → IsToldTo Memory o o.source o.target
+nothing_told o = inl (nothing_read, nothing_written o)
 
 -- ---- the end
 
@@ -353,14 +393,13 @@ whole_written o left before now run r empty i held =
 -- The lines on uTP couldn't be made or written.
 part_written : (o : Origin) (left : Option (List ℕ)) (before now : TargetSeen) (run : Run) (r : Reading) → IsEmpty run.teller
     → (i : IsTellingIn AtEnd o left before [] run r) → AppendsPrefix before.held now.held (utp_lines run.teller.form i.packets) → WriteFailed before now
-    → IsLeft o left now
+    → IsLeftIn AtEnd o left now r
 part_written o left before now run r empty i p failed =
     let known = i.follows.known in
     let written = i.follows.written in
     let q = subst (λ f. AppendsPrefix before.held now.held (utp_lines f i.packets)) i.form p in
     record {
       packets = i.packets;
-      r = r;
       read = i.read;
       fs = i.follows.fs;
       over = record {
@@ -372,7 +411,6 @@ part_written o left before now run r empty i p failed =
       texts_are = texts_written o left before run r empty i;
       lines = utp_lines o.form i.packets;
       are_lines = inr (all_over o left before run r i, refl);
-      stream = subst (λ l. StreamsSoFar o i.packets i.follows.fs l) (all_told written run empty) (so_far o left before [] run r i);
       front = (
         written ++ q.0,
         q.1,
@@ -380,14 +418,14 @@ part_written o left before now run r empty i p failed =
         Appends-trans o.target.held before.held now.held written q.0 known.tells.held q.3,
       );
       failed = subst (λ (n : ℕ). Grew n now.failed) known.tells.calm failed;
-      told = subst (λ l. AreToldSoFar o i.packets i.follows.fs l) (all_told written run empty) (told_so_far o left before [] run r i);
+      told = subst (λ l. AreToldSoFar AtEnd o i.packets i.follows.fs l) (all_told written run empty) (told_so_far o left before [] run r i);
     }
 
 pub not_added : (T : Type 0) (f : CaptureFault) (o : Origin) (left : Option (List ℕ)) (before now : TargetSeen) (run : Run) (r : Reading)
     → IsEmpty run.teller → (i : IsTellingIn AtEnd o left before [] run r) → Adds {T = T} (utp_lines run.teller.form i.packets) before now (Err f)
-    → IsToldTo f o left now
+    → IsToldIn AtEnd f o left now r
 not_added T Write o left before now run r empty i a = part_written o left before now run r empty i a.0 a.1
-not_added T Memory o left before now run r empty i a = subst (ArePartlyWritten o left) (sym a) (partly o left before [] run r i)
+not_added T Memory o left before now run r empty i a = subst (λ x. ArePartlyWritten o left x r) (sym a) (partly o left before [] run r i)
 not_added T Turns o left before now run r empty i a = absurd a
 
 -- Those that are left are taken out of the table.

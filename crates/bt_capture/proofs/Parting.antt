@@ -1,5 +1,6 @@
 -- Where one connection ends and another between the same ends begins.
-use Rattle.std.proofs.Common.{◌≡◌, ◌∙◌, ◌≤◌, Bool, true, false, if◌then◌else◌, List, [], ◌∷◌, ◌++◌, append-nil, append_assoc, refl, sym, ap, subst, inl, inr}
+use Rattle.std.proofs.Common.{◌≡◌, ◌∙◌, ◌≤◌, Bool, true, false, if◌then◌else◌, is_some, List, [], ◌∷◌, ◌++◌, append-nil}
+use Rattle.std.proofs.Common.{append_assoc, refl, sym, ap, subst, inl, inr}
 use Rattle.std.specs.List.{All, Contains}
 use Rattle.std.proofs.lemmas.Bool.{cases_Bool}
 use Rattle.std.proofs.lemmas.Grind.{flat_map-append}
@@ -7,12 +8,13 @@ use Rattle.std.proofs.lemmas.List.{append_cancel_left}
 use Rattle.std.proofs.lemmas.List.Elements.{All-append, All-cons, All-contains, All-filter, All-head, All-nil, All-push, All-tail, All-weaker}
 use Rattle.std.proofs.lemmas.List.Elements.{Contains-append_left}
 use Rattle.bt_talk.specs.Pasts.{Past}
-use Rattle.bt_talk.specs.Talks.{IsTalk}
+use Rattle.bt_talk.specs.Closing.{is_quiet}
+use Rattle.bt_talk.specs.Talks.{IsTalk, closing_of, is_lost}
 use Rattle.bt_talk.specs.declared.closing.When.{When}
 use Rattle.bt_capture.specs.Arrivals.{AreEarlier, Arrival, Clock, IsEarlier, is_between, pair_of}
-use Rattle.bt_capture.specs.Connections.{Begins}
+use Rattle.bt_capture.specs.Connections.{Begins, is_opener}
 use Rattle.bt_capture.specs.Following.{AreParted, AreParts, AtEnd, Before, Cause, Coming, Crowded, During, Ended, Final, Finished, IsParted, IsShared}
-use Rattle.bt_capture.specs.Following.{IsTimely, IsTimelyBy, MayBe, MayEnd, Phase, Unknown, between, coming, is_final, taken_between, taken_by}
+use Rattle.bt_capture.specs.Following.{IsTimely, IsTimelyBy, MayBe, MayEnd, Phase, between, coming, given_up_by, is_final, taken_between, taken_by}
 use Rattle.bt_capture.specs.Tables.{same_pair}
 use Rattle.bt_capture.specs.declared.connection.Connection.{Connection}
 use Rattle.bt_capture.specs.declared.pair.Pair.{Pair}
@@ -48,7 +50,6 @@ one_more : (clock : Clock) (taken : List Arrival) (c : Cause) (l more : List Arr
 one_more clock taken Final l more e t new i = cc
 one_more clock taken (Ended at) l more e t new i = all_later clock at l more t.0 new i
 one_more clock taken (Crowded ended at) l more e t new i = all_later clock at l more t.0 new i
-one_more clock taken Unknown l more e t new i = tt
 one_more clock taken (Before x) [] more e t new i = absurd i
 one_more clock taken (Before x) (y ∷ ys) more e t new i = i
 
@@ -85,7 +86,6 @@ pub timely_own : (clock : Clock) (k : Pair) (came : List Arrival) (fs : List Fin
 timely_own clock k came fs taken Final share t = tt
 timely_own clock k came fs taken (Ended at) share t = (t.0, own_within at k came fs taken share t.1)
 timely_own clock k came fs taken (Crowded ended at) share t = (t.0, own_within at k came fs taken share t.1)
-timely_own clock k came fs taken Unknown share t = tt
 timely_own clock k came fs taken (Before x) share t = tt
 
 -- One more packet comes.
@@ -96,7 +96,6 @@ timely_on clock later more taken (Ended at) e t =
     (subst (λ l. Contains l at) (sym e) (Contains-append_left clock.packets more at t.0), t.1)
 timely_on clock later more taken (Crowded ended at) e t =
     (subst (λ l. Contains l at) (sym e) (Contains-append_left clock.packets more at t.0), t.1)
-timely_on clock later more taken Unknown e t = tt
 timely_on clock later more taken (Before x) e t = tt
 
 pub timely_more : (clock later : Clock) (more : List When) (fs : List Finished) → later.packets ≡ clock.packets ++ more → All (IsTimely clock) fs
@@ -105,14 +104,56 @@ timely_more clock later more fs e all = All-weaker (IsTimely clock) (IsTimely la
 
 -- This segment begins another connection.
 pub may_before : (clock : Clock) (came : List Arrival) (p : Pair) (x : Arrival) (c : Connection)
-    → ((a b : Past) → IsTalk a b c.talk → Begins true x a b c.talk) → x.when.packet ≡ clock.number → MayEnd (Coming p x) clock came (Before x) p c
-may_before clock came p x c why packet = record {
+    → (is_lost c.talk ≡ false → (a b : Past) → IsTalk a b c.talk → Begins true x a b c.talk) → (is_lost c.talk ≡ true → is_opener x ≡ true)
+    → x.when.packet ≡ clock.number → MayEnd (Coming p x) clock came (Before x) p c
+may_before clock came p x c why why_lost packet = record {
   may_be = refl;
   parted = subst (λ (b : Bool). IsParted (Before x) (if b then x ∷ [] else [])) (sym (same_self p)) refl;
   why = why;
+  why_lost = why_lost;
   timely = tt;
   told_at = sym packet;
 }
+
+-- There are too many at this packet, and memory didn't run out with it.
+may_quiet : (clock : Clock) (came : List Arrival) (p : Pair) (at : When) (c : Connection) (quiet : Bool) → is_quiet (closing_of c.talk).over at.nanos ≡ quiet
+    → Contains clock.packets at → at.packet ≡ clock.number → All (λ x. x.when.packet ≤ at.packet) came
+    → is_lost c.talk ≡ false → MayEnd During clock came (if quiet then Ended at else Crowded (is_some (closing_of c.talk).over) at) p c
+may_quiet clock came p at c true is there packet within kept = record {
+  may_be = refl;
+  parted = All-nil (λ (x : Arrival). IsEarlier at x.when.packet);
+  why = λ there a b t. is;
+  why_lost = λ gone. absurd (let e : true ≡ false = sym gone ∙ kept in cc);
+  timely = (there, within);
+  told_at = sym packet;
+}
+may_quiet clock came p at c false is there packet within kept = record {
+  may_be = refl;
+  parted = All-nil (λ (x : Arrival). IsEarlier at x.when.packet);
+  why = λ there a b t. (refl, is);
+  why_lost = λ gone. absurd (let e : true ≡ false = sym gone ∙ kept in cc);
+  timely = (there, within);
+  told_at = sym packet;
+}
+
+-- There are too many at this packet.
+may_lost : (clock : Clock) (came : List Arrival) (p : Pair) (at : When) (c : Connection) (lost : Bool) → is_lost c.talk ≡ lost
+    → Contains clock.packets at → at.packet ≡ clock.number → All (λ x. x.when.packet ≤ at.packet) came
+    → MayEnd During clock came (given_up_by lost (closing_of c.talk).over at) p c
+may_lost clock came p at c true gone there packet within = record {
+  may_be = refl;
+  parted = All-nil (λ (x : Arrival). IsEarlier at x.when.packet);
+  why = λ kept a b t. absurd (let e : true ≡ false = sym gone ∙ kept in cc);
+  why_lost = λ _. tt;
+  timely = (there, within);
+  told_at = sym packet;
+}
+may_lost clock came p at c false kept there packet within =
+    may_quiet clock came p at c (is_quiet (closing_of c.talk).over at.nanos) refl there packet within kept
+
+pub may_given_up : (clock : Clock) (came : List Arrival) (p : Pair) (at : When) (c : Connection) → Contains clock.packets at → at.packet ≡ clock.number
+    → All (λ x. x.when.packet ≤ at.packet) came → MayEnd During clock came (given_up_by (is_lost c.talk) (closing_of c.talk).over at) p c
+may_given_up clock came p at c there packet within = may_lost clock came p at c (is_lost c.talk) refl there packet within
 
 -- ---- all of them
 

@@ -1,9 +1,10 @@
 -- One more connection is over.
 use Rattle.bt_talk.specs.declared.terms.Terms.{Terms}
 use Rattle.std.proofs.Common.{◌≡◌, ◌∙◌, ◌⊎◌, ℕ, ◌+◌, ◌-◌, ◌^◌, ◌<◌, ◌≤◌, min, Bool, true, false, List, [], ◌∷◌, ◌++◌, length, append-nil, append_assoc}
-use Rattle.std.proofs.Common.{Option, Some, None, unwrap_or, Result, Ok, Err, OnOk, OnErr, refl, sym, ap, subst, arith, inl, inr}
+use Rattle.std.proofs.Common.{not, ◌&&◌, Option, Some, None, unwrap_or, Result, Ok, Err, OnOk, OnErr, refl, sym, ap, subst, arith, inl, inr}
 use Rattle.std.specs.List.{All, filter}
 use Rattle.std.specs.Map.{lookup}
+use Rattle.std.proofs.lemmas.Bool.{cases_Bool}
 use Rattle.std.proofs.lemmas.Grind.{flat_map-append}
 use Rattle.std.proofs.lemmas.List.{length-append}
 use Rattle.std.proofs.lemmas.List.Elements.{All-push, filter-append}
@@ -20,11 +21,11 @@ use Rattle.bt_told.specs.declared.report.Left.{Left}
 use Rattle.bt_told.specs.declared.report.Report.{Report}
 use Rattle.bt_capture.specs.Arrivals.{AreEarlier, Arrival, Clock, is_between, pair_of}
 use Rattle.bt_capture.specs.Connections.{IsFirst, IsMade, IsOpen}
-use Rattle.bt_capture.specs.Following.{AreRowsOf, AtEnd, Cause, Coming, During, FollowsIn, GoesIn, IsOverBy, IsParted, MayBe, MayEnd, Phase, Rows}
+use Rattle.bt_capture.specs.Following.{AreRowsOf, AtEnd, Cause, Coming, FollowsIn, GoesIn, IsOverBy, IsParted, MayBe, MayEnd, Phase, Rows}
 use Rattle.bt_capture.specs.Following.{AreToldWith, IsTimely, IsTimelyBy}
-use Rattle.bt_capture.specs.Following.{Ended, Final, Before, Crowded, Unknown, coming, is_unread, left_by, losses_of, with_left}
+use Rattle.bt_capture.specs.Following.{Ended, Final, Before, Crowded, IsCause, coming, is_early, is_given_up_as, is_unread, left_in, losses_of, over_for, with_over}
 use Rattle.bt_capture.specs.Following.{Finished, Fate, Reported, Silent, Lost, IsFinished, IsKnown, IsReported, IsSentBy, IsShared, IsEnded}
-use Rattle.bt_capture.specs.Following.{IsStreamSoFar, Follows, Stops, Holds, Shares, Streams, count_lost, count_open, count_unread, is_lost_by}
+use Rattle.bt_capture.specs.Following.{IsStreamSoFar, Follows, Stops, Holds, Shares, Streams, count_early, count_lost, count_open, count_unread, is_lost_by}
 use Rattle.bt_capture.specs.Following.{report_in, reports_of, taken_between, told_by}
 use Rattle.bt_capture.specs.Forms.{is_stream, showing_by, wanted_by}
 use Rattle.bt_capture.specs.Sending.{HasSent, IsSending}
@@ -33,6 +34,7 @@ use Rattle.bt_capture.specs.Tables.{Held, same_pair}
 use Rattle.bt_capture.specs.Tellings.{ArePartsOf, OfBytes, Part, SaysAfter, Tells, TellsOn, is_row_of, report_by, rows_of}
 use Rattle.bt_capture.specs.declared.connection.Connection.{Connection}
 use Rattle.bt_capture.specs.declared.connections.Losses.{Losses}
+use Rattle.bt_capture.specs.declared.connections.Over.{Over}
 use Rattle.bt_capture.specs.declared.connections.Run.{Run}
 use Rattle.bt_capture.specs.declared.ending.Form.{Form}
 use Rattle.bt_capture.specs.declared.pair.Pair.{Pair}
@@ -78,34 +80,41 @@ count_none test fs f e =
     ap (λ l. min (length l) (2 ^ 64 - 1))
     (sym (append-nil (filter test fs)) ∙ ap (λ l. filter test fs ++ l) (sym (none_passes test f e)) ∙ sym (filter-append test fs (f ∷ [])))
 
-losses_by : (a b c d : ℕ) → a ≡ c → b ≡ d → ◌≡◌ {A = Losses} (record { memory = a; crowd = b }) (record { memory = c; crowd = d })
-losses_by a b c d e f = cc
+losses_by : (a b c d e f : ℕ) → a ≡ d → b ≡ e → c ≡ f
+    → ◌≡◌ {A = Losses} (record { memory = a; crowd = b; early = c }) (record { memory = d; crowd = e; early = f })
+losses_by a b c d e f memory crowd early = cc
 
 -- Memory ran out with the last one.
-lost_more : (fs : List Finished) (f : Finished) → is_lost_by f.fate ≡ true → is_unread f.cause ≡ false
-    → ◌≡◌ {A = Losses} (record { memory = min (count_lost fs + 1) (2 ^ 64 - 1); crowd = count_unread fs }) (losses_of (fs ++ f ∷ []))
-lost_more fs f lost crowded =
-    losses_by (min (count_lost fs + 1) (2 ^ 64 - 1)) (count_unread fs) (count_lost (fs ++ f ∷ [])) (count_unread (fs ++ f ∷ []))
-    (count_one (λ g. is_lost_by g.fate) fs f lost) (count_none (λ g. is_unread g.cause) fs f crowded)
+lost_more : (fs : List Finished) (f : Finished) → is_lost_by f.fate ≡ true
+    → record (losses_of fs) { memory = min (count_lost fs + 1) (2 ^ 64 - 1) } ≡ losses_of (fs ++ f ∷ [])
+lost_more fs f lost =
+    losses_by (min (count_lost fs + 1) (2 ^ 64 - 1)) (count_unread fs) (count_early fs) (count_lost (fs ++ f ∷ [])) (count_unread (fs ++ f ∷ []))
+    (count_early (fs ++ f ∷ [])) (count_one (λ g. is_lost_by g.fate) fs f lost) (count_none (is_given_up_as is_unread) fs f (rw lost refl))
+    (count_none (is_given_up_as is_early) fs f (rw lost refl))
 
-kept_uncrowded : (fs : List Finished) (f : Finished) → is_unread f.cause ≡ false → is_lost_by f.fate ≡ false → losses_of fs ≡ losses_of (fs ++ f ∷ [])
-kept_uncrowded fs f crowded kept =
-    losses_by (count_lost fs) (count_unread fs) (count_lost (fs ++ f ∷ [])) (count_unread (fs ++ f ∷ []))
-    (count_none (λ g. is_lost_by g.fate) fs f kept) (count_none (λ g. is_unread g.cause) fs f crowded)
+kept_uncrowded : (fs : List Finished) (f : Finished) → is_unread f.cause ≡ false → is_early f.cause ≡ false → is_lost_by f.fate ≡ false
+    → losses_of fs ≡ losses_of (fs ++ f ∷ [])
+kept_uncrowded fs f read late kept =
+    losses_by (count_lost fs) (count_unread fs) (count_early fs) (count_lost (fs ++ f ∷ [])) (count_unread (fs ++ f ∷ [])) (count_early (fs ++ f ∷ []))
+    (count_none (λ g. is_lost_by g.fate) fs f kept) (count_none (is_given_up_as is_unread) fs f (rw kept read))
+    (count_none (is_given_up_as is_early) fs f (rw kept late))
 
 kept_for : (cause : Cause) (fs : List Finished) (f : Finished) → f.cause ≡ cause → is_lost_by f.fate ≡ false
-    → with_left (left_by cause) (losses_of fs) ≡ losses_of (fs ++ f ∷ [])
-kept_for Final fs f why kept = kept_uncrowded fs f (ap is_unread why) kept
-kept_for (Ended at) fs f why kept = kept_uncrowded fs f (ap is_unread why) kept
-kept_for Unknown fs f why kept = kept_uncrowded fs f (ap is_unread why) kept
-kept_for (Before x) fs f why kept = kept_uncrowded fs f (ap is_unread why) kept
-kept_for (Crowded true at) fs f why kept = kept_uncrowded fs f (ap is_unread why) kept
+    → with_over (over_for cause) (losses_of fs) ≡ losses_of (fs ++ f ∷ [])
+kept_for Final fs f why kept = kept_uncrowded fs f (ap is_unread why) (ap is_early why) kept
+kept_for (Ended at) fs f why kept = kept_uncrowded fs f (ap is_unread why) (ap is_early why) kept
+kept_for (Before x) fs f why kept = kept_uncrowded fs f (ap is_unread why) (ap is_early why) kept
+kept_for (Crowded true at) fs f why kept =
+    losses_by (count_lost fs) (count_unread fs) (min (count_early fs + 1) (2 ^ 64 - 1)) (count_lost (fs ++ f ∷ [])) (count_unread (fs ++ f ∷ []))
+    (count_early (fs ++ f ∷ [])) (count_none (λ g. is_lost_by g.fate) fs f kept) (count_none (is_given_up_as is_unread) fs f (rw kept (ap is_unread why)))
+    (count_one (is_given_up_as is_early) fs f (rw kept (ap is_early why)))
 kept_for (Crowded false at) fs f why kept =
-    losses_by (count_lost fs) (min (count_unread fs + 1) (2 ^ 64 - 1)) (count_lost (fs ++ f ∷ [])) (count_unread (fs ++ f ∷ []))
-    (count_none (λ g. is_lost_by g.fate) fs f kept) (count_one (λ g. is_unread g.cause) fs f (ap is_unread why))
+    losses_by (count_lost fs) (min (count_unread fs + 1) (2 ^ 64 - 1)) (count_early fs) (count_lost (fs ++ f ∷ [])) (count_unread (fs ++ f ∷ []))
+    (count_early (fs ++ f ∷ [])) (count_none (λ g. is_lost_by g.fate) fs f kept) (count_one (is_given_up_as is_unread) fs f (rw kept (ap is_unread why)))
+    (count_none (is_given_up_as is_early) fs f (rw kept (ap is_early why)))
 
 -- The last one isn't lost.
-lost_same : (fs : List Finished) (f : Finished) → is_lost_by f.fate ≡ false → with_left (left_by f.cause) (losses_of fs) ≡ losses_of (fs ++ f ∷ [])
+lost_same : (fs : List Finished) (f : Finished) → is_lost_by f.fate ≡ false → with_over (over_for f.cause) (losses_of fs) ≡ losses_of (fs ++ f ∷ [])
 lost_same fs f kept = kept_for f.cause fs f refl kept
 
 known_more : (start now : TargetSeen) (fs : List Finished) (f : Finished) (written : List ℕ) (old new : Run) → new.terms ≡ old.terms
@@ -341,27 +350,30 @@ unreported {ph} {clock} start now came p c es old new end cause parted may timel
     (reports_more i.fs f ∙ sym reports) told i.rows.rowed.parts_are) shows
     (told_unreported i.packet clock.number i.parts i.fs f (ap (λ (g : Finished). report_in g.fate) is ∙ none) i.times)
 
-may_unknown : (ph : Phase) → MayBe ph Unknown
-may_unknown During = refl
-may_unknown (Coming p x) = refl
-may_unknown AtEnd = tt
-
 over_by : (terms : Terms) (taken : List Arrival) (ph : Phase) (clock : Clock) (came : List Arrival) (p : Pair) (c : Connection) (cause : Cause)
-    → MayEnd ph clock came cause p c → IsMade terms taken [] c.talk → IsOverBy terms taken cause
-over_by terms taken ph clock came p c cause may m = record {
+    → MayEnd ph clock came cause p c → is_lost c.talk ≡ false → IsMade terms taken [] c.talk → IsOverBy terms taken cause
+over_by terms taken ph clock came p c cause may there m = record {
   first = m.first;
   is_first = subst (IsFirst m.first) (append-nil taken) m.is_first;
   a = m.a;
   b = m.b;
   last = c.talk;
   made = m.made;
-  why = may.why m.a m.b m.made.is;
+  why = may.why there m.a m.b m.made.is;
 }
+
+-- Memory ran out with one of its segments, or now.
+lost_by : (terms : Terms) (taken : List Arrival) (ph : Phase) (clock : Clock) (came : List Arrival) (p : Pair) (c : Connection) (cause : Cause)
+    → MayEnd ph clock came cause p c → IsOpen terms taken [] c → IsCause terms taken cause Lost
+lost_by terms taken ph clock came p c cause may i = elim (cases_Bool (is_lost c.talk)) [
+  | inl gone ↦ inr (i.ran_out gone, may.why_lost gone)
+  | inr there ↦ inl (over_by terms taken ph clock came p c cause may there (i.made there))
+]
 
 -- No byte of it was captured.
 pub silent : {ph : Phase} {clock : Clock} (start now : TargetSeen) (came : List Arrival) (p : Pair) (c : Held) (es : List (Pair × Held)) (run new : Run)
     (cause : Cause) → MayEnd ph clock came cause p c.value → lookup (same_pair p) es ≡ None → c.value.has_payload ≡ false → is_lost c.value.talk ≡ false
-    → new.terms ≡ run.terms → new.start ≡ run.start → new.teller ≡ run.teller → new.begun ≡ run.begun → new.lost ≡ with_left (left_by cause) run.lost
+    → new.terms ≡ run.terms → new.start ≡ run.start → new.teller ≡ run.teller → new.begun ≡ run.begun → new.lost ≡ with_over (over_for cause) run.lost
     → FollowsIn ph start now clock came ((p, c) ∷ es) run → FollowsIn ph start now clock came es new
 silent {ph} {clock} start now came p c es run new cause may absent none there terms begin teller count lost i =
     let s = own start now came p c es run i in
@@ -377,8 +389,8 @@ silent {ph} {clock} start now came p c es run new cause may absent none there te
     let no_rows = nothing_shown (heading_of form n from) g.0.a g.0.b talk g.0.made.turns rows.0 g.0.made.is g.0.made.heard out.0 out.1 out.2 g.1 in
     let f : Finished = record { number = n; pair = p; taken = s.taken; fate = Silent; cause = cause } in
     unreported start now came p c es run new Silent cause may.parted may.may_be may.timely absent terms begin teller count refl i f refl
-    (lost ∙ ap (with_left (left_by cause)) i.known.lost ∙ lost_same i.fs f refl)
-    (no_data, over_by run.terms s.taken ph clock came p c.value cause may (s.is.0.made there))
+    (lost ∙ ap (with_over (over_for cause)) i.known.lost ∙ lost_same i.fs f refl)
+    (no_data, over_by run.terms s.taken ph clock came p c.value cause may there (s.is.0.made there))
     (λ side small w.
     let h = (s.is.1 side small w).all there in
     let none_out = nothing_came run.terms s.taken talk no_data h.0 in
@@ -386,18 +398,18 @@ silent {ph} {clock} start now came p c es run new cause may absent none there te
 
 -- Memory ran out with it.
 pub lost_one : {ph : Phase} {clock : Clock} (start now : TargetSeen) (came : List Arrival) (p : Pair) (c : Held) (es : List (Pair × Held)) (old new : Run)
-    → lookup (same_pair p) es ≡ None → new.terms ≡ old.terms → new.start ≡ old.start → new.teller ≡ old.teller
-    → new.lost ≡ record { memory = min (old.lost.memory + 1) (2 ^ 64 - 1); crowd = old.lost.crowd } → new.begun ≡ old.begun
+    (cause : Cause) → MayEnd ph clock came cause p c.value → lookup (same_pair p) es ≡ None → new.terms ≡ old.terms → new.start ≡ old.start
+    → new.teller ≡ old.teller → new.lost ≡ record old.lost { memory = min (old.lost.memory + 1) (2 ^ 64 - 1) } → new.begun ≡ old.begun
     → FollowsIn ph start now clock came ((p, c) ∷ es) old → FollowsIn ph start now clock came es new
-lost_one {ph} start now came p c es old new absent terms begin teller lost count i =
+lost_one {ph} {clock} start now came p c es old new cause may absent terms begin teller lost count i =
     let s = own start now came p c es old i in
     let from = unwrap_or old.start 0 in
     let rows = own_rows_of old.teller.form old.terms from i.packet i.parts (told_by i.written old) old.begun came i.fs p c es s.taken s.share i.rows in
-    let f : Finished = record { number = c.value.number; pair = p; taken = s.taken; fate = Lost; cause = Unknown } in
-    let more : Losses → Losses = λ l. record { memory = min (l.memory + 1) (2 ^ 64 - 1); crowd = l.crowd } in
-    unreported start now came p c es old new Lost Unknown tt (may_unknown ph) tt absent terms begin teller count refl i f refl
-    (lost ∙ ap more i.known.lost ∙ lost_more i.fs f refl refl) (tt, refl) (λ side small w. (s.is.1 side small w).early)
-    (λ small. (is_lost c.value.talk, rows.3 small))
+    let f : Finished = record { number = c.value.number; pair = p; taken = s.taken; fate = Lost; cause = cause } in
+    let more : Losses → Losses = λ l. record l { memory = min (l.memory + 1) (2 ^ 64 - 1) } in
+    unreported start now came p c es old new Lost cause may.parted may.may_be may.timely absent terms begin teller count refl i f refl
+    (lost ∙ ap more i.known.lost ∙ lost_more i.fs f refl) (tt, lost_by old.terms s.taken ph clock came p c.value cause may s.is.0)
+    (λ side small w. (s.is.1 side small w).early) (λ small. (is_lost c.value.talk, rows.3 small))
 
 -- What is told after these bytes were appended, if a stream is told.
 appended : (written more : List ℕ) (old new : Run) → new.teller.text.items ≡ old.teller.text.items ++ more → told_by written new ≡ told_by written old ++ more
@@ -418,9 +430,9 @@ Reports t t' h left last talk bytes = (a b : Past) (turns : List Turn) (before :
     × ((rows : List Shown) × AreTurnRows h now (before ++ rows) × SaysAfter t t' h.connection h.start left talk bytes rows)
 
 pub reported : {A E : Type 0} {ph : Phase} {clock : Clock} (r : Result A E) (start now : TargetSeen) (came : List Arrival) (p : Pair) (c : Held)
-    (es : List (Pair × Held)) (old new : Run) (cause : Cause) (left : Left) → MayEnd ph clock came cause p c.value → left ≡ left_by cause
+    (es : List (Pair × Held)) (old new : Run) (cause : Cause) (over : Over) → MayEnd ph clock came cause p c.value → over ≡ over_for cause
     → lookup (same_pair p) es ≡ None → c.value.has_payload ≡ true → new.terms ≡ old.terms → new.start ≡ old.start
-    → OnOk r (new.lost ≡ with_left left old.lost) → OnErr r (new.lost ≡ old.lost)
+    → OnOk r (new.lost ≡ with_over over old.lost) → OnErr r (new.lost ≡ old.lost)
     → new.teller.form ≡ old.teller.form → new.begun ≡ old.begun → is_lost c.value.talk ≡ false → (talk : Talk)
     → Ends c.value.talk talk → (Q : Type 0) → ((a b : Past) → IsTalk a b c.value.talk → Q)
     → OnErr r (Q → TellsOn old.teller new.teller) → (more : List ℕ)
@@ -428,9 +440,9 @@ pub reported : {A E : Type 0} {ph : Phase} {clock : Clock} (r : Result A E) (sta
     → OnErr r (is_stream old.teller.form ≡ true → Q
     → (new.teller.text.items ≡ old.teller.text.items) ⊎ (new.teller.text.items ≡ old.teller.text.items ++ more))
     → (wanted_by old.teller.form c.value.number ≡ None → more ≡ []) → EndsStream old.teller.form c.value.number c.value.talk more
-    → OnOk r (Reports old.teller new.teller (heading_of old.teller.form c.value.number (unwrap_or old.start 0)) left c.value.talk talk more)
+    → OnOk r (Reports old.teller new.teller (heading_of old.teller.form c.value.number (unwrap_or old.start 0)) (left_in over) c.value.talk talk more)
     → FollowsIn ph start now clock came ((p, c) ∷ es) old → GoesIn ph start now clock came es new r
-reported {A} {E} {ph} {clock} (Ok x) start now came p c es old new cause left may left_is absent some terms begin lost same form count there talk ended Q
+reported {A} {E} {ph} {clock} (Ok x) start now came p c es old new cause over may is_over absent some terms begin lost same form count there talk ended Q
     shown nothing more text part none ends reports i =
     let s = own start now came p c es old i in
     let n = c.value.number in
@@ -473,7 +485,7 @@ reported {A} {E} {ph} {clock} (Ok x) start now came p c es old new cause left ma
       talk = talk;
       turns = turns;
       ended = e;
-      left = left;
+      left = left_in over;
       is = said.1 k.a k.b turns e.is e.heard;
     } in
     let report : (k : IsMade old.terms s.taken [] c.value.talk) → IsReported old.terms from n s.taken said.0 = λ k.
@@ -482,8 +494,8 @@ reported {A} {E} {ph} {clock} (Ok x) start now came p c es old new cause left ma
     follows_over start now came p c es old new absent terms begin form count i f refl refl s.share may.parted may.may_be
     (timely_own clock p came i.fs s.taken cause s.share may.timely)
     (adds_more old.teller.form n told told' more is none) (said.2 start now (reports_of i.fs) i.written i.known.tells)
-    (lost ∙ ap (λ (l : Left). with_left l old.lost) left_is ∙ ap (with_left (left_by cause)) i.known.lost ∙ lost_same i.fs f refl)
-    ((sym s.is.0.has_payload ∙ some, report m, left_is), over_by old.terms s.taken ph clock came p c.value cause may m)
+    (lost ∙ ap (λ (o : Over). with_over o old.lost) is_over ∙ ap (with_over (over_for cause)) i.known.lost ∙ lost_same i.fs f refl)
+    ((sym s.is.0.has_payload ∙ some, report m, ap left_in is_over), over_by old.terms s.taken ph clock came p c.value cause may there m)
     (λ side small w.
     let h = (s.is.1 side small w).all there in
     let k = h.0 in
@@ -503,7 +515,7 @@ reported {A} {E} {ph} {clock} (Ok x) start now came p c es old new cause left ma
       in_time_on head old.terms i.packet packet i.parts (parts_of_report more all said.0) s.taken gets.same
           (in_time_of head old.terms i.packet i.parts s.taken [] (is_lost c.value.talk) there (own.3 small)),
     )) (told_reported i.packet number i.parts i.fs f more all said.0 refl may.told_at i.times)
-reported (Err x) start now came p c es old new cause left may left_is absent some terms begin more_lost lost form count there talk ended Q shown nothing more
+reported (Err x) start now came p c es old new cause over may is_over absent some terms begin more_lost lost form count there talk ended Q shown nothing more
     text part none ends reports i =
     let m = (own start now came p c es old i).is.0.made there in
     let q = shown m.a m.b m.made.is in

@@ -28,9 +28,9 @@ use Rattle.bt_talk.specs.declared.talk.Talk.{Talk}
 use Rattle.bt_talk.specs.Watching.{told_of}
 use Rattle.bt_told.specs.declared.report.Report.{Report}
 use Rattle.bt_capture.specs.Arrivals.{Arrival, is_between, pair_of}
-use Rattle.bt_capture.specs.Connections.{IsFirst, IsNext}
+use Rattle.bt_capture.specs.Connections.{IsFirst}
 use Rattle.bt_capture.specs.Following.{AreAllRows, AreRowsBy, AreRowsOf, Fate, Finished, IsAfterRows, IsLeftShown, IsRowShare, IsRowing, IsRowingTo, IsShared}
-use Rattle.bt_capture.specs.Following.{AreNumbered, IsGoing, Lost, Reported, Silent, count_open, count_over, reports_of, taken_between}
+use Rattle.bt_capture.specs.Following.{AreBegun, AreNumbered, IsBegunAt, IsGoing, Lost, Reported, Silent, count_open, count_over, reports_of, taken_between}
 use Rattle.bt_capture.specs.Forms.{is_stream, showing_by, side_of, wanted_by}
 use Rattle.bt_capture.specs.Rowed.{AreOf, AreGone, AreRowsAfter, AreRowsSoFar, AreToldInTime, AreToldWithSegment, HasShown, IsShowing, heading_of}
 use Rattle.bt_capture.specs.Tables.{Held, IsApart, same_pair}
@@ -41,7 +41,7 @@ use Rattle.bt_capture.specs.declared.pair.Pair.{Pair}
 use Rattle.bt_capture.proofs.Entries.{same_is, same_self}
 use Rattle.bt_capture.proofs.Order.{placed, placed_before, placed_now}
 use Rattle.bt_capture.proofs.Numbers.{not_equal, one_if, one_if_began, same_counts, same_number, counted_cons}
-use Rattle.bt_capture.proofs.Shares.{IsIts, filter_and, filter_less, made_ready, taken_and, taken_less}
+use Rattle.bt_capture.proofs.Shares.{IsIts, filter_and, filter_less, made_before, made_ready, taken_and, taken_less}
 use Rattle.bt_capture.proofs.Streaming.{find_open, other_open}
 
 -- ---- rows of one connection
@@ -318,43 +318,20 @@ so_far_on h terms packet packet' parts parts' more_parts taken more ran_out e no
       in_time = subst (λ l. AreToldInTime h terms packet' l r.kept) (sym e) (in_time_on h terms packet packet' parts more_parts r.kept same r.in_time);
     }
 
-front_of : (xs ys zs : List Arrival) (s : _) → IsFirst s (xs ++ (ys ++ [])) → IsFirst s (xs ++ (ys ++ zs))
-front_of [] [] zs s i = absurd i
-front_of [] (y ∷ ys) zs s i = i
-front_of (x ∷ xs) ys zs s i = i
-
-next_of : (kept : List Arrival) (y : Arrival) (ys zs : List Arrival) (a b : Past) (t : Talk) → IsNext kept (y ∷ ys) a b t → IsNext kept (y ∷ zs) a b t
-next_of [] y ys zs a b t i = i
-next_of (x ∷ xs) y ys zs a b t i = i
-
 -- Memory had run out before the segment x, which is its own.
 so_far_next : (h : Heading) (terms : Terms) (packet : ℕ → ℕ) (parts : List Part) (taken : List Arrival) (x : Arrival)
     → AreRowsSoFar h terms packet parts taken [] true → AreRowsSoFar h terms packet parts taken (x ∷ []) true
 so_far_next h terms packet parts taken x r =
     let g = r.are_gone in
-    let t = r.rows.0 in
-    let m = r.rows.1 in
-    let y = g.0 in
-    let ys = g.1 in
-    let P : List Arrival → Type 0 = λ l. IsNext r.kept (l ++ []) m.a m.b t in
-    let Q : List Arrival → Type 0 = λ l. IsNext r.kept (l ++ x ∷ []) m.a m.b t in
+    let rows = rows_of h.connection parts in
+    let was : AreRowsAfter h terms r.kept (g.0 ∷ g.1 ++ []) rows = subst (λ l. AreRowsAfter h terms r.kept (l ++ []) rows) g.2 r.rows in
+    let m = made_before terms r.kept g.0 (g.1 ++ []) (g.1 ++ x ∷ []) was.0 was.1 in
     record {
       kept = r.kept;
       gone = r.gone;
       is = r.is;
       are_gone = g;
-      rows = (
-        t,
-        record {
-          first = m.first;
-          is_first = front_of r.kept r.gone (x ∷ []) m.first m.is_first;
-          a = m.a;
-          b = m.b;
-          made = m.made;
-          next = subst Q (sym g.2) (next_of r.kept y (ys ++ []) (ys ++ x ∷ []) m.a m.b t (subst P g.2 m.next));
-        },
-        r.rows.2,
-      );
+      rows = subst (λ l. AreRowsAfter h terms r.kept (l ++ x ∷ []) rows) (sym g.2) (was.0, m.0, subst (λ l. AreTurnRows h l rows) (sym m.1) was.2);
       in_time = r.in_time;
     }
 
@@ -404,7 +381,7 @@ so_far_of form packet parts terms from taken x c its small false e i =
       gone = [];
       is = sym (append-nil taken);
       are_gone = refl;
-      rows = (c.talk, made_ready terms taken x c its g.0, subst (AreTurnRows h g.0.made.turns) (sym (i.2 small)) g.1);
+      rows = (c.talk, made_ready terms taken x c (its.0 e) g.0, subst (AreTurnRows h g.0.made.turns) (sym (i.2 small)) g.1);
       in_time = in_time_of h terms packet parts taken [] (is_lost c.talk) e (i.3 small);
     }
 
@@ -638,7 +615,7 @@ module _ (form : Form) (terms : Terms) (from : ℕ) where
     own =
         let s = own_rows_of packet parts text begun came fs p c es taken share i in (
           s.0,
-          λ there. let g = s.1 there in (made_ready terms taken x c.value its g.0, g.1),
+          λ there. let g = s.1 there in (made_ready terms taken x c.value (its.0 there) g.0, g.1),
           s.2,
           λ small. so_far_of form packet parts terms from taken x c.value its small (is_lost c.value.talk) refl s,
         );
@@ -759,9 +736,10 @@ rows_started form packet parts text terms from from' begun fs es none i = record
 
 -- A connection with this number isn't over.
 pub going_of : (form : Form) (packet : ℕ → ℕ) (parts : List Part) (text : List ℕ) (terms : Terms) (from begun : ℕ) (came : List Arrival)
-    (fs : List Finished) (es : List (Pair × Held)) → IsApart es → AreNumbered begun fs es → IsRowing form packet parts text terms from begun came fs es
-    → (n : ℕ) → n < begun → n < 2 ^ 64 - 1 → count_over n fs ≡ 0 → IsGoing form packet parts terms from came fs n
-going_of form packet parts text terms from begun came fs es apart numbered i n lt small none =
+    (fs : List Finished) (es : List (Pair × Held)) → IsApart es → AreNumbered begun fs es → (o : AreBegun came fs es begun)
+    → IsRowing form packet parts text terms from begun came fs es
+    → (n : ℕ) → n < begun → n < 2 ^ 64 - 1 → count_over n fs ≡ 0 → IsGoing form packet parts terms from o.place begun came fs n
+going_of form packet parts text terms from begun came fs es apart numbered order i n lt small none =
     let all = numbered n small in
     let one = one_if_began begun n lt in
     let e = find_open es n apart (omega (arith, all, none, one)) in
@@ -772,6 +750,7 @@ going_of form packet parts text terms from begun came fs es apart numbered i n l
       pair = e.0;
       taken = s.taken;
       share = s.share;
+      began = subst (λ m. IsBegunAt order.place came begun m s.taken) e.3 (order.left e.0 e.1 s.taken e.2 s.share);
       ran_out = is_lost c.talk;
       rows = subst (λ m. AreRowsSoFar (heading_of form m from) terms packet parts s.taken [] (is_lost c.talk)) e.3 (s.is.3 below);
     }

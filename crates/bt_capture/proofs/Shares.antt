@@ -2,16 +2,16 @@
 use Rattle.bt_talk.specs.declared.terms.Terms.{Terms}
 use Rattle.std.proofs.Common.{◌≡◌, ◌∙◌, ℕ, ◌-◌, ◌^◌, ◌<◌, Bool, true, false, List, [], ◌∷◌, ◌++◌, append-nil, append_assoc, Option, Some, None}
 use Rattle.std.proofs.Common.{refl, sym, ap, subst, inl, inr}
-use Rattle.std.specs.List.{filter, flat_map}
+use Rattle.std.specs.List.{All, filter, flat_map}
 use Rattle.std.specs.Map.{lookup}
 use Rattle.std.proofs.lemmas.Bool.{cases_Bool}
 use Rattle.std.proofs.lemmas.Grind.{flat_map-append}
-use Rattle.std.proofs.lemmas.List.Elements.{filter-append}
+use Rattle.std.proofs.lemmas.List.Elements.{All-push, filter-append}
 use Rattle.bt_talk.specs.Pasts.{Past}
-use Rattle.bt_talk.specs.Talks.{IsTalk}
+use Rattle.bt_talk.specs.Talks.{IsTalk, is_lost}
 use Rattle.bt_talk.specs.declared.talk.Talk.{Talk}
 use Rattle.bt_capture.specs.Arrivals.{Arrival, pair_of, is_between}
-use Rattle.bt_capture.specs.Connections.{Begins, IsFirst, IsMade, IsNext, IsOpen}
+use Rattle.bt_capture.specs.Connections.{Begins, HasRunOut, IsFirst, IsMade, IsNext, IsOpen, is_opener}
 use Rattle.bt_capture.specs.Following.{Finished, IsLeft, IsShared, IsShare, count_open, taken_between}
 use Rattle.bt_capture.specs.Sending.{IsSending}
 use Rattle.bt_capture.specs.Tables.{Held, same_pair}
@@ -132,11 +132,23 @@ pub next_is : (taken : List Arrival) (x : Arrival) (a b : Past) (t : Talk) → B
 next_is [] x a b t i = tt
 next_is (y ∷ ys) x a b t i = i
 
+front_of : (xs : List Arrival) (y : Arrival) (ys zs : List Arrival) (s : _) → IsFirst s (xs ++ y ∷ ys) → IsFirst s (xs ++ y ∷ zs)
+front_of [] y ys zs s i = i
+front_of (x ∷ xs) y ys zs s i = i
+
+next_of : (kept : List Arrival) (y : Arrival) (ys zs : List Arrival) (a b : Past) (t : Talk) → IsNext kept (y ∷ ys) a b t → IsNext kept (y ∷ zs) a b t
+next_of [] y ys zs a b t i = i
+next_of (x ∷ xs) y ys zs a b t i = i
+
+-- It begins no other.
+abbrev pub GoesOn : Arrival → Connection → Type 0
+GoesOn x c = (a b : Past) → IsTalk a b c.talk → Begins false x a b c.talk
+
 -- The next segment is one of the connection's.
 abbrev pub IsIts : Arrival → Connection → Type 0
-IsIts x c = (a b : Past) → IsTalk a b c.talk → Begins false x a b c.talk
+IsIts x c = (is_lost c.talk ≡ false → GoesOn x c) × (is_lost c.talk ≡ true → is_opener x ≡ false)
 
-abbrev pub made_ready : (terms : Terms) (taken : List Arrival) (x : Arrival) (c : Connection) → IsIts x c → (m : IsMade terms taken [] c.talk)
+abbrev pub made_ready : (terms : Terms) (taken : List Arrival) (x : Arrival) (c : Connection) → GoesOn x c → (m : IsMade terms taken [] c.talk)
     → IsMade terms taken (x ∷ []) c.talk
 made_ready terms taken x c its m = record {
   first = m.first;
@@ -147,8 +159,41 @@ made_ready terms taken x c its m = record {
   next = next_is taken x m.a m.b c.talk (its m.a m.b m.made.is);
 }
 
+-- A segment more is known to come after a segment of the connection.
+pub made_before : (terms : Terms) (taken : List Arrival) (y : Arrival) (ys zs : List Arrival) (t : Talk) → (m : IsMade terms taken (y ∷ ys) t)
+    → (n : IsMade terms taken (y ∷ zs) t) × (n.made.turns ≡ m.made.turns)
+made_before terms taken y ys zs t m = (
+  record {
+    first = m.first;
+    is_first = front_of taken y ys zs m.first m.is_first;
+    a = m.a;
+    b = m.b;
+    made = m.made;
+    next = next_of taken y ys zs m.a m.b t m.next;
+  },
+  refl,
+)
+
+-- Memory had run out before the segment x, which opens no connection.
+ran_out_before : (terms : Terms) (taken : List Arrival) (x : Arrival) → is_opener x ≡ false → HasRunOut terms taken [] → HasRunOut terms taken (x ∷ [])
+ran_out_before terms taken x own r =
+    let P : Arrival → Type 0 = λ y. is_opener y ≡ false in
+    record {
+      kept = r.kept;
+      x = r.x;
+      later = r.later;
+      is = r.is;
+      talk = r.talk;
+      made = (made_before terms r.kept r.x (r.later ++ []) (r.later ++ x ∷ []) r.talk r.made).0;
+      no_opener = All-push P r.later x (subst (All P) (append-nil r.later) r.no_opener) own;
+    }
+
 pub ready : (terms : Terms) (taken : List Arrival) (x : Arrival) (c : Connection) → IsIts x c → IsOpen terms taken [] c → IsOpen terms taken (x ∷ []) c
-ready terms taken x c its i = record { has_payload = i.has_payload; made = λ there. made_ready terms taken x c its (i.made there) }
+ready terms taken x c its i = record {
+  has_payload = i.has_payload;
+  made = λ there. made_ready terms taken x c (its.0 there) (i.made there);
+  ran_out = λ gone. ran_out_before terms taken x (its.1 gone) (i.ran_out gone);
+}
 
 pub ready_sent : (form : Form) (told : List ℕ) (terms : Terms) (taken : List Arrival) (x : Arrival) (c : Connection)
     → IsIts x c → IsSending form told terms taken [] c → IsSending form told terms taken (x ∷ []) c
@@ -156,5 +201,5 @@ ready_sent form told terms taken x c its i side small w =
     let s = i side small w in
     record {
       early = was_before false side told terms taken (x ∷ []) s.early;
-      all = λ there. let g = s.all there in (made_ready terms taken x c its g.0, g.1);
+      all = λ there. let g = s.all there in (made_ready terms taken x c (its.0 there) g.0, g.1);
     }

@@ -131,33 +131,33 @@ other_so_far form told terms from place begun came fs p c es n side absent apart
     ]
 
 -- These connections aren't over.
+pub left_so_far : (form : Form) (told : List ℕ) (terms : Terms) (from begun : ℕ) (came : List Arrival) (fs : List Finished) (es : List (Pair × Held))
+    → IsApart es → IsStreaming form told terms from begun fs es → (order : AreBegun came fs es begun) → AllShares form terms came fs told es
+    → (n : ℕ) (side : Side) → form.stream ≡ Some (n, side) → n < 2 ^ 64 - 1 → count_over n fs ≡ 0
+    → (told ≡ []) ⊎ IsSentSoFar order.place begun terms came fs n side told
+left_so_far form told terms from begun came fs [] apart i order shared n side asked small none = elim (begun_or_absent form begun n side asked) [
+  | inl lt ↦ let all = i.numbered n small in let one = one_if_began begun n lt in absurd (omega (arith, all, none, one))
+  | inr away ↦ inl (i.untold n away small)
+]
+left_so_far form told terms from begun came fs (e ∷ es) apart i order shared n side asked small none = elim (cases_Bool (e.1.value.number == n)) [
+  | inl t ↦
+      let s = own_of form terms came fs told e.0 e.1 es shared in
+      let began = order.left e.0 e.1 s.taken (rw (same_self e.0) refl) s.share in
+      inr (own_so_far form told terms order.place begun came fs e.0 e.1 n side s began (same_number e.1.value.number n t) small asked)
+  | inr f ↦ other_so_far form told terms from order.place begun came fs e.0 e.1 es n side (apart_first e es apart) (apart_rest e es apart) i
+      (λ k d rest apart found share. order.left k d rest (rw apart found) share)
+      (others_of form terms came fs told e.0 e.1 es shared) asked small none f
+]
+
 pub open_so_far : (form : Form) (told : List ℕ) (terms : Terms) (from begun : ℕ) (came : List Arrival) (fs : List Finished) (es : List (Pair × Held))
     → IsApart es → IsStreaming form told terms from begun fs es → AreBegun came fs es begun → AllShares form terms came fs told es
     → IsStreamSoFar form told terms from came fs
-open_so_far form told terms from begun came fs [] apart i order shared = record {
+open_so_far form told terms from begun came fs es apart i order shared = record {
   over = i.sent;
   begun = begun;
   place = order.place;
   order = order.order;
-  left = λ n side asked small none. elim (begun_or_absent form begun n side asked) [
-    | inl lt ↦ let all = i.numbered n small in let one = one_if_began begun n lt in absurd (omega (arith, all, none, one))
-    | inr away ↦ inl (i.untold n away small)
-  ];
-}
-open_so_far form told terms from begun came fs (e ∷ es) apart i order shared = record {
-  over = i.sent;
-  begun = begun;
-  place = order.place;
-  order = order.order;
-  left = λ n side asked small none. elim (cases_Bool (e.1.value.number == n)) [
-    | inl t ↦
-        let s = own_of form terms came fs told e.0 e.1 es shared in
-        let began = order.left e.0 e.1 s.taken (rw (same_self e.0) refl) s.share in
-        inr (own_so_far form told terms order.place begun came fs e.0 e.1 n side s began (same_number e.1.value.number n t) small asked)
-    | inr f ↦ other_so_far form told terms from order.place begun came fs e.0 e.1 es n side (apart_first e es apart) (apart_rest e es apart) i
-        (λ k d rest apart found share. order.left k d rest (rw apart found) share)
-        (others_of form terms came fs told e.0 e.1 es shared) asked small none f
-  ];
+  left = left_so_far form told terms from begun came fs es apart i order shared;
 }
 
 -- The segment x came for this connection, and it is given up.

@@ -1,18 +1,20 @@
 -- A connection takes one segment more.
 use Rattle.bt_talk.specs.declared.terms.Terms.{Terms}
-use Rattle.std.proofs.Common.{◌≡◌, ◌∙◌, Bool, true, false, not, ◌&&◌, ◌||◌, List, [], ◌∷◌, ◌++◌, append-nil, Result, Ok, Err, OnOk, OnErr}
+use Rattle.std.proofs.Common.{◌≡◌, ◌∙◌, Bool, true, false, not, ◌&&◌, ◌||◌, List, [], ◌∷◌, ◌++◌, append-nil, append_assoc, Result, Ok, Err, OnOk, OnErr}
 use Rattle.std.proofs.Common.{refl, sym, ap, subst, inl, inr}
-use Rattle.std.specs.List.{list_any}
+use Rattle.std.specs.List.{All, list_any}
 use Rattle.std.proofs.lemmas.Bool.{cases_Bool}
+use Rattle.std.proofs.lemmas.List.Elements.{All-nil}
 use Rattle.std.proofs.lemmas.List.Folds.{list_any-append}
 use Rattle.bt_packet.specs.Tcp.{segment}
 use Rattle.bt_packet.specs.declared.tcp.Segment.{Segment}
 use Rattle.bt_talk.specs.Pasts.{Past}
 use Rattle.bt_talk.specs.Shown.{Turn}
-use Rattle.bt_talk.specs.Talks.{Takes, ends_of, terms_of}
+use Rattle.bt_talk.specs.Talks.{Takes, ends_of, is_lost, terms_of}
 use Rattle.bt_talk.specs.declared.talk.Talk.{Talk}
 use Rattle.bt_capture.specs.Arrivals.{Arrival}
-use Rattle.bt_capture.specs.Connections.{Begins, HasTaken, HasTurned, IsFirst, IsMade, IsNext, MayTake, Opens, is_late}
+use Rattle.bt_capture.specs.Connections.{Begins, HasRunOut, HasTaken, HasTurned, IsFirst, IsMade, IsNext, IsOpen, MayTake, Opens, is_late, is_opener}
+use Rattle.bt_capture.specs.declared.connection.Connection.{Connection}
 
 pub any_more : {X : Type 0} (p : X → Bool) (xs : List X) (x : X) → list_any p (xs ++ x ∷ []) ≡ (list_any p xs || p x)
 any_more p xs x = list_any-append p xs (x ∷ []) ∙ ap (λ (b : Bool). list_any p xs || b) (elim (cases_Bool (p x)) [ inl e ↦ rw e refl | inr e ↦ rw e refl ])
@@ -119,3 +121,32 @@ made_more terms taken s x t t' e ends same i took now turned = record {
   };
   next = tt;
 }
+
+-- Memory ran out with the next segment, or had run out before.
+pub ran_out_with : (terms : Terms) (taken : List Arrival) (x : Arrival) (c : Connection) → IsOpen terms taken (x ∷ []) c
+    → HasRunOut terms (taken ++ x ∷ []) []
+ran_out_with terms taken x c i =
+    let P : Arrival → Type 0 = λ y. is_opener y ≡ false in
+    elim (cases_Bool (is_lost c.talk)) [
+      | inl gone ↦
+          let r = i.ran_out gone in
+          let all : r.later ++ x ∷ [] ≡ (r.later ++ x ∷ []) ++ [] = sym (append-nil (r.later ++ x ∷ [])) in
+          record {
+            kept = r.kept;
+            x = r.x;
+            later = r.later ++ x ∷ [];
+            is = ap (λ l. l ++ x ∷ []) r.is ∙ append_assoc r.kept (r.x ∷ r.later) (x ∷ []);
+            talk = r.talk;
+            made = subst (λ l. IsMade terms r.kept (r.x ∷ l) r.talk) all r.made;
+            no_opener = subst (All P) all r.no_opener;
+          }
+      | inr there ↦ record {
+        kept = taken;
+        x = x;
+        later = [];
+        is = refl;
+        talk = c.talk;
+        made = i.made there;
+        no_opener = All-nil P;
+      }
+    ]

@@ -8,7 +8,7 @@ use Rattle.std.proofs.lemmas.List.Elements.{All-cons, All-head, All-nil, All-pus
 use Rattle.bt_talk.specs.Rows.{Shown}
 use Rattle.bt_told.specs.declared.report.Report.{Report}
 use Rattle.bt_capture.specs.Following.{AreTimed, AreToldWith, Cause, Fate, Finished, IsReportedAt, IsReportedWith, IsToldAt}
-use Rattle.bt_capture.specs.Following.{AreNotFinal, Before, Crowded, Ended, Final, Lost, Reported, Silent, Unknown, is_final, report_in}
+use Rattle.bt_capture.specs.Following.{AreNotFinal, Before, Crowded, Ended, Final, Lost, Reported, Silent, is_final, report_in}
 use Rattle.bt_capture.specs.Tellings.{OfBytes, OfReport, OfRows, Part}
 use Rattle.bt_capture.proofs.Order.{placed, placed_before, placed_now}
 use Rattle.bt_capture.proofs.Rowing.{parts_of_report}
@@ -90,7 +90,6 @@ at_any : (old number : ℕ) (cause : Cause) (packet : ℕ) → is_final cause �
 at_any old number Final packet e i = cc
 at_any old number (Ended at) packet e i = i
 at_any old number (Crowded ended at) packet e i = i
-at_any old number Unknown packet e i = tt
 at_any old number (Before x) packet e i = i
 
 reported_later : (packet : ℕ → ℕ) (old number : ℕ) (parts : List Part) (cause : Cause) (end : Fate) → is_final cause ≡ false

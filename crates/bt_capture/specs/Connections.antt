@@ -1,7 +1,7 @@
 -- A connection of a capture, by the segments that it took.
 use Rattle.bt_talk.specs.declared.terms.Terms.{Terms}
-use Rattle.std.specs.Prelude.{◌≡◌, ◌⊎◌, Bool, true, false, List, [], ◌∷◌, ◌++◌, None}
-use Rattle.std.specs.List.{list_any}
+use Rattle.std.specs.Prelude.{◌≡◌, ◌⊎◌, Bool, true, false, not, ◌&&◌, List, [], ◌∷◌, ◌++◌, None}
+use Rattle.std.specs.List.{All, list_any}
 use Rattle.bt_flow.specs.Flows.{high_in}
 use Rattle.bt_packet.specs.Tcp.{segment}
 use Rattle.bt_packet.specs.declared.tcp.Segment.{Segment}
@@ -98,7 +98,23 @@ pub record IsMade (terms : Terms) (taken more : List Arrival) (t : Talk) : Type 
   pub made : IsMadeOf terms first taken a b t
   pub next : IsNext taken more a b t
 
--- The connection took these segments, if memory didn't run out.
+-- It is a SYN without ACK. Once memory ran out with a connection, as long as it is followed, such a segment begins another, and no other one does.
+abbrev pub is_opener : Arrival → Bool
+is_opener x = x.segment.flags.syn && not x.segment.flags.ack
+
+-- The connection took these segments, and memory ran out with x: it had read those before, and x belongs to it. None of the later ones is an opener.
+-- More are still to be taken.
+pub record HasRunOut (terms : Terms) (taken more : List Arrival) : Type 0 where
+  pub kept : List Arrival
+  pub x : Arrival
+  pub later : List Arrival
+  pub is : taken ≡ kept ++ x ∷ later
+  pub talk : Talk
+  pub made : IsMade terms kept (x ∷ later ++ more) talk
+  pub no_opener : All (λ y. is_opener y ≡ false) (later ++ more)
+
+-- The connection took these segments, or memory ran out with one of them.
 pub record IsOpen (terms : Terms) (taken more : List Arrival) (c : Connection) : Type 0 where
   pub has_payload : c.has_payload ≡ list_any has_data taken
   pub made : is_lost c.talk ≡ false → IsMade terms taken more c.talk
+  pub ran_out : is_lost c.talk ≡ true → HasRunOut terms taken more

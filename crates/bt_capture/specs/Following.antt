@@ -1,7 +1,7 @@
 -- The connections of a capture: those that are over, and those that aren't.
 use Rattle.bt_talk.specs.declared.terms.Terms.{Terms}
 use Rattle.std.specs.Prelude.{◌≡◌, ◌⊎◌, ◌==◌, ℕ, ◌+◌, ◌-◌, ◌^◌, ◌<◌, ◌≤◌, min, map, nat_lt, Bool, true, false, if◌then◌else◌, List, [], ◌∷◌, ◌++◌, length}
-use Rattle.std.specs.Prelude.{Option, Some, None, is_some, not, unwrap_or, Result, Ok, Err}
+use Rattle.std.specs.Prelude.{Option, Some, None, is_some, not, ◌&&◌, unwrap_or, Result, Ok, Err}
 use Rattle.std.specs.List.{All, Contains, count_by, filter, flat_map, list_any, slice_get}
 use Rattle.std.specs.List.Sorted.{IsNonDecreasing}
 use Rattle.std.specs.Map.{lookup}
@@ -13,7 +13,7 @@ use Rattle.bt_talk.specs.Sent.{IsSent}
 use Rattle.bt_talk.specs.Closing.{is_quiet}
 use Rattle.bt_talk.specs.Shown.{AreTurnRows, Turn}
 use Rattle.bt_talk.specs.Inside.{AreEndRows}
-use Rattle.bt_talk.specs.Talks.{AreOpened, HasHeard, IsTalk, closing_of, cut_of, ends_of, flow_of, marks_of, terms_of, is_in_opening, of_side}
+use Rattle.bt_talk.specs.Talks.{AreOpened, HasHeard, IsTalk, closing_of, cut_of, ends_of, flow_of, marks_of, terms_of, is_in_opening, is_lost, of_side}
 use Rattle.bt_talk.specs.Talks.{began_with, grown_with}
 use Rattle.bt_talk.specs.declared.closing.When.{When}
 use Rattle.bt_talk.specs.declared.rows.Heading.{Heading}
@@ -22,7 +22,7 @@ use Rattle.bt_told.specs.declared.report.Left.{Left}
 use Rattle.bt_told.specs.declared.report.Left.TheVariants.{Open, Unread, Replaced}
 use Rattle.bt_told.specs.declared.report.Report.{Report}
 use Rattle.bt_capture.specs.Arrivals.{Arrival, Clock, IsEarlier, is_between, has_data}
-use Rattle.bt_capture.specs.Connections.{Begins, IsFirst, IsMadeOf, IsOpen}
+use Rattle.bt_capture.specs.Connections.{Begins, HasRunOut, IsFirst, IsMadeOf, IsOpen, is_opener}
 use Rattle.bt_capture.specs.Forms.{absent_from, wanted_by}
 use Rattle.bt_capture.specs.Reportings.{IsReportOf}
 use Rattle.bt_capture.specs.Sending.{IsSending, WasSent}
@@ -32,6 +32,8 @@ use Rattle.bt_talk.specs.Rows.{Shown}
 use Rattle.bt_capture.specs.Tellings.{ArePartsOf, OfReport, OfRows, Part, Tells, rows_of}
 use Rattle.bt_capture.specs.declared.connection.Connection.{Connection}
 use Rattle.bt_capture.specs.declared.connections.Losses.{Losses}
+use Rattle.bt_capture.specs.declared.connections.Over.{Over}
+use Rattle.bt_capture.specs.declared.connections.Over.TheVariants as over
 use Rattle.bt_capture.specs.declared.connections.Run.{Run}
 use Rattle.bt_capture.specs.declared.ending.Form.{Form}
 use Rattle.bt_capture.specs.declared.pair.Pair.{Pair}
@@ -45,12 +47,11 @@ pub data Fate : Type 0 where
   Lost : Fate
 
 -- Why it is over: no segment between its ends follows; it had ended, by a RST or both FINs, which was four seconds ago at this packet; at this packet
--- there were too many at once, and it had ended by then or it hadn't; memory ran out; or this segment between its ends, which follows, begins another.
+-- there were too many at once, and it had ended less than four seconds before or it hadn't; or this segment between its ends, which follows, begins another.
 pub data Cause : Type 0 where
   Final : Cause
   Ended : When → Cause
   Crowded : (ended : Bool) → When → Cause
-  Unknown : Cause
   Before : Arrival → Cause
 
 -- a connection that is over: its number, its ends, the segments that it took, what became of it, and why
@@ -90,14 +91,29 @@ pub record IsReported (terms : Terms) (from number : ℕ) (taken : List Arrival)
   pub left : Left
   pub is : IsReportOf number from left a b talk turns r
 
+-- Why a connection is over that is given up at this packet. It ended at the time `over`, or it hasn't; a lost one counts as one that hadn't.
+abbrev pub given_up_by : (lost : Bool) → Option ℕ → When → Cause
+given_up_by true over at = Crowded false at
+given_up_by false over at = if is_quiet over at.nanos then Ended at else Crowded (is_some over) at
+
+-- how the connection is over, as it is told and counted
+abbrev pub over_for : Cause → Over
+over_for Final = over.Open
+over_for (Ended at) = over.Open
+over_for (Crowded true at) = over.Early
+over_for (Crowded false at) = over.Unread
+over_for (Before x) = over.Replaced
+
+-- how one that is over so was left, if it hadn't ended
+abbrev pub left_in : Over → Left
+left_in over.Open = Open
+left_in over.Early = Open
+left_in over.Unread = Unread
+left_in over.Replaced = Replaced
+
 -- how the connection was left, if it hasn't ended
 abbrev pub left_by : Cause → Left
-left_by Final = Open
-left_by (Ended at) = Open
-left_by (Crowded true at) = Open
-left_by (Crowded false at) = Unread
-left_by Unknown = Open
-left_by (Before x) = Replaced
+left_by cause = left_in (over_for cause)
 
 abbrev pub IsFate : Terms → (from number : ℕ) → List Arrival → Cause → Fate → Type 0
 IsFate terms from number taken cause (Reported r) =
@@ -109,8 +125,7 @@ IsFate terms from number taken cause Lost = Unit {0}
 abbrev pub IsWhy : Cause → Past → Past → Talk → Type 0
 IsWhy Final a b t = Unit {0}
 IsWhy (Ended at) a b t = is_quiet (closing_of t).over at.nanos ≡ true
-IsWhy (Crowded ended at) a b t = is_some (closing_of t).over ≡ ended
-IsWhy Unknown a b t = ⊥
+IsWhy (Crowded ended at) a b t = (is_some (closing_of t).over ≡ ended) × (is_quiet (closing_of t).over at.nanos ≡ false)
 IsWhy (Before x) a b t = Begins true x a b t
 
 -- It is over for this reason after these segments.
@@ -123,11 +138,20 @@ pub record IsOverBy (terms : Terms) (taken : List Arrival) (cause : Cause) : Typ
   pub made : IsMadeOf terms first taken a b last
   pub why : IsWhy cause a b last
 
--- If memory ran out with a connection no reason is known.
+-- Memory ran out with one of its segments, and it is over for this reason. Nobody knows then whether it had ended: so it is never over since it ended
+-- four seconds ago, and counts as one that hadn't ended if there were too many.
+abbrev pub IsWhyLost : Cause → Type 0
+IsWhyLost Final = Unit {0}
+IsWhyLost (Ended at) = ⊥
+IsWhyLost (Crowded true at) = ⊥
+IsWhyLost (Crowded false at) = Unit {0}
+IsWhyLost (Before x) = is_opener x ≡ true
+
+-- This is why it is over. Memory ran out with a lost one when it was over, or with one of its segments.
 abbrev pub IsCause : Terms → List Arrival → Cause → Fate → Type 0
 IsCause terms taken cause (Reported r) = IsOverBy terms taken cause
 IsCause terms taken cause Silent = IsOverBy terms taken cause
-IsCause terms taken cause Lost = cause ≡ Unknown
+IsCause terms taken cause Lost = IsOverBy terms taken cause ⊎ (HasRunOut terms taken [] × IsWhyLost cause)
 
 abbrev pub IsFinished : Terms → ℕ → Finished → Type 0
 IsFinished terms from f = IsFate terms from f.number f.taken f.cause f.fate × IsCause terms f.taken f.cause f.fate
@@ -155,22 +179,41 @@ abbrev pub is_unread : Cause → Bool
 is_unread Final = false
 is_unread (Ended at) = false
 is_unread (Crowded ended at) = not ended
-is_unread Unknown = false
 is_unread (Before x) = false
 
--- how many are over since there were too many at once, though they hadn't ended, at most 2 ^ 64 - 1
+-- There were too many at once, and it had ended, less than four seconds before.
+abbrev pub is_early : Cause → Bool
+is_early Final = false
+is_early (Ended at) = false
+is_early (Crowded ended at) = ended
+is_early (Before x) = false
+
+-- It wasn't lost, and was given up for such a reason.
+abbrev pub is_given_up_as : (Cause → Bool) → Finished → Bool
+is_given_up_as such f = not (is_lost_by f.fate) && such f.cause
+
+-- how many were, at most 2 ^ 64 - 1
+abbrev pub count_given_up : (Cause → Bool) → List Finished → ℕ
+count_given_up such fs = min (length (filter (is_given_up_as such) fs)) (2 ^ 64 - 1)
+
+-- how many were given up that hadn't ended
 abbrev pub count_unread : List Finished → ℕ
-count_unread fs = min (length (filter (λ f. is_unread f.cause) fs)) (2 ^ 64 - 1)
+count_unread fs = count_given_up is_unread fs
 
--- how many weren't read to their end
+-- how many were given up that had ended, less than four seconds before
+abbrev pub count_early : List Finished → ℕ
+count_early fs = count_given_up is_early fs
+
+-- how many weren't read to their end, or were given up early
 abbrev pub losses_of : List Finished → Losses
-losses_of fs = record { memory = count_lost fs; crowd = count_unread fs }
+losses_of fs = record { memory = count_lost fs; crowd = count_unread fs; early = count_early fs }
 
--- one more that is told, and was left so
-abbrev pub with_left : Left → Losses → Losses
-with_left Open losses = losses
-with_left Unread losses = record { memory = losses.memory; crowd = min (losses.crowd + 1) (2 ^ 64 - 1) }
-with_left Replaced losses = losses
+-- one more that is told, and is over so
+abbrev pub with_over : Over → Losses → Losses
+with_over over.Open losses = losses
+with_over over.Early losses = record losses { early = min (losses.early + 1) (2 ^ 64 - 1) }
+with_over over.Unread losses = record losses { crowd = min (losses.crowd + 1) (2 ^ 64 - 1) }
+with_over over.Replaced losses = losses
 
 -- ---- their numbers
 
@@ -206,7 +249,6 @@ abbrev pub is_final : Cause → Bool
 is_final Final = true
 is_final (Ended at) = false
 is_final (Crowded ended at) = false
-is_final Unknown = false
 is_final (Before x) = false
 
 abbrev pub AreNotFinal : List Finished → Type 0
@@ -279,7 +321,6 @@ abbrev pub IsParted : Cause → List Arrival → Type 0
 IsParted Final more = more ≡ []
 IsParted (Ended at) more = All (λ x. IsEarlier at x.when.packet) more
 IsParted (Crowded ended at) more = All (λ x. IsEarlier at x.when.packet) more
-IsParted Unknown more = Unit {0}
 IsParted (Before x) [] = ⊥
 IsParted (Before x) (y ∷ more) = y ≡ x
 
@@ -321,7 +362,6 @@ abbrev pub IsTimelyBy : Clock → List Arrival → Cause → Type 0
 IsTimelyBy clock taken Final = Unit {0}
 IsTimelyBy clock taken (Ended at) = Contains clock.packets at × All (λ x. x.when.packet ≤ at.packet) taken
 IsTimelyBy clock taken (Crowded ended at) = Contains clock.packets at × All (λ x. x.when.packet ≤ at.packet) taken
-IsTimelyBy clock taken Unknown = Unit {0}
 IsTimelyBy clock taken (Before x) = Unit {0}
 
 abbrev pub IsTimely : Clock → Finished → Type 0
@@ -398,12 +438,14 @@ abbrev pub IsLeftShown : Form → (ℕ → ℕ) → List Part → Terms → (fro
 IsLeftShown form packet parts terms from taken (Some c) = IsShowing form packet parts terms from taken [] c.value
 IsLeftShown form packet parts terms from taken None = Unit {0}
 
--- The connection with this number isn't over: it took the rest of the segments between its ends, and these are its rows so far.
-pub record IsGoing (form : Form) (packet : ℕ → ℕ) (parts : List Part) (terms : Terms) (from : ℕ) (arrivals : List Arrival) (fs : List Finished) (n : ℕ)
-    : Type 0 where
+-- The connection with this number, which began at the number's place, isn't over: it took the rest of the segments between its ends, and these are its
+-- rows so far.
+pub record IsGoing (form : Form) (packet : ℕ → ℕ) (parts : List Part) (terms : Terms) (from : ℕ) (place : ℕ → ℕ) (begun : ℕ) (arrivals : List Arrival)
+    (fs : List Finished) (n : ℕ) : Type 0 where
   pub pair : Pair
   pub taken : List Arrival
   pub share : IsShared pair arrivals fs taken
+  pub began : IsBegunAt place arrivals begun n taken
   pub ran_out : Bool
   pub rows : AreRowsSoFar (heading_of form n from) terms packet parts taken [] ran_out
 
@@ -440,7 +482,6 @@ abbrev pub IsToldAt : (number : ℕ) → Cause → ℕ → Type 0
 IsToldAt number Final packet = packet ≡ number
 IsToldAt number (Ended at) packet = packet ≡ at.packet
 IsToldAt number (Crowded ended at) packet = packet ≡ at.packet
-IsToldAt number Unknown packet = Unit {0}
 IsToldAt number (Before x) packet = packet ≡ x.when.packet
 
 abbrev pub IsReportedAt : (ℕ → ℕ) → (number : ℕ) → List Part → Cause → Fate → Type 0
@@ -461,7 +502,8 @@ pub record AreToldWith (packet : ℕ → ℕ) (number : ℕ) (parts : List Part)
 pub record MayEnd (ph : Phase) (clock : Clock) (came : List Arrival) (cause : Cause) (p : Pair) (c : Connection) : Type 0 where
   pub may_be : MayBe ph cause
   pub parted : IsParted cause (coming ph p)
-  pub why : (a b : Past) → IsTalk a b c.talk → IsWhy cause a b c.talk
+  pub why : is_lost c.talk ≡ false → (a b : Past) → IsTalk a b c.talk → IsWhy cause a b c.talk
+  pub why_lost : is_lost c.talk ≡ true → IsWhyLost cause
   pub timely : IsTimelyBy clock came cause
   pub told_at : IsToldAt clock.number cause clock.number
 

@@ -1,5 +1,5 @@
 -- What was read of a capture file, and the packets that were handed out.
-use Rattle.std.specs.Prelude.{◌≡◌, ℕ, ◌+◌, ◌-◌, ◌^◌, ◌<◌, ◌⊎◌, min, List, [], ◌∷◌, ◌++◌, length, Option, Some, None, Result, Ok, Err}
+use Rattle.std.specs.Prelude.{◌≡◌, ℕ, ◌+◌, ◌-◌, ◌^◌, ◌<◌, ◌≤◌, ◌⊎◌, min, List, [], ◌∷◌, ◌++◌, length, Option, Some, None, Result, Ok, Err}
 use Rattle.bt_pcap.specs.Sizes.{need}
 use Rattle.bt_pcap.specs.Numbers.{AreBytes}
 use Rattle.bt_pcap.specs.Formats.{Format, Unknown, Captured}
@@ -43,6 +43,13 @@ pub record IsReading (all : List ℕ) (packets : List Captured) (r : Reading) : 
 -- Whatever was read and handed out before: now these bytes were read too, and these packets handed out.
 pub record GoesOn (old : Reading) (more : List ℕ) (given : List Captured) (new : Reading) : Type 0 where
   pub reads : (all : List ℕ) (packets : List Captured) → IsReading all packets old → IsReading (all ++ more) (packets ++ given) new
+
+-- Bytes were read, or packets handed out: at least one.
+pub record Advances (old new : Reading) : Type 0 where
+  pub more : List ℕ
+  pub given : List Captured
+  pub goes_on : GoesOn old more given new
+  pub some : 1 ≤ length more + length given
 
 -- More bytes are needed: none is held, or they end inside an item.
 pub record Waits (r : Reading) : Type 0 where

@@ -1,6 +1,6 @@
 -- A report on a connection says what was captured of it.
 use Rattle.std.specs.Prelude.{◌≡◌, ℕ, ◌-◌, ◌⊎◌, Bool, true, false, List, length, Option, Some, None, option_map, unwrap_or, ◌==◌, map, take, if◌then◌else◌}
-use Rattle.bt_flow.specs.Flows.{AreGapsOf, conflicts_in}
+use Rattle.bt_flow.specs.Flows.{AreGapsOf, conflicts_in, is_lost_stream}
 use Rattle.bt_intro.specs.Hellos.{IsStartOf, IsFirstHello}
 use Rattle.bt_intro.specs.Hearing.{IsSaid}
 use Rattle.bt_intro.specs.Listening.{handshake_of, last_client}
@@ -105,6 +105,8 @@ pub record IsDirectionOf (side : Side) (a b : Past) (t : Talk) (d : Direction) :
   pub gaps : Gaps
   pub gaps_are : AreGapsOf (of_side side a b).heard (of_side side a b).segs (of_side side a b).out (flow_of side t) gaps
   pub shifted : d.gaps ≡ shifted d.exchange gaps
+  -- The first gap is final, or it isn't.
+  pub final : d.is_final ≡ is_lost_stream (flow_of side t).stream
 
 abbrev pub HasStart : List ℕ → Type 0
 HasStart front = (k : ℕ) × IsFirstHello front k

@@ -1,6 +1,6 @@
 -- What was told of a capture.
 use Rattle.bt_talk.specs.declared.terms.Terms.{Terms}
-use Rattle.std.specs.Prelude.{◌≡◌, ◌⊎◌, ℕ, ◌-◌, ◌^◌, ◌<◌, ◌≤◌, ◌++◌, min, List, [], length, Option, Some, unwrap_or}
+use Rattle.std.specs.Prelude.{◌≡◌, ◌⊎◌, ℕ, ◌+◌, ◌-◌, ◌^◌, ◌<◌, ◌≤◌, ◌++◌, min, List, [], ◌∷◌, length, Option, Some, unwrap_or}
 use Rattle.std.specs.Prelude.{Result, Ok, Err, if◌then◌else◌}
 use Rattle.std.specs.List.{All, Contains}
 use Rattle.std.specs.Io.KnownBytes.{Appends, Consumes}
@@ -11,6 +11,7 @@ use Rattle.bt_capture.specs.declared.connections.Run.{Run}
 use Rattle.bt_capture.specs.declared.ending.CaptureEnd.{CaptureEnd}
 use Rattle.bt_capture.specs.declared.ending.CaptureFault.{CaptureFault}
 use Rattle.bt_capture.specs.declared.ending.CaptureJob.{CaptureJob}
+use Rattle.bt_capture.specs.declared.ending.Ending.{Ending}
 use Rattle.bt_capture.specs.declared.ending.Form.{Form}
 use Rattle.bt_capture.specs.declared.ending.CaptureFault.TheVariants.{Write, Memory, Turns}
 use Rattle.bt_capture.specs.declared.ending.Stop.{Stop}
@@ -19,8 +20,8 @@ use Rattle.bt_capture.specs.declared.pair.Pair.{Pair}
 use Rattle.bt_capture.specs.Arrivals.{Arrival, arrivals, clock_of, count_skipped, first_time}
 use Rattle.bt_capture.specs.Ends.{HasEndedSo}
 use Rattle.bt_capture.specs.Following.{AreInOrder, AreLast, AreParted, AreRowsOf, Finished, IsFinished, IsSentBy, IsShared, IsStreamOf, IsTimely}
-use Rattle.bt_capture.specs.Following.{AreParts, AreToldWith, Phase, During, IsStreamSoFar, AreNumbered, FollowsIn, between, reports_of}
-use Rattle.bt_capture.specs.Following.{IsGoing, count_lost, count_over, count_unread}
+use Rattle.bt_capture.specs.Following.{AreParts, AreToldWith, Phase, AtEnd, Coming, During, IsStreamSoFar, AreNumbered, FollowsIn, between, reports_of}
+use Rattle.bt_capture.specs.Following.{IsFirstAt, IsGoing, count_early, count_lost, count_over, count_unread}
 use Rattle.bt_capture.specs.Readings.{Reading, IsReading}
 use Rattle.bt_capture.specs.Tables.{Held}
 use Rattle.bt_utp.specs.Flows.{flows}
@@ -138,6 +139,7 @@ pub record IsEndOf (o : Origin) (after : SourceSeen) (now : TargetSeen) (end : C
   pub refused : end.is_refused ≡ is_one_refused (reports_of fs)
   pub lost : end.lost ≡ count_lost fs
   pub unread : end.unread ≡ count_unread fs
+  pub early : end.early ≡ count_early fs
   pub absent : end.absent ≡ absent_from o.form (min (length fs) (2 ^ 64 - 1))
 
 -- No connection has the number, and nothing is written. Or one has it: it has no report, or the side's stream is written, and nothing else.
@@ -149,82 +151,86 @@ IsOnlyStream o now end packets fs n side = (bytes : List ℕ) × Appends o.targe
 abbrev pub StreamsSoFar : Origin → List Captured → List Finished → List ℕ → Type 0
 StreamsSoFar o packets fs text = IsStreamSoFar o.form text o.terms (unwrap_or (first_time packets) 0) (arrivals packets) fs
 
--- There are no lines on uTP as long as a connection may be left.
-abbrev pub AreLines : Origin → List Captured → List Finished → List ℕ → Type 0
-AreLines o packets fs lines = (lines ≡ []) ⊎ (AreAllOver o packets fs × (lines ≡ utp_lines o.form packets))
+-- There are no lines on uTP as long as the capture is read, or a connection may be left.
+abbrev pub AreLines : Phase → Origin → List Captured → List Finished → List ℕ → Type 0
+AreLines During o packets fs lines = lines ≡ []
+AreLines (Coming p x) o packets fs lines = lines ≡ []
+AreLines AtEnd o packets fs lines = (lines ≡ []) ⊎ (AreAllOver o packets fs × (lines ≡ utp_lines o.form packets))
 
--- The first part of the texts of reports on connections of what was read, and of the lines on uTP after all of them, is written. If a stream is
--- told it is the first part of that.
-pub record ArePartlyWritten (o : Origin) (left : Option (List ℕ)) (now : TargetSeen) : Type 0 where
+-- The first part of the texts of reports on connections of what was read is written, and no line on uTP. If a stream is told it is the first part of
+-- that. No write failed.
+pub record ArePartlyWritten (o : Origin) (left : Option (List ℕ)) (now : TargetSeen) (r : Reading) : Type 0 where
   pub packets : List Captured
-  pub r : Reading
   pub read : HasRead o left packets r
   pub fs : List Finished
   pub over : AreOver o packets fs
   pub text : List ℕ
   pub texts_are : AreTexts o.form (reports_of fs) text
-  pub lines : List ℕ
-  pub are_lines : AreLines o packets fs lines
   pub stream : StreamsSoFar o packets fs text
-  pub front : AppendsPrefix o.target.held now.held (text ++ lines)
+  pub front : AppendsPrefix o.target.held now.held text
+  pub calm : now.failed ≡ o.target.failed
 
--- The text is made of these parts: reports on connections that are over, and rows, also of others. So many have begun, each after those of lower
--- numbers, and of those between the same ends the later ones took the segments that follow. Each part was told with a packet, in their order.
-pub record AreToldSoFar (o : Origin) (packets : List Captured) (fs : List Finished) (text : List ℕ) : Type 0 where
-  pub begun : ℕ
-  pub place : ℕ → ℕ
-  pub order : AreInOrder place (arrivals packets) begun fs
-  pub phase : Phase
-  pub parting : AreParts phase (arrivals packets) fs
+-- The text is made of these parts: reports on connections that are over, and rows, also of others. So many have begun, each at its number's place, as is
+-- said at the stream: each that isn't over began there, with a number that none that is over has, if fewer than 2 ^ 64 - 1 have begun. Of those between
+-- the same ends the later ones took the segments that follow. Each part was told with a packet, in their order.
+pub record AreToldSoFar (ph : Phase) (o : Origin) (packets : List Captured) (fs : List Finished) (text : List ℕ) : Type 0 where
+  pub stream : StreamsSoFar o packets fs text
+  pub parting : AreParts ph (arrivals packets) fs
   pub parts : List Part
   pub parts_are : ArePartsOf o.form (reports_of fs) text parts
   pub packet : ℕ → ℕ
   pub rows : All (AreRowsOf o.form packet parts o.terms (unwrap_or (first_time packets) 0)) fs
-  pub none : (n : ℕ) → begun ≤ n → n < 2 ^ 64 - 1 → rows_of n parts ≡ []
-  pub going : (n : ℕ) → n < begun → n < 2 ^ 64 - 1 → count_over n fs ≡ 0
-      → IsGoing o.form packet parts o.terms (unwrap_or (first_time packets) 0) (arrivals packets) fs n
+  pub none : (n : ℕ) → stream.begun ≤ n → n < 2 ^ 64 - 1 → rows_of n parts ≡ []
+  pub going : (n : ℕ) → n < stream.begun → n < 2 ^ 64 - 1 → count_over n fs ≡ 0
+      → IsGoing o.form packet parts o.terms (unwrap_or (first_time packets) 0) stream.place stream.begun (arrivals packets) fs n
+  pub each : stream.begun < 2 ^ 64 - 1 → (k : Pair) (x : Arrival) (rest : List Arrival) → IsShared k (arrivals packets) fs (x ∷ rest)
+      → (n : ℕ) × (n < stream.begun) × (count_over n fs ≡ 0) × IsFirstAt (arrivals packets) (stream.place n) (x ∷ rest)
   pub times : AreToldWith packet (clock_of packets).number parts fs
 
--- A write failed: the first part of the texts is written, or all of them and the first part of the lines on uTP. If a stream is told it is
--- the first part of that.
-pub record IsLeft (o : Origin) (left : Option (List ℕ)) (now : TargetSeen) : Type 0 where
+-- A write failed in this phase: the first part of the texts is written, or all of them and the first part of the lines on uTP. If a stream is
+-- told it is the first part of that.
+pub record IsLeftIn (ph : Phase) (o : Origin) (left : Option (List ℕ)) (now : TargetSeen) (r : Reading) : Type 0 where
   pub packets : List Captured
-  pub r : Reading
   pub read : HasRead o left packets r
   pub fs : List Finished
   pub over : AreOver o packets fs
   pub text : List ℕ
   pub texts_are : AreTexts o.form (reports_of fs) text
   pub lines : List ℕ
-  pub are_lines : AreLines o packets fs lines
-  pub stream : StreamsSoFar o packets fs text
+  pub are_lines : AreLines ph o packets fs lines
   pub front : AppendsPrefix o.target.held now.held (text ++ lines)
   pub failed : WriteFailed o.target now
-  pub told : AreToldSoFar o packets fs text
+  pub told : AreToldSoFar ph o packets fs text
 
-abbrev pub IsToldTo : CaptureFault → Origin → Option (List ℕ) → TargetSeen → Type 0
-IsToldTo Write o left now = IsLeft o left now
-IsToldTo Memory o left now = ArePartlyWritten o left now
-IsToldTo Turns o left now = ArePartlyWritten o left now
+-- What is told before a fault in this phase. The turns of reading are at an end only if that many bytes and packets came.
+abbrev pub IsToldIn : Phase → CaptureFault → Origin → Option (List ℕ) → TargetSeen → Reading → Type 0
+IsToldIn ph Write o left now r = IsLeftIn ph o left now r
+IsToldIn ph Memory o left now r = ArePartlyWritten o left now r
+IsToldIn ph Turns o left now r = (p : ArePartlyWritten o left now r) × (2 ^ 64 - 1 ≤ length p.read.all + length p.packets)
+
+-- The fault came as the capture was read; or after reading had ended, and this is how.
+abbrev pub IsToldTo : CaptureFault → Origin → SourceSeen → TargetSeen → Type 0
+IsToldTo f o after now = ((r : Reading) × IsToldIn During f o after.left now r)
+    ⊎ ((e : Ending) × (r : Reading) × IsToldIn AtEnd f o after.left now r × HasEndedSo e r o.source after)
 
 -- What is written are the texts of the reports on the connections of the packets that were read, with rows between them, and the lines on
 -- their packets of uTP: all of them at an end, which also says how reading ended, and else the first part.
 abbrev pub IsTold : Origin → SourceSeen → TargetSeen → Result CaptureEnd CaptureFault → Type 0
 IsTold o after now (Ok end) = IsEndOf o after now end
-IsTold o after now (Err f) = IsToldTo f o after.left now
+IsTold o after now (Err f) = IsToldTo f o after now
 
 -- ---- after a step
 
 -- After a fault no more is told.
 abbrev pub IsAfterIn : {T : Type 0} → Phase → Origin → Option (List ℕ) → TargetSeen → List (Pair × Held) → Run → Reading → Result T CaptureFault → Type 0
 IsAfterIn ph o left now es run r (Ok x) = IsTellingIn ph o left now es run r
-IsAfterIn ph o left now es run r (Err f) = IsToldTo f o left now
+IsAfterIn ph o left now es run r (Err f) = IsToldIn ph f o left now r
 
 -- What can't be read on leaves the connections as they are.
 abbrev pub AfterStop : Stop → Origin → Option (List ℕ) → TargetSeen → List (Pair × Held) → Run → Reading → Type 0
 AfterStop (File f) o left now es run r = IsTelling o left now es run r
 AfterStop Read o left now es run r = IsTelling o left now es run r
-AfterStop (Fault f) o left now es run r = IsToldTo f o left now
+AfterStop (Fault f) o left now es run r = IsToldIn During f o left now r
 
 abbrev pub IsAfter : {T : Type 0} → Origin → Option (List ℕ) → TargetSeen → List (Pair × Held) → Run → Reading → Result T Stop → Type 0
 IsAfter o left now es run r (Ok x) = IsTelling o left now es run r

@@ -12,7 +12,7 @@ ghost use Rattle.bt_capture.specs.Arrivals.{with_packet};
 ghost use Rattle.bt_utp.specs.States.{AreCounted};
 ghost use Rattle.bt_packet.specs.declared.utp.Utp.{Utp};
 ghost use Rattle.bt_capture.specs.FlowTexts.{datagrams, datagrams_in};
-ghost use Rattle.bt_capture.specs.Connections.{Begins, IsOpen};
+ghost use Rattle.bt_capture.specs.Connections.{Begins, IsOpen, is_opener};
 ghost use Rattle.bt_remarks.specs.declared.events.Side.{Side};
 ghost use Rattle.bt_talk.specs.Pasts.{Past};
 ghost use Rattle.bt_talk.specs.Rooms.{heading_by, rows_in};
@@ -23,7 +23,8 @@ ghost use Rattle.bt_capture.specs.Sending.{HasSent, IsSentOff};
 ghost use Rattle.bt_capture.specs.Rowed.{HasShown, ShowsOn, heading_of};
 ghost use Rattle.bt_capture.specs.Forms.{absent_from, handed, is_stream, showing_by, wanted_by};
 ghost use Rattle.bt_capture.specs.Bounds.{IsBounded, IsCounted};
-ghost use Rattle.bt_capture.specs.Following.{Phase, Coming, Cause, Crowded, FollowsIn, GoesIn, Follows, Goes, Finds, MayEnd, left_by, numbers, with_left};
+ghost use Rattle.bt_capture.specs.Following.{Phase, Coming, Cause, FollowsIn, GoesIn, Follows, Goes, Finds, MayEnd};
+ghost use Rattle.bt_capture.specs.Following.{given_up_by, left_in, numbers, over_for, with_over};
 ghost use Rattle.bt_capture.specs.Tellings.{TellsOn};
 ghost use Rattle.bt_capture.specs.Runs.{utp_text};
 ghost use Rattle.bt_capture.specs.Sights.{seen};
@@ -59,57 +60,104 @@ const SILENT: usize = 8_192;
 
 /// Tells whether a segment between the same ends begins another connection.
 ///
-/// It does if this one ended and four seconds without a segment have passed, or if it is another SYN.
+/// It does if this one ended and four seconds without a segment have passed, or if it is another SYN. If memory ran out with this one
+/// its state isn't known: each SYN without ACK does then, and nothing else.
 fn begins_another(talk: &Talk, segment: &Segment, when: When) -> bool
-    ensures { (a b : Past) → IsTalk a b talk.now → Begins result (arrived segment.now when) a b talk.now }
+    ensures there { is_lost talk.now ≡ false → (a b : Past) → IsTalk a b talk.now → Begins result (arrived segment.now when) a b talk.now }
+    ensures lost { is_lost talk.now ≡ true → result ≡ is_opener (arrived segment.now when) }
 {
+    if talk.is_lost() {
+        return segment.flags.syn && !segment.flags.ack;
+    }
     if talk.is_over(when.nanos) {
         return true;
     }
     talk.opens_again(segment)
 }
 
-/// Tells how a connection is left that is given up since there are too many: as any other, if it has ended.
-fn left_given_up(talk: &Talk) -> Left
-    ensures { (at : When) → result ≡ left_by (Crowded (is_some (closing_of talk.now).over) at) }
-{
-    if talk.has_ended() {
-        Left::Open
-    } else {
-        Left::Unread
+/// How a connection is over, for its report and for the counts.
+#[derive(Clone, Copy, PartialEq, Eq, Debug)]
+pub enum Over {
+    /// It had ended, or the capture did.
+    Open,
+    /// There were too many at once, and it had ended less than four seconds before.
+    Early,
+    /// There were too many at once, and it hadn't ended.
+    Unread,
+    /// Another connection began between the same ends.
+    Replaced,
+}
+
+impl Over {
+    /// Returns how the connection was left, if it hadn't ended.
+    fn left(self) -> Left
+        ensures { result ≡ left_in self }
+    {
+        match self {
+            Over::Open | Over::Early => Left::Open,
+            Over::Unread => Left::Unread,
+            Over::Replaced => Left::Replaced,
+        }
     }
 }
 
-/// How many connections weren't read to their end.
+/// Tells how a connection is over that is given up at this packet, since there are too many.
+///
+/// If memory ran out with it nobody knows whether it had ended: it counts as one that hadn't.
+fn left_given_up(talk: &Talk, when: When) -> Over
+    ensures { result ≡ over_for (given_up_by (is_lost talk.now) (closing_of talk.now).over when) }
+{
+    if talk.is_lost() {
+        return Over::Unread;
+    }
+    let in_time = talk.is_over(when.nanos);
+    if in_time {
+        Over::Open
+    } else if talk.has_ended() {
+        Over::Early
+    } else {
+        Over::Unread
+    }
+}
+
+/// How many connections weren't read to their end, or were given up early.
 #[derive(Clone, Copy, PartialEq, Eq, Debug)]
 pub struct Losses {
     /// Memory ran out with them.
     pub memory: u64,
     /// There were too many at once, and they hadn't ended.
     pub crowd: u64,
+    /// There were too many at once, and they had ended less than four seconds before.
+    pub early: u64,
 }
 
 impl Losses {
-    /// Returns these and a connection that was left so.
-    fn with(self, left: Left) -> Losses
-        ensures { result ≡ with_left left self }
+    /// Returns these and a connection that is over so.
+    fn with(self, over: Over) -> Losses
+        ensures { result ≡ with_over over self }
     {
-        match left {
-            Left::Unread => Losses {
+        match over {
+            Over::Early => Losses {
+                memory: self.memory,
+                crowd: self.crowd,
+                early: self.early.saturating_add(1),
+            },
+            Over::Unread => Losses {
                 memory: self.memory,
                 crowd: self.crowd.saturating_add(1),
+                early: self.early,
             },
-            Left::Open | Left::Replaced => self,
+            Over::Open | Over::Replaced => self,
         }
     }
 
-    /// Returns these and a connection that was left so, if it was told.
-    fn with_told(self, told: &Result<(), AllocError>, left: Left) -> Losses
-        ensures some { OnOk told.now (result ≡ with_left left self) }
+    /// Returns these and a connection that is over so, if it was told.
+    fn with_told(self, told: &Result<(), AllocError>, over: Over) -> Losses
+        ensures some { OnOk told.now (result ≡ with_over over self) }
         ensures none { OnErr told.now (result ≡ self) }
     {
         match told {
-            Ok(()) => self.with(left),
+            Ok(()) => self.with(over),
             Err(_) => self,
         }
     }
@@ -171,19 +219,20 @@ impl Run {
             lost: Losses {
                 memory: 0,
                 crowd: 0,
+                early: 0,
             },
         })
     }
 
     /// Tells of a connection that is over, if a byte of it was captured.
     ///
-    /// `left` says how the connection was left, if it hasn't ended.
+    /// `over` says how it is over.
     ///
     /// # Errors
     /// `AllocError` when out of memory. The connection isn't told then.
-    pub fn report(&mut self, mut connection: Box<Connection>, left: Left) -> Result<(), AllocError>
+    pub fn report(&mut self, mut connection: Box<Connection>, over: Over) -> Result<(), AllocError>
         ensures goes { (ph : Phase) (start now : TargetSeen) (clock : Clock) (came : List Arrival) (p : Pair) (es : List (Pair × Held)) (cause : Cause)
-            → lookup (same_pair p) es ≡ None → MayEnd ph clock came cause p connection.value → left ≡ left_by cause
+            → lookup (same_pair p) es ≡ None → MayEnd ph clock came cause p connection.value → over ≡ over_for cause
             → FollowsIn ph start now clock came ((p, connection) ∷ es) self.old → GoesIn ph start now clock came es self.new result }
         ensures sent { OnOk result ((terms : Terms) (taken : List Arrival) (side : Side) (sent : List ℕ) → connection.value.has_payload ≡ true
             → wanted_by self.old.teller.form connection.value.number ≡ Some side → HasSent side sent terms taken [] connection.value
@@ -199,7 +248,7 @@ impl Run {
         ensures skipped { self.new.skipped ≡ self.old.skipped }
     {
         if connection.is_silent() {
-            self.lost = self.lost.with(left);
+            self.lost = self.lost.with(over);
             return Ok(());
         }
         let from = self.start.unwrap_or(0);
@@ -212,10 +261,10 @@ impl Run {
                     &connection.talk,
                     connection.number,
                     from,
-                    left,
+                    over.left(),
                     &mut self.room,
                 );
-                self.lost = self.lost.with_told(&told, left);
+                self.lost = self.lost.with_told(&told, over);
                 told
             }
             Err(_) => {
@@ -226,9 +275,9 @@ impl Run {
     }
 
     /// Ends the connection that was used least recently, if there is one.
-    fn end_oldest(&mut self) -> Result<(), AllocError>
-        ensures goes { (start now : TargetSeen) (clock : Clock) (came : List Arrival) (at : When) → Contains clock.packets at → at.packet ≡ clock.number
-            → All (λ x. x.when.packet ≤ at.packet) came → Follows start now clock came self.old.table self.old
+    fn end_oldest(&mut self, when: When) -> Result<(), AllocError>
+        ensures goes { (start now : TargetSeen) (clock : Clock) (came : List Arrival) → Contains clock.packets when → when.packet ≡ clock.number
+            → All (λ x. x.when.packet ≤ when.packet) came → Follows start now clock came self.old.table self.old
             → Goes start now clock came self.new.table self.new result }
         ensures shorter { 0 < length self.old.table → length self.new.table < length self.old.table }
         ensures counted { IsCounted self.old → IsCounted self.new }
@@ -241,8 +290,8 @@ impl Run {
         match self.table.take_oldest() {
             Some((_, oldest)) => {
                 self.bytes = self.bytes.saturating_sub(oldest.size());
-                let left = left_given_up(&oldest.talk);
-                self.report(oldest, left)
+                let over = left_given_up(&oldest.talk, when);
+                self.report(oldest, over)
             }
             None => Ok(()),
         }
@@ -259,9 +308,9 @@ impl Run {
     /// Ends connections, as long as there are too many, or they take too much memory together: first the silent ones.
     ///
     /// The one that was used least recently is the first.
-    fn shrink(&mut self) -> Result<(), AllocError>
-        ensures goes { (start now : TargetSeen) (clock : Clock) (came : List Arrival) (at : When) → Contains clock.packets at → at.packet ≡ clock.number
-            → All (λ x. x.when.packet ≤ at.packet) came → Follows start now clock came self.old.table self.old
+    fn shrink(&mut self, when: When) -> Result<(), AllocError>
+        ensures goes { (start now : TargetSeen) (clock : Clock) (came : List Arrival) → Contains clock.packets when → when.packet ≡ clock.number
+            → All (λ x. x.when.packet ≤ when.packet) came → Follows start now clock came self.old.table self.old
             → Goes start now clock came self.new.table self.new result }
         ensures bounded { OnOk result (IsCounted self.old → IsBounded self.new) }
         ensures terms { self.new.terms ≡ self.old.terms }
@@ -271,7 +320,7 @@ impl Run {
         ensures skipped { self.new.skipped ≡ self.old.skipped }
     {
         'oldest: while self.is_full() && self.table.len() > 0 {
-            match self.end_oldest() {
+            match self.end_oldest(when) {
                 Ok(()) => {}
                 Err(error) => return Err(error),
             }
@@ -283,10 +332,10 @@ impl Run {
     ///
     /// # Errors
     /// `AllocError` when out of memory.
-    fn put(&mut self, pair: Pair, connection: Box<Connection>) -> Result<(), AllocError>
+    fn put(&mut self, pair: Pair, connection: Box<Connection>, when: When) -> Result<(), AllocError>
         requires { lookup (same_pair pair) self.old.table ≡ None }
-        ensures goes { (start now : TargetSeen) (clock : Clock) (came : List Arrival) (at : When) → Contains clock.packets at → at.packet ≡ clock.number
-            → All (λ x. x.when.packet ≤ at.packet) came → Follows start now clock came ((pair, connection) ∷ self.old.table) self.old
+        ensures goes { (start now : TargetSeen) (clock : Clock) (came : List Arrival) → Contains clock.packets when → when.packet ≡ clock.number
+            → All (λ x. x.when.packet ≤ when.packet) came → Follows start now clock came ((pair, connection) ∷ self.old.table) self.old
             → Goes start now clock came self.new.table self.new result }
         ensures bounded { OnOk result (IsBounded self.old → IsBounded self.new) }
         ensures terms { self.new.terms ≡ self.old.terms }
@@ -297,7 +346,7 @@ impl Run {
     {
         self.bytes = self.bytes.saturating_add(connection.size());
         match self.table.put(pair, connection) {
-            Ok(()) => self.shrink(),
+            Ok(()) => self.shrink(when),
             Err(error) => Err(error),
         }
     }
@@ -349,7 +398,7 @@ impl Run {
         if !begins_another(&connection.talk, segment, when) {
             return Ok(connection);
         }
-        match self.report(connection, Left::Replaced) {
+        match self.report(connection, Over::Replaced) {
             Ok(()) => self.begin(segment),
             Err(error) => Err(error),
         }
@@ -444,7 +493,7 @@ impl Run {
         match self.table.take_out(pair) {
             Some(connection) => {
                 self.bytes = self.bytes.saturating_sub(connection.size());
-                self.report(connection, Left::Open)
+                self.report(connection, Over::Open)
             }
             None => Ok(()),
         }
@@ -493,7 +542,7 @@ impl Run {
         match self.connection_of(pair, segment, when) {
             Ok(mut connection) => {
                 match self.give(pair, &mut connection, segment, when) {
-                    Ok(()) => self.put(pair, connection),
+                    Ok(()) => self.put(pair, connection, when),
                     Err(error) => Err(error),
                 }
             }

@@ -87,6 +87,9 @@ pub struct CaptureEnd {
     pub absent: Option<u64>,
     /// How many connections weren't read to their end, since there were too many at once. Those that had ended don't count.
     pub unread: u64,
+    /// How many connections that had ended were given up before four seconds had passed without a segment, since there were too many
+    /// at once.
+    pub early: u64,
 }
 
 /// What stops a command on a capture before all that was read is told.

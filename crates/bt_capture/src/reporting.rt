@@ -102,6 +102,7 @@ fn direction_of(talk: &Talk, side: Side) -> Direction
         exchange,
         conflicts: talk.conflicts(side),
         gaps: shifted(exchange, talk.gaps(side)),
+        is_final: talk.is_final(side),
     }
 }
 

@@ -1,11 +1,11 @@
 //! What `capture` does: from a source of a capture file to a target of the reports on its connections.
-ghost use Rattle.std.specs.Prelude.{◌≡◌, ◌<◌, ℕ, List, [], ◌∷◌, length, Option, None, Ok, OnOk, IfErr, false};
+ghost use Rattle.std.specs.Prelude.{◌≡◌, ◌<◌, ℕ, List, [], ◌∷◌, length, Option, None, Ok, OnOk, IfErr, false, true};
 ghost use Rattle.std.specs.Map.{lookup};
 ghost use Rattle.bt_io.specs.Seen.{SourceSeen, TargetSeen};
 ghost use Rattle.bt_packet.specs.declared.utp.Utp.{Utp};
 ghost use Rattle.bt_utp.specs.States.{AreCounted};
 ghost use Rattle.bt_capture.specs.Ends.{HasEndedSo, IsAllRead, IsMore, IsTurn, IsWhyHeld, ending_by};
-ghost use Rattle.bt_capture.specs.Readings.{Reading, Waits};
+ghost use Rattle.bt_capture.specs.Readings.{Reading, Advances, GoesOn, Waits};
 ghost use Rattle.bt_capture.specs.Tables.{Held, same_pair};
 ghost use Rattle.bt_capture.specs.Sees.{HasEnded, HasGone};
 ghost use Rattle.bt_capture.specs.Tellings.{IsEmpty};
@@ -16,13 +16,12 @@ ghost use Rattle.bt_capture.specs.declared.connections.Run.{Run};
 ghost use Rattle.bt_capture.specs.declared.pair.Pair.{Pair};
 
 use crate::connection::Connection;
-use crate::connections::Run;
+use crate::connections::{Over, Run};
 use crate::ending::{CaptureEnd, CaptureFault, CaptureJob, Ending, Form, Stop};
 use crate::fault::ReadFault;
 use crate::packets::{FileEnd, Packets};
 use bt_io::{Source, Target};
 use bt_jobs::output::write_out;
-use bt_told::Left;
 use std::alloc::Global;
 use std::hash::RandomState;
 
@@ -56,6 +55,8 @@ fn write_if_full<W: Target>(run: &mut Run, writer: &mut W) -> Result<(), Capture
 fn step(run: &mut Run, packets: &mut Packets) -> Result<bool, Stop>
     ensures after { (o : Origin) (left : Option (List ℕ)) (now : TargetSeen) → IsTelling o left now run.old.table run.old packets.old
         → IsAfter o left now run.new.table run.new packets.new result }
+    ensures advances { result ≡ Ok true → Advances packets.old packets.new }
+    ensures stays { result ≡ Ok false → GoesOn packets.old [] [] packets.new }
     ensures waits { result ≡ Ok false → Waits packets.new }
     ensures why { IfErr result (λ s. IsWhyHeld s packets.new) }
 {
@@ -80,6 +81,7 @@ fn read_more<R: Source, W: Target>(
     requires { length packets.old.held < 1048604 }
     ensures after { (o : Origin) → IsTelling o (R.seen reader.old).left (W.seen writer.old) run.old.table run.old packets.old
         → IsAfter o (R.seen reader.new).left (W.seen writer.new) run.new.table run.new packets.new result }
+    ensures advances { result ≡ Ok true → Advances packets.old packets.new }
     ensures more { Waits packets.old → IsMore result packets.new (R.seen reader.old) (R.seen reader.new) }
 {
     match write(run, writer) {
@@ -115,6 +117,7 @@ fn turn<R: Source, W: Target>(
 ) -> Result<Option<FileEnd>, Stop>
     ensures after { (o : Origin) → IsTelling o (R.seen reader.old).left (W.seen writer.old) run.old.table run.old packets.old
         → IsAfter o (R.seen reader.new).left (W.seen writer.new) run.new.table run.new packets.new result }
+    ensures advances { result ≡ Ok None → Advances packets.old packets.new }
     ensures turn { IsTurn result packets.new (R.seen reader.old) (R.seen reader.new) }
 {
     match step(run, packets) {
@@ -164,7 +167,7 @@ fn tell_last<W: Target>(
     ensures after { (o : Origin) (left : Option (List ℕ)) (p : Pair) (es : List (Pair × Held)) (r : Reading) → lookup (same_pair p) es ≡ None
         → IsTellingIn AtEnd o left (W.seen writer.old) ((p, connection) ∷ es) run.old r → IsAfterIn AtEnd o left (W.seen writer.new) es run.new r result }
 {
-    match run.report(connection, Left::Open) {
+    match run.report(connection, Over::Open) {
         Ok(()) => write_if_full(run, writer),
         Err(_) => Err(CaptureFault::Memory),
     }
@@ -227,6 +230,7 @@ fn end_of(run: &Run, packets: &Packets, ending: Ending) -> CaptureEnd
         ending,
         absent: run.absent(),
         unread: run.lost.crowd,
+        early: run.lost.early,
     }
 }
 
@@ -281,7 +285,7 @@ fn tell_all<R: Source, W: Target>(
 /// `keys` are those of the table of connections.
 ///
 /// # Errors
-/// `Write` if a write failed or took no byte, `Memory` when out of memory.
+/// `Write` if a write failed or took no byte, `Memory` when out of memory, `Turns` after 2^64 - 1 packets and reads.
 pub fn run_capture<R: Source, W: Target>(
     alloc: Global,
     keys: RandomState,

@@ -176,11 +176,15 @@ impl Table {
     }
 
     /// Tells whether the connection of these ends, if it has ended, is over at this time.
+    ///
+    /// If memory ran out with it nobody knows whether it has.
     pub fn is_over(&self, pair: Pair, nanos: u64) -> Option<bool>
         ensures { result ≡ Some true → IsQuiet pair nanos self.now }
     {
         match self.find(pair) {
-            Some(connection) if connection.talk.has_ended() => Some(connection.talk.is_over(nanos)),
+            Some(connection) if !connection.talk.is_lost() && connection.talk.has_ended() => {
+                Some(connection.talk.is_over(nanos))
+            }
             _ => None,
         }
     }

@@ -122,6 +122,7 @@ fn is_reported(end: &Result<CaptureEnd, CaptureFault>, text: &[u8]) -> bool {
         ending: Ending::Whole,
         absent: None,
         unread: 0,
+        early: 0,
     }) && after_report(text) == STILL
 }
 
@@ -208,6 +209,7 @@ fn a_flood(rt: HostRuntime) -> Result<(), Fail> {
         ending: Ending::Whole,
         absent: None,
         unread: 2,
+        early: 0,
     });
     let text = writer.bytes();
     let lines = count_lines(FOUR).saturating_add(16_386);

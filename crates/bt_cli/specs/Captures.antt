@@ -1,5 +1,5 @@
 -- What `capture` says at its end, and its exit status.
-use Rattle.std.specs.Prelude.{◌≡◌, ◌==◌, ◌⊎◌, ◌++◌, ℕ, Bool, true, false, List, [], codes, decimal, nat_lt, is_some, Option, Some, None, Result, Ok, Err, if◌then◌else◌}
+use Rattle.std.specs.Prelude.{◌<◌, ◌+◌, ◌≡◌, ◌==◌, ◌⊎◌, ◌++◌, ℕ, Bool, true, false, List, [], codes, decimal, nat_lt, is_some, Option, Some, None, Result, Ok, Err, if◌then◌else◌}
 use Rattle.bt_io.specs.Seen.{TargetSeen}
 use Rattle.bt_text.specs.declared.ended.ToolFault.TheVariants as fault
 use Rattle.bt_text.specs.Lines.{fault_line}
@@ -57,11 +57,16 @@ ending_line_words Failed = fault_line fault.Read
 abbrev pub ending_words : List ℕ → Ending → List ℕ
 ending_words prefix ending = (if is_stopped ending then prefix else []) ++ ending_line_words ending
 
--- connections of which there were too many at once
-abbrev pub unread_words : ℕ → List ℕ
-unread_words n =
-    if n == 0 then [] else if n == 1 then codes "capture: 1 connection was not read further: too many at once\n"
-    else (codes "capture: " ++ decimal n) ++ codes " connections were not read further: too many at once\n"
+-- the line on so many connections, if there are some
+abbrev pub so_many_words : ℕ → (one more : List ℕ) → List ℕ
+so_many_words n one more = if n == 0 then [] else codes "capture: " ++ (decimal n ++ (if n == 1 then one else more))
+
+-- connections of which there were too many at once: those that hadn't ended, and those that had, but not four seconds before
+abbrev pub crowd_words : (unread early : ℕ) → List ℕ
+crowd_words unread early =
+    so_many_words unread (codes " connection was not read further: too many at once\n") (codes " connections were not read further: too many at once\n")
+    ++ so_many_words early (codes " connection that had ended was given up early: too many at once\n")
+    (codes " connections that had ended were given up early: too many at once\n")
 
 abbrev pub nothing_words : ℕ → ℕ → List ℕ
 nothing_words packets skipped =
@@ -82,14 +87,14 @@ IsLastLine Stopped e line = line ≡ []
 IsLastLine Refused e line = line ≡ []
 IsLastLine Accepted e line = line ≡ []
 
--- The line on connections of which there were too many, if there is memory for that.
-abbrev pub IsUnreadLine : ℕ → List ℕ → Type 0
-IsUnreadLine n line = (line ≡ unread_words n) ⊎ (line ≡ fault_line fault.Memory)
+-- The lines on connections of which there were too many, if there are some; a fault if there is no memory for them.
+abbrev pub AreCrowdLines : CaptureEnd → List ℕ → Type 0
+AreCrowdLines e lines = (lines ≡ crowd_words e.unread e.early) ⊎ ((0 < e.unread + e.early) × (lines ≡ fault_line fault.Memory))
 
--- These words, and the two lines after them.
+-- These words, and the lines after them.
 abbrev pub IsEndSaidAfter : List ℕ → CaptureEnd → TargetSeen → TargetSeen → Type 0
-IsEndSaidAfter words e before after = (unread : List ℕ) × (line : List ℕ) × IsUnreadLine e.unread unread × IsLastLine (outcome_in e) e line
-    × IsSaid (words ++ (unread ++ line)) before after
+IsEndSaidAfter words e before after = (crowd : List ℕ) × (line : List ℕ) × AreCrowdLines e crowd × IsLastLine (outcome_in e) e line
+    × IsSaid (words ++ (crowd ++ line)) before after
 
 abbrev pub IsEndSaid : List ℕ → CaptureEnd → TargetSeen → TargetSeen → Type 0
 IsEndSaid prefix e before after = IsEndSaidAfter (ending_words prefix e.ending) e before after

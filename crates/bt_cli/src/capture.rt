@@ -1,11 +1,11 @@
 //! The command `capture`: what its words ask for, what it says at its end, and the exit status.
-ghost use Rattle.std.specs.Prelude.{◌≡◌, ◌++◌, ◌&&◌, ℕ, List, IfOk, OnErr, is_some, option_map, Some};
+ghost use Rattle.std.specs.Prelude.{◌≡◌, ◌++◌, ◌+◌, ◌<◌, ◌&&◌, ℕ, List, IfOk, OnErr, OnOk, is_some, option_map, Some};
 ghost use Rattle.clap.specs.Matches.{first_value, found_of};
 ghost use Rattle.bt_run.specs.Runs.{IsSaid};
 ghost use Rattle.bt_text.specs.Lines.{fault_line};
 ghost use Rattle.bt_text.specs.declared.ended.ToolFault.TheVariants as fault;
 ghost use Rattle.bt_cli.specs.Captures.{IsCaptureSaid, IsEndSaid, IsEndSaidAfter, IsLastLine, absent_words, capture_fault_status, capture_fault_words, capture_status, ending_line_words, file_words};
-ghost use Rattle.bt_cli.specs.Captures.{is_stopped, nothing_words, outcome_in, outcome_status, unread_words};
+ghost use Rattle.bt_cli.specs.Captures.{crowd_words, is_stopped, nothing_words, outcome_in, outcome_status, so_many_words};
 ghost use Rattle.bt_cli.specs.Wanted.{IsCaptureAsked, capture_pieces_in, capture_stream_in};
 
 use crate::fetch::{DEFAULT_LIMIT, is_given, number_or};
@@ -154,21 +154,42 @@ fn status_of(outcome: Outcome) -> u8
     }
 }
 
-/// Returns the line on connections of which there were too many at once, if there are some.
-fn unread_line(alloc: Global, unread: u64) -> Result<Vec<u8>, AllocError>
-    ensures { IfOk result (λ line. line.items ≡ unread_words unread) }
+/// Appends the line on so many connections, if there are some. Its end differs for one.
+#[tactic(auto, using(std::proofs::lemmas::List::append_assoc))]
+fn push_so_many(count: u64, one: &[u8], more: &[u8], text: &mut Vec<u8>) -> Result<(), AllocError>
+    ensures line { OnOk result (text.new.items ≡ text.old.items ++ so_many_words count one.now more.now) }
+    ensures some { OnErr result (0 < count) }
 {
-    let mut text = Vec::new(alloc);
-    if unread == 0 {
-        return Ok(text);
-    }
-    if unread == 1 {
-        text.extend_from_slice(b"capture: 1 connection was not read further: too many at once\n")?;
-        return Ok(text);
+    if count == 0 {
+        return Ok(());
     }
     text.extend_from_slice(b"capture: ")?;
-    push_number(unread, &mut text)?;
-    text.extend_from_slice(b" connections were not read further: too many at once\n")?;
+    push_number(count, text)?;
+    if count == 1 {
+        text.extend_from_slice(one)
+    } else {
+        text.extend_from_slice(more)
+    }
+}
+
+/// Returns the lines on connections of which there were too many at once, if there are some.
+fn crowd_lines(alloc: Global, unread: u64, early: u64) -> Result<Vec<u8>, AllocError>
+    ensures lines { IfOk result (λ lines. lines.items ≡ crowd_words unread early) }
+    ensures some { OnErr result (0 < unread + early) }
+{
+    let mut text = Vec::new(alloc);
+    push_so_many(
+        unread,
+        b" connection was not read further: too many at once\n",
+        b" connections were not read further: too many at once\n",
+        &mut text,
+    )?;
+    push_so_many(
+        early,
+        b" connection that had ended was given up early: too many at once\n",
+        b" connections that had ended were given up early: too many at once\n",
+        &mut text,
+    )?;
     Ok(text)
 }
 
@@ -268,19 +289,19 @@ fn say_last<E: Target>(
     end: &CaptureEnd,
     prefix: &[u8],
     words: &[u8],
-    unread: &[u8],
+    crowd: &[u8],
     errors: &mut E,
 )
     ensures { (line : List ℕ) × IsLastLine (outcome_in end.now) end.now line
-        × IsSaid ((prefix.now ++ words.now) ++ (unread.now ++ line)) (E.seen errors.old) (E.seen errors.new) }
+        × IsSaid ((prefix.now ++ words.now) ++ (crowd.now ++ line)) (E.seen errors.old) (E.seen errors.new) }
 {
     match last_line(alloc, end) {
-        Ok(line) => say_four(prefix, words, unread, line.as_slice(), errors),
-        Err(_) => say_four(prefix, words, unread, fault_line(ToolFault::Memory), errors),
+        Ok(line) => say_four(prefix, words, crowd, line.as_slice(), errors),
+        Err(_) => say_four(prefix, words, crowd, fault_line(ToolFault::Memory), errors),
     }
 }
 
-/// Writes these texts, which say how reading ended, and the two lines after them.
+/// Writes these texts, which say how reading ended, and the lines after them.
 fn say_after<E: Target>(
     alloc: Global,
     end: &CaptureEnd,
@@ -290,8 +311,8 @@ fn say_after<E: Target>(
 )
     ensures { IsEndSaidAfter (prefix.now ++ words.now) end.now (E.seen errors.old) (E.seen errors.new) }
 {
-    match unread_line(alloc, end.unread) {
-        Ok(line) => say_last(alloc, end, prefix, words, line.as_slice(), errors),
+    match crowd_lines(alloc, end.unread, end.early) {
+        Ok(lines) => say_last(alloc, end, prefix, words, lines.as_slice(), errors),
         Err(_) => {
             say_last(
                 alloc,

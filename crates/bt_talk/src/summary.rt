@@ -24,7 +24,7 @@ use std::mem::size_of;
 impl Talk {
     ghost use Rattle.bt_wire.specs.Streams.{Outcome};
     ghost use Rattle.bt_jobs.specs.Others.{first_of, own_of_other};
-    ghost use Rattle.bt_flow.specs.Flows.{AreGapsOf, HasHole, IsClosed, conflicts_in, high_in};
+    ghost use Rattle.bt_flow.specs.Flows.{AreGapsOf, HasHole, IsClosed, conflicts_in, high_in, is_lost_stream};
     ghost use Rattle.bt_intro.specs.Hellos.{IsStartOf};
     ghost use Rattle.bt_intro.specs.Hearing.{IsSaid};
     ghost use Rattle.bt_intro.specs.Listening.{handshake_of, last_client};
@@ -248,6 +248,13 @@ impl Talk {
         ensures { (a b : Past) → IsTalk a b self.now → let p = of_side side a b in AreGapsOf p.heard p.segs p.out (flow_of side self.now) result }
     {
         self.direction(side).flow.gaps()
+    }
+
+    /// Tells whether a side's first gap is final: a segment ended more than 15 MiB past it, so nothing more of the side is put together.
+    pub fn is_final(&self, side: Side) -> bool
+        ensures { result ≡ is_lost_stream (flow_of side self.now).stream }
+    {
+        self.direction(side).flow.is_lost()
     }
 
     /// Returns how many captured bytes of a side differed from those that came first.

@@ -45,12 +45,17 @@ sender_member (Known j) = codes "{\"name\":\"" ++ (escaped (title_text j.title) 
 abbrev pub count_member : List ℕ → ℕ → List ℕ
 count_member words n = if n == 0 then [] else words ++ decimal n
 
--- the first gap; how many there are, and how many bytes they have
-abbrev pub gap_members : Option Gap → ℕ → ℕ → List ℕ
-gap_members None count sum = []
-gap_members (Some gap) count sum =
-    codes ",\"gap\":{\"offset\":" ++ (decimal gap.place ++ (codes ",\"bytes\":" ++ (decimal gap.length ++ (codes "},\"gaps\":" ++ (decimal count
-    ++ (codes ",\"missing\":" ++ decimal sum))))))
+-- bytes of a final gap may be in the capture: too late to count
+abbrev pub final_member : Bool → List ℕ
+final_member true = codes ",\"final\":true"
+final_member false = []
+
+-- the first gap, and whether it is final; how many there are, and how many bytes they have
+abbrev pub gap_members : Option Gap → Bool → ℕ → ℕ → List ℕ
+gap_members None is_final count sum = []
+gap_members (Some gap) is_final count sum =
+    codes ",\"gap\":{\"offset\":" ++ (decimal gap.place ++ (codes ",\"bytes\":" ++ (decimal gap.length ++ (final_member is_final
+    ++ (codes "},\"gaps\":" ++ (decimal count ++ (codes ",\"missing\":" ++ decimal sum)))))))
 
 -- the sentence on a refusal that nothing limits
 abbrev pub why_member : Ended → List ℕ → Option RefusedMessage → Own → List ℕ
@@ -98,7 +103,7 @@ remarked_members r =
 abbrev pub direction_object : Side → End → Direction → Remarked → List ℕ
 direction_object side close d remarked =
     sender_member d.sender ++ (count_member (codes ",\"exchange\":") d.exchange ++ (count_member (codes ",\"conflicts\":") d.conflicts
-    ++ (gap_members d.gaps.first d.gaps.count d.gaps.sum ++ (judged_members side (is_some d.gaps.first) close d.sender
+    ++ (gap_members d.gaps.first d.is_final d.gaps.count d.gaps.sum ++ (judged_members side (is_some d.gaps.first) close d.sender
     ++ (remarked_members remarked ++ codes "}")))))
 
 -- ---- the close

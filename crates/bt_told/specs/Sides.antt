@@ -54,13 +54,19 @@ abbrev pub more_text : ℕ → ℕ → List ℕ
 more_text count sum =
     if nat_lt count 2 then [] else codes "; " ++ (decimal count ++ (codes " gaps, " ++ (decimal sum ++ codes " bytes in all")))
 
+-- Bytes of a final gap may be in the capture: too late to count.
+abbrev pub late_text : Bool → List ℕ
+late_text true = codes ", or came more than 15 MiB late"
+late_text false = []
+
 abbrev pub first_gap : Option Gap → List ℕ → List ℕ
 first_gap None more = []
 first_gap (Some gap) more =
     codes "    gap at " ++ (decimal gap.place ++ (codes ": " ++ (decimal gap.length ++ (codes " bytes aren't in the capture" ++ (more ++ codes "\n")))))
 
-abbrev pub gaps_text : Gaps → List ℕ
-gaps_text gaps = first_gap gaps.first (more_text gaps.count gaps.sum)
+-- the first gap, whether it is final, and how many there are
+abbrev pub gaps_text : Gaps → Bool → List ℕ
+gaps_text gaps is_final = first_gap gaps.first (late_text is_final ++ more_text gaps.count gaps.sum)
 
 -- ---- verdicts
 
@@ -151,4 +157,4 @@ verdicts_text side has_gap close (Known j) = judged_text side has_gap close j
 abbrev pub direction_text : Side → End → Direction → List ℕ
 direction_text side close d =
     sender_text side d.sender ++ (exchange_text d.exchange ++ (conflicts_text d.conflicts
-    ++ (gaps_text d.gaps ++ verdicts_text side (is_some d.gaps.first) close d.sender)))
+    ++ (gaps_text d.gaps d.is_final ++ verdicts_text side (is_some d.gaps.first) close d.sender)))

@@ -1,6 +1,6 @@
 //! A report as a JSON object on a line (RFC 8259).
 ghost use Rattle.std.specs.Prelude.{◌≡◌, ◌+◌, ◌≤◌, ◌++◌, OnErr, OnOk, codes, decimal, length, take, vec_len};
-ghost use Rattle.bt_told.specs.Objects.{before_member, body_members, closed_member, count_member, direction_object, gap_members, guess_member};
+ghost use Rattle.bt_told.specs.Objects.{before_member, body_members, closed_member, count_member, direction_object, final_member, gap_members, guess_member};
 ghost use Rattle.bt_told.specs.Objects.{judged_members, last_member, left_member, note_member, noted_member, receiver_object, remarked_members};
 ghost use Rattle.bt_told.specs.Objects.{report_object, sender_member, told_members, unread_member, verdict_object, why_member};
 
@@ -58,12 +58,26 @@ fn put_count<const N: usize>(words: &[u8; N], n: u64, text: &mut [u8], at: usize
     put_number(n, text, at)
 }
 
-/// Puts the first gap and how many there are, if there is one.
-fn put_gaps(gaps: &Gaps, text: &mut [u8], at: usize) -> usize
-    requires { at + 140 ≤ length text.old }
-    ensures room { (at ≤ result) × (result ≤ at + 140) }
+/// Puts whether a gap is final, if it is.
+fn put_final(is_final: bool, text: &mut [u8], at: usize) -> usize
+    requires { at + 20 ≤ length text.old }
+    ensures room { (at ≤ result) × (result ≤ at + 20) }
     ensures size { length text.new ≡ length text.old }
-    ensures text { take result text.new ≡ take at text.old ++ gap_members gaps.now.first gaps.now.count gaps.now.sum }
+    ensures text { take result text.new ≡ take at text.old ++ final_member is_final }
+{
+    if is_final {
+        put_word(b",\"final\":true", text, at)
+    } else {
+        at
+    }
+}
+
+/// Puts the first gap and how many there are, if there is one.
+fn put_gaps(gaps: &Gaps, is_final: bool, text: &mut [u8], at: usize) -> usize
+    requires { at + 160 ≤ length text.old }
+    ensures room { (at ≤ result) × (result ≤ at + 160) }
+    ensures size { length text.new ≡ length text.old }
+    ensures text { take result text.new ≡ take at text.old ++ gap_members gaps.now.first is_final gaps.now.count gaps.now.sum }
 {
     let Some(gap) = gaps.first else {
         return at;
@@ -75,8 +89,9 @@ fn put_gaps(gaps: &Gaps, text: &mut [u8], at: usize) -> usize
         text,
         at,
     );
-    let at = put_between(b"", gap.length, b"},\"gaps\":", text, at);
-    let at = put_between(b"", gaps.count, b",\"missing\":", text, at);
+    let at = put_number(gap.length, text, at);
+    let at = put_final(is_final, text, at);
+    let at = put_between(b"},\"gaps\":", gaps.count, b",\"missing\":", text, at);
     put_number(gaps.sum, text, at)
 }
 
@@ -273,7 +288,7 @@ fn put_direction(
     let at = put_sender(&direction.sender, text, at);
     let at = put_count(b",\"exchange\":", direction.exchange, text, at);
     let at = put_count(b",\"conflicts\":", direction.conflicts, text, at);
-    let at = put_gaps(&direction.gaps, text, at);
+    let at = put_gaps(&direction.gaps, direction.is_final, text, at);
     let has_gap = direction.gaps.first.is_some();
     let at = put_judged(side, has_gap, close, &direction.sender, text, at);
     let at = put_remarked(remarked, text, at);

@@ -39,8 +39,8 @@ pub(crate) fn end_of(told: &Told) -> End
 
 /// Puts what is told of a BitTorrent connection.
 fn put_told(told: &Told, text: &mut [u8], at: usize) -> usize
-    requires { at + 5800 ≤ length text.old }
-    ensures room { (at ≤ result) × (result ≤ at + 5800) }
+    requires { at + 5850 ≤ length text.old }
+    ensures room { (at ≤ result) × (result ≤ at + 5850) }
     ensures size { length text.new ≡ length text.old }
     ensures text { take result text.new ≡ take at text.old ++ told_text told.now }
 {

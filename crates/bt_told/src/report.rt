@@ -52,6 +52,8 @@ pub struct Direction {
     pub conflicts: u64,
     /// The gaps; the first one's place is an offset in the stream.
     pub gaps: Gaps,
+    /// Whether the first gap is final: a segment ended more than 15 MiB past it, so its bytes don't count, even if they come.
+    pub is_final: bool,
 }
 
 /// How a side closed.

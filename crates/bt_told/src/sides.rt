@@ -3,7 +3,7 @@ ghost use Rattle.std.specs.Prelude.{◌≡◌, ◌+◌, ◌≤◌, ◌++◌, [],
 ghost use Rattle.hex.specs.Hex.{encode_lower};
 ghost use Rattle.bt_wire.specs.Numbers.{be64};
 ghost use Rattle.bt_told.specs.Sides.{bep_text, conflicts_text, cut_note, direction_text, exchange_text, free_text, gaps_text, guess_text, judged_text};
-ghost use Rattle.bt_told.specs.Sides.{more_text, note, note_text, options_text, refusal_text, sender_text, side_text, verdict_line, verdict_text};
+ghost use Rattle.bt_told.specs.Sides.{late_text, more_text, note, note_text, options_text, refusal_text, sender_text, side_text, verdict_line, verdict_text};
 
 use crate::names::put_title;
 use crate::numbers::put_option;
@@ -114,12 +114,26 @@ fn put_more(count: u64, sum: u64, text: &mut [u8], at: usize) -> usize
     put_word(b" bytes in all", text, at)
 }
 
-/// Puts the first gap, if there is one.
-fn put_gaps(gaps: &Gaps, text: &mut [u8], at: usize) -> usize
-    requires { at + 160 ≤ length text.old }
-    ensures room { (at ≤ result) × (result ≤ at + 160) }
+/// Puts that bytes of a gap may have come too late, if it is final.
+fn put_late(is_final: bool, text: &mut [u8], at: usize) -> usize
+    requires { at + 40 ≤ length text.old }
+    ensures room { (at ≤ result) × (result ≤ at + 40) }
     ensures size { length text.new ≡ length text.old }
-    ensures text { take result text.new ≡ take at text.old ++ gaps_text gaps.now }
+    ensures text { take result text.new ≡ take at text.old ++ late_text is_final }
+{
+    if is_final {
+        put_word(b", or came more than 15 MiB late", text, at)
+    } else {
+        at
+    }
+}
+
+/// Puts the first gap, if there is one.
+fn put_gaps(gaps: &Gaps, is_final: bool, text: &mut [u8], at: usize) -> usize
+    requires { at + 200 ≤ length text.old }
+    ensures room { (at ≤ result) × (result ≤ at + 200) }
+    ensures size { length text.new ≡ length text.old }
+    ensures text { take result text.new ≡ take at text.old ++ gaps_text gaps.now is_final }
 {
     let Some(gap) = gaps.first else {
         return at;
@@ -127,6 +141,7 @@ fn put_gaps(gaps: &Gaps, text: &mut [u8], at: usize) -> usize
     let at = put_between(b"    gap at ", gap.place, b": ", text, at);
     let at = put_number(gap.length, text, at);
     let at = put_word(b" bytes aren't in the capture", text, at);
+    let at = put_late(is_final, text, at);
     let at = put_more(gaps.count, gaps.sum, text, at);
     put_word(b"\n", text, at)
 }
@@ -347,15 +362,15 @@ pub(crate) fn put_direction(
     text: &mut [u8],
     at: usize,
 ) -> usize
-    requires { at + 1370 ≤ length text.old }
-    ensures room { (at ≤ result) × (result ≤ at + 1370) }
+    requires { at + 1410 ≤ length text.old }
+    ensures room { (at ≤ result) × (result ≤ at + 1410) }
     ensures size { length text.new ≡ length text.old }
     ensures text { take result text.new ≡ take at text.old ++ direction_text side close direction.now }
 {
     let at = put_sender(side, &direction.sender, text, at);
     let at = put_exchange(direction.exchange, text, at);
     let at = put_conflicts(direction.conflicts, text, at);
-    let at = put_gaps(&direction.gaps, text, at);
+    let at = put_gaps(&direction.gaps, direction.is_final, text, at);
     let has_gap = direction.gaps.first.is_some();
     match &direction.sender {
         Sender::Unknown(_) => at,

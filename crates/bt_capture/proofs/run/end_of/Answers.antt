@@ -31,5 +31,6 @@ returns c o seen before now i empty ended added =
       refused = c.is_refused.ensures o.target before (reports_of fs) written known.tells;
       lost = ap (λ (l : Losses). l.memory) known.lost;
       unread = ap (λ (l : Losses). l.crowd) known.lost;
+      early = ap (λ (l : Losses). l.early) known.lost;
       absent = absent_by o.form run.teller.form (length fs) run.begun i.form begun _ c.absent.ensures;
     }

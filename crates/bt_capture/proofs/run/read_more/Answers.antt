@@ -1,4 +1,4 @@
-use Rattle.std.proofs.Common.{◌≡◌, ◌∙◌, ℕ, List, Ok, Err, ap, sym, subst}
+use Rattle.std.proofs.Common.{◌≡◌, ◌∙◌, ℕ, List, Ok, Err, ap, sym, subst, arith}
 use Rattle.bt_io.specs.Counts.{counted, is_end}
 use Rattle.bt_capture.specs.Following.{During}
 use Rattle.bt_capture.specs.Readings.{Waits}
@@ -7,7 +7,7 @@ use Rattle.bt_capture.specs.Runs.{IsTelling}
 use Rattle.bt_capture.specs.Tables.{Held}
 use Rattle.bt_capture.specs.declared.fault.ReadFault.{ReadFault}
 use Rattle.bt_capture.specs.declared.pair.Pair.{Pair}
-use Rattle.bt_capture.proofs.Outcomes.{read_bytes, read_kept, told_read, partly, waits_on}
+use Rattle.bt_capture.proofs.Outcomes.{advances_bytes, read_bytes, read_kept, told_read, partly, waits_on}
 use Rattle.bt_capture.proofs.run.read_more.Goals as goal
 
 pub returns-in-Ok-read-clause-after : goal.returns-in-Ok-read-clause-after
@@ -71,3 +71,8 @@ returns-in-Err-Failed-clause-more g c w =
 pub returns-in-Err-clause-after : goal.returns-in-Err-clause-after
 returns-in-Err-clause-after g c o i =
     c.in-Err.ensures.after During o (g.R.Source.seen c.args.reader.now).left c.args.run.now.table c.args.packets.now i
+
+pub returns-in-Ok-read-clause-advances : goal.returns-in-Ok-read-clause-advances
+returns-in-Ok-read-clause-advances g c e =
+    let r = c.in-Ok-read.ensures.read in
+    advances_bytes c.args.packets.now c.read.new.self r.0 (omega (arith, r.1, c.in-Ok-read.field-0-test)) r.3

@@ -1,7 +1,7 @@
 use Rattle.std.proofs.Common.{rules, ◌∙◌, [], ◌∷◌, ◌++◌}
 use Rattle.bt_pcap.specs.Steps.{captured}
 use Rattle.bt_capture.proofs.Outcomes.{read_packet, read_quiet, hands_none, hands_some, hands_fault, hands_more, hands_faulty}
-use Rattle.bt_capture.proofs.Outcomes.{told_read, next_number, given_up}
+use Rattle.bt_capture.proofs.Outcomes.{advances_packet, told_read, next_number, given_up}
 use Rattle.bt_capture.proofs.run.step.Goals as goal
 
 pub returns-in-Ok-clause-after : goal.returns-in-Ok-clause-after
@@ -46,3 +46,11 @@ returns-in-Ok-None-clause-waits c e = hands_more c.args.packets.now _ c.take.res
 
 pub returns-in-Err-clause-why : goal.returns-in-Err-clause-why
 returns-in-Err-clause-why c = hands_faulty c.args.packets.now _ c.take.result c.in-Err.fault (search rules) c.take.follows.holds-at-none.0
+
+pub returns-in-Ok-clause-advances : goal.returns-in-Ok-clause-advances
+returns-in-Ok-clause-advances c e =
+    let goes = hands_some c.args.packets.now _ c.take.result c.in-Ok-Some.packet (search rules) c.take.follows.holds-at-none.0 in
+    advances_packet c.args.packets.now _ (captured c.in-Ok-Some.packet) goes
+
+pub returns-in-Ok-None-clause-stays : goal.returns-in-Ok-None-clause-stays
+returns-in-Ok-None-clause-stays c e = hands_none c.args.packets.now _ c.take.result (search rules) c.take.follows.holds-at-none.0

@@ -1,4 +1,4 @@
-use Rattle.std.proofs.Common.{Ok, sym, subst}
+use Rattle.std.proofs.Common.{Ok, inl, sym, subst}
 use Rattle.bt_capture.specs.declared.ending.Stop.{Stop}
 use Rattle.bt_capture.specs.declared.ending.Ending.{Ending}
 use Rattle.bt_capture.specs.Ends.{HasEndedSo, IsWhy}
@@ -41,4 +41,4 @@ returns-in-Err-Fault g c o i gone =
     let run = c.read_all.new.run in
     let left = (g.R.Source.seen c.read_all.new.reader).left in
     let P : Stop → Type 0 = λ s. AfterStop s o left (g.W.Target.seen c.read_all.new.writer) run.table run c.read_all.new.packets in
-    subst P c.in-Err-Fault.field-0-is (c.in-Err-Fault.ensures.after o i)
+    inl (c.read_all.new.packets, subst P c.in-Err-Fault.field-0-is (c.in-Err-Fault.ensures.after o i))

@@ -17,7 +17,7 @@ returns-in-Ok g c = record {
         form = c.in-Ok.ensures.form ∙ i.form;
         time = c.in-Ok.ensures.start ∙ i.time;
         follows = c.in-Ok.ensures.goes AtEnd o.target now (clock_of i.packets) (arrivals i.packets) p es Final absent
-            (record { may_be = tt; parted = refl; why = λ a b t. tt; timely = tt; told_at = refl }) refl i.follows;
+            (record { may_be = tt; parted = refl; why = λ there a b t. tt; why_lost = λ gone. tt; timely = tt; told_at = refl }) refl i.follows;
         utp = subst (AreCounted (datagrams i.packets)) (sym c.in-Ok.ensures.utp) i.utp;
         skipped = c.in-Ok.ensures.skipped ∙ i.skipped;
       });
@@ -30,5 +30,5 @@ returns-in-Err g c = record {
       given_up o left now i.packets c.report.new.self r i.read (c.in-Err.ensures.terms ∙ i.terms) (c.in-Err.ensures.form ∙ i.form)
       (c.in-Err.ensures.start ∙ i.time)
       (c.in-Err.ensures.goes AtEnd o.target now (clock_of i.packets) (arrivals i.packets) p es Final absent
-      (record { may_be = tt; parted = refl; why = λ a b t. tt; timely = tt; told_at = refl }) refl i.follows);
+      (record { may_be = tt; parted = refl; why = λ there a b t. tt; why_lost = λ gone. tt; timely = tt; told_at = refl }) refl i.follows);
 }

@@ -1,6 +1,7 @@
 use Rattle.std.proofs.Common.{Bool, Ok, ap, subst}
 use Rattle.bt_capture.specs.Ends.{IsMore}
 use Rattle.bt_capture.specs.Following.{During}
+use Rattle.bt_capture.proofs.Outcomes.{advances_after}
 use Rattle.bt_capture.proofs.Seeing.{why_held}
 use Rattle.bt_capture.proofs.run.turn.Goals as goal
 
@@ -43,3 +44,9 @@ returns-in-Err-read_more-clause-turn g c =
 
 pub returns-in-Err-clause-turn : goal.returns-in-Err-clause-turn
 returns-in-Err-clause-turn g c = why_held c.in-Err.stop c.step.new.packets (g.R.Source.seen c.args.reader.now) c.in-Err.ensures.why
+
+pub returns-in-Ok-true-read_more-clause-advances : goal.returns-in-Ok-true-read_more-clause-advances
+returns-in-Ok-true-read_more-clause-advances g c e =
+    advances_after c.args.packets.now c.step.new.packets c.read_more.new.packets
+    (c.in-Ok-false.ensures.stays (ap (λ (b : Bool). Ok b) c.in-Ok-false.field-0-test))
+    (c.in-Ok-true-read_more.ensures.advances (ap (λ (b : Bool). Ok b) c.in-Ok-true-read_more.field-0-test))

@@ -11,7 +11,7 @@ returns-in-Ok g c =
     let P : List ℕ → Type 0 = λ l. IsSaid l (g.E.Target.seen c.args.errors.now) (g.E.Target.seen c.say_four.new.errors) in (
       line,
       subst (λ (l : List ℕ). IsLastLine (outcome_in e) e l) (sym c.as_slice.ensures.value) c.in-Ok.ensures.line,
-      subst P (sym (append_assoc c.args.prefix.now c.args.words.now (c.args.unread.now ++ line))) c.say_four.ensures,
+      subst P (sym (append_assoc c.args.prefix.now c.args.words.now (c.args.crowd.now ++ line))) c.say_four.ensures,
     )
 
 pub returns-in-Err : goal.returns-in-Err
@@ -21,5 +21,5 @@ returns-in-Err g c =
     let P : List ℕ → Type 0 = λ l. IsSaid l (g.E.Target.seen c.args.errors.now) (g.E.Target.seen c.say_four-in-Err.new.errors) in (
       line,
       subst (λ (l : List ℕ). IsLastLine (outcome_in e) e l) (sym c.fault_line.ensures) c.in-Err.ensures.memory,
-      subst P (sym (append_assoc c.args.prefix.now c.args.words.now (c.args.unread.now ++ line))) c.say_four-in-Err.ensures,
+      subst P (sym (append_assoc c.args.prefix.now c.args.words.now (c.args.crowd.now ++ line))) c.say_four-in-Err.ensures,
     )

@@ -5,8 +5,9 @@ pub returns-clause-text : goal.returns-clause-text
 returns-clause-text c =
     rw (
       c.put_number.ensures.text,
-      c.put_between-at-3.ensures.text,
       c.put_between-at-2.ensures.text,
+      c.put_final-at.ensures.text,
+      c.put_number-at.ensures.text,
       c.put_between-at.ensures.text,
       c.in-Some.is,
     )

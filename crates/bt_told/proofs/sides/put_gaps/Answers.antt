@@ -7,6 +7,7 @@ returns-clause-text c =
       c.in-Some.is,
       c.put_word.ensures.text,
       c.put_more-at.ensures.text,
+      c.put_late-at.ensures.text,
       c.put_word-at.ensures.text,
       c.put_number-at.ensures.text,
       c.put_between-at.ensures.text,

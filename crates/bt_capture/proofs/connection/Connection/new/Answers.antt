@@ -1,4 +1,4 @@
-use Rattle.std.proofs.Common.{false, [], ◌∷◌, refl}
+use Rattle.std.proofs.Common.{◌≡◌, ◌∙◌, false, true, [], ◌∷◌, refl, sym}
 use Rattle.bt_talk.specs.Pasts.{no_past}
 use Rattle.bt_talk.specs.Talks.{of_side}
 use Rattle.bt_capture.specs.Arrivals.{arrived}
@@ -34,6 +34,7 @@ returns-clause-open c when = record {
     };
     next = tt;
   };
+  ran_out = λ gone. absurd (let e : true ≡ false = sym gone ∙ c.new.ensures.there in cc);
 }
 
 pub returns-clause-sent : goal.returns-clause-sent

@@ -12,7 +12,7 @@ use Rattle.bt_capture.proofs.Parts.{on_ok, on_two}
 use Rattle.bt_capture.proofs.Rowing.{more_of, none_of}
 use Rattle.bt_capture.proofs.Sending.{took_or_lost, was_after, was_all}
 use Rattle.bt_capture.proofs.Shown.{has_taken, shows_taken}
-use Rattle.bt_capture.proofs.Taking.{any_more, on_there, was_there, made_more}
+use Rattle.bt_capture.proofs.Taking.{any_more, on_there, ran_out_with, was_there, made_more}
 use Rattle.bt_capture.proofs.Turns.{goes_on}
 use Rattle.bt_capture.proofs.connection.Connection.take.Goals as goal
 
@@ -30,6 +30,7 @@ returns-clause-takes c terms taken i =
           let on = goes_on c.args.segment.now c.args.when m.a m.b c.args.self.now.talk c.take-taken.new.self _ _ _ _ m.made.turns all m.made.heard in
           made_more terms taken c.args.segment.now x c.args.self.now.talk c.take-taken.new.self refl c.take-taken.ensures.ends c.take-taken.ensures.terms m
           all.took on.0 on.1;
+      ran_out = λ gone. ran_out_with terms taken x c.args.self.now i;
     }
 
 pub returns-clause-rows : goal.returns-clause-rows

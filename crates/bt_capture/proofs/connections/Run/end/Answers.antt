@@ -1,4 +1,4 @@
-use Rattle.std.proofs.Common.{◌≡◌, ◌∙◌, ◌-◌, None, refl, sym, ap, subst, List, ◌∷◌}
+use Rattle.std.proofs.Common.{◌≡◌, ◌∙◌, ◌-◌, None, true, false, refl, sym, ap, subst, List, ◌∷◌}
 use Rattle.std.specs.Map.{lookup}
 use Rattle.std.proofs.lemmas.List.Elements.{All-nil}
 use Rattle.bt_capture.specs.Arrivals.{Arrival, IsEarlier}
@@ -20,13 +20,15 @@ returns-in-Some-clause-goes c start now clock came at quiet there packet within 
     let left : List (Pair × Held) = c.take_out.new.self in
     let absent : lookup (same_pair p) left ≡ None =
     subst (λ l. lookup (same_pair p) l ≡ None) (sym c.in-Some.ensures.rest) (lookup_gone p es c.in-Some.ensures.apart) in
+    let q = quiet c.in-Some.connection (sym c.in-Some.ensures.found) in
     let out = follows_out start now came p c.in-Some.connection es left c.args.self.now (sym c.in-Some.ensures.found) c.in-Some.ensures.rest i in
     subst (λ l. Goes start now clock came l c.report.new.self c.report.result) (sym c.report.ensures.table)
     (c.report.ensures.goes During start now clock came p left (Ended at) absent
     (record {
       may_be = refl;
       parted = All-nil (λ (x : Arrival). IsEarlier at x.when.packet);
-      why = λ a b t. quiet c.in-Some.connection (sym c.in-Some.ensures.found);
+      why = λ there a b t. q.1;
+      why_lost = λ gone. absurd (let e : true ≡ false = sym gone ∙ q.0 in cc);
       timely = (there, within);
       told_at = sym packet;
     }) refl

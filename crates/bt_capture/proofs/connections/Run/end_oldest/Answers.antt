@@ -1,27 +1,27 @@
-use Rattle.std.proofs.Common.{rules, ◌≡◌, refl, sym, subst, List, [], ◌∷◌, ◌++◌, ◌∙◌, ◌+◌, ap, arith, is_some, length}
+use Rattle.std.proofs.Common.{rules, ◌≡◌, refl, sym, subst, List, [], ◌∷◌, ◌++◌, ◌∙◌, ◌+◌, ap, arith, length}
 use Rattle.std.proofs.lemmas.List.{length-append}
-use Rattle.std.proofs.lemmas.List.Elements.{All-nil}
 use Rattle.std.specs.List.Sorted.{IsPermutation}
 use Rattle.std.proofs.lemmas.List.Sorted.{IsPermutation-append_comm}
-use Rattle.bt_talk.specs.Talks.{closing_of}
-use Rattle.bt_capture.specs.Arrivals.{Arrival, IsEarlier}
-use Rattle.bt_capture.specs.Following.{Crowded, During, Follows, Goes, left_by}
+use Rattle.bt_talk.specs.Talks.{closing_of, is_lost}
+use Rattle.bt_capture.specs.Following.{Cause, During, Follows, Goes, given_up_by, over_for}
 use Rattle.bt_capture.specs.declared.connection.Connection.{Connection}
 use Rattle.bt_capture.specs.Tables.{Held, IsApart}
 use Rattle.bt_capture.specs.declared.pair.Pair.{Pair}
 use Rattle.bt_capture.proofs.Entries.{apart_moved, apart_first}
+use Rattle.bt_capture.proofs.Parting.{may_given_up}
 use Rattle.bt_capture.proofs.Reported.{follows_same}
 use Rattle.bt_capture.proofs.Steps.{follows_moved}
 use Rattle.bt_capture.proofs.connections.Run.end_oldest.Goals as goal
 
 pub returns-in-Some-clause-goes : goal.returns-in-Some-clause-goes
-returns-in-Some-clause-goes c start now clock came at there packet within i =
+returns-in-Some-clause-goes c start now clock came there packet within i =
+    let at = c.args.when in
     let es : List (Pair × Held) = c.args.self.now.table in
     let left : List (Pair × Held) = c.take_oldest.new.self in
     let e : Pair × Held = (c.in-Some.field-0-0, c.in-Some.oldest) in
-    let ended = is_some (closing_of c.in-Some.oldest.value.talk).over in
     let same_talk : c.deref-in-Some.result.now ≡ c.in-Some.oldest.value = search rules in
-    let is_left : Connection → Type 0 = λ k. c.left_given_up-left.result ≡ left_by (Crowded (is_some (closing_of k.talk).over) at) in
+    let cause : Connection → Cause = λ k. given_up_by (is_lost k.talk) (closing_of k.talk).over at in
+    let is_over : Connection → Type 0 = λ k. c.left_given_up-over.result ≡ over_for (cause k) in
     let is : es ≡ left ++ e ∷ [] = search rules in
     let apart : IsApart (left ++ e ∷ []) = subst (λ l. IsApart l) is c.take_oldest.ensures.apart in
     let move : IsPermutation (left ++ e ∷ []) (e ∷ left) = IsPermutation-append_comm left (e ∷ []) in
@@ -29,14 +29,8 @@ returns-in-Some-clause-goes c start now clock came at there packet within i =
     let was = subst (λ l. Follows start now clock came l c.args.self.now) is i in
     let same = follows_moved start now came (left ++ e ∷ []) (e ∷ left) c.args.self.now move was in
     subst (λ l. Goes start now clock came l c.report.new.self c.report.result) (sym c.report.ensures.table)
-    (c.report.ensures.goes During start now clock came e.0 left (Crowded ended at) absent
-    (record {
-      may_be = refl;
-      parted = All-nil (λ (x : Arrival). IsEarlier at x.when.packet);
-      why = λ a b t. refl;
-      timely = (there, within);
-      told_at = sym packet;
-    }) (subst is_left same_talk (c.left_given_up-left.ensures at))
+    (c.report.ensures.goes During start now clock came e.0 left (cause c.in-Some.oldest.value) absent
+    (may_given_up clock came e.0 at c.in-Some.oldest.value there packet within) (subst is_over same_talk c.left_given_up-over.ensures)
     (follows_same start now came (e ∷ left) c.args.self.now _ refl refl refl refl refl same))
 
 pub returns-in-Some-clause-shorter : goal.returns-in-Some-clause-shorter

@@ -1,8 +1,8 @@
-use Rattle.std.proofs.Common.{rules, ◌≡◌, Bool, false, true, refl, subst}
+use Rattle.std.proofs.Common.{rules, ◌≡◌, Bool, false, true, refl, subst, sym}
 use Rattle.bt_talk.specs.Pasts.{Past}
-use Rattle.bt_talk.specs.Talks.{IsTalk}
+use Rattle.bt_talk.specs.Talks.{IsTalk, is_lost}
 use Rattle.bt_capture.specs.Arrivals.{Arrival, arrived}
-use Rattle.bt_capture.specs.Connections.{Begins}
+use Rattle.bt_capture.specs.Connections.{Begins, is_opener}
 use Rattle.bt_capture.specs.Following.{Before, Coming}
 use Rattle.bt_capture.specs.declared.connection.Connection.{Connection}
 use Rattle.bt_capture.proofs.Parting.{may_before}
@@ -11,31 +11,31 @@ use Rattle.bt_capture.proofs.connections.Run.goes_on.Goals as goal
 
 -- What is known of a connection and the next segment.
 abbrev Is : Bool → Arrival → Connection → Type 0
-Is opens x c = (a b : Past) → IsTalk a b c.talk → Begins opens x a b c.talk
+Is opens x c = (is_lost c.talk ≡ false → (a b : Past) → IsTalk a b c.talk → Begins opens x a b c.talk) × (is_lost c.talk ≡ true → opens ≡ is_opener x)
 
 pub returns-in-Ok-clause-finds : goal.returns-in-Ok-clause-finds
 returns-in-Ok-clause-finds c start now clock came p es absent new packet i =
     let x = arrived c.args.segment.now c.args.when in
     let begins : c.begins_another.result ≡ true = search rules in
     let same : c.deref.result.now ≡ c.args.connection.value = search rules in
-    let is = subst (λ k. Is true x k) same (subst (λ b. Is b x c.deref.result.now) begins c.begins_another.ensures) in
+    let is = subst (λ k. Is true x k) same (subst (λ b. Is b x c.deref.result.now) begins (c.begins_another.ensures.there, c.begins_another.ensures.lost)) in
     c.begin.ensures.finds start now clock came c.args.when p es absent
-    (c.in-Ok.ensures.goes (Coming p x) start now clock came p es (Before x) absent (may_before clock came p x c.args.connection.value is packet) refl
-    (follows_coming start now came _ _ p x new i))
+    (c.in-Ok.ensures.goes (Coming p x) start now clock came p es (Before x) absent
+    (may_before clock came p x c.args.connection.value is.0 (λ gone. sym (is.1 gone)) packet) refl (follows_coming start now came _ _ p x new i))
 
 pub returns-in-Err-clause-finds : goal.returns-in-Err-clause-finds
 returns-in-Err-clause-finds c start now clock came p es absent new packet i =
     let x = arrived c.args.segment.now c.args.when in
     let begins : c.begins_another.result ≡ true = search rules in
     let same : c.deref.result.now ≡ c.args.connection.value = search rules in
-    let is = subst (λ k. Is true x k) same (subst (λ b. Is b x c.deref.result.now) begins c.begins_another.ensures) in
-    c.in-Err.ensures.goes (Coming p x) start now clock came p es (Before x) absent (may_before clock came p x c.args.connection.value is packet) refl
-    (follows_coming start now came _ _ p x new i)
+    let is = subst (λ k. Is true x k) same (subst (λ b. Is b x c.deref.result.now) begins (c.begins_another.ensures.there, c.begins_another.ensures.lost)) in
+    c.in-Err.ensures.goes (Coming p x) start now clock came p es (Before x) absent
+    (may_before clock came p x c.args.connection.value is.0 (λ gone. sym (is.1 gone)) packet) refl (follows_coming start now came _ _ p x new i)
 
 pub returns-then-not-begins_another-clause-finds : goal.returns-then-not-begins_another-clause-finds
 returns-then-not-begins_another-clause-finds c start now clock came p es absent new packet i =
     let x = arrived c.args.segment.now c.args.when in
     let belongs : c.begins_another.result ≡ false = search rules in
     let same : c.deref.result.now ≡ c.args.connection.value = search rules in
-    let is = subst (λ k. Is false x k) same (subst (λ b. Is b x c.deref.result.now) belongs c.begins_another.ensures) in
-    held start now came x p c.args.connection es c.args.self.now is absent (follows_coming start now came _ _ p x new i)
+    let is = subst (λ k. Is false x k) same (subst (λ b. Is b x c.deref.result.now) belongs (c.begins_another.ensures.there, c.begins_another.ensures.lost)) in
+    held start now came x p c.args.connection es c.args.self.now (is.0, λ gone. sym (is.1 gone)) absent (follows_coming start now came _ _ p x new i)

@@ -9,15 +9,15 @@ use Rattle.bt_capture.proofs.Steps.{follows_moved}
 use Rattle.bt_capture.proofs.connections.Run.put.Goals as goal
 
 pub returns-in-Ok-clause-goes : goal.returns-in-Ok-clause-goes
-returns-in-Ok-clause-goes c start now clock came at there packet within i =
+returns-in-Ok-clause-goes c start now clock came there packet within i =
     let e : Pair × Held = (c.args.pair, c.args.connection) in
     let es : List (Pair × Held) = c.args.self.now.table in
-    c.shrink.ensures.goes start now clock came at there packet within
+    c.shrink.ensures.goes start now clock came there packet within
     (follows_same start now came c.put.new.self c.args.self.now _ refl refl refl refl refl
     (follows_moved start now came (e ∷ es) c.put.new.self c.args.self.now c.in-Ok.ensures.put i))
 
 pub returns-in-Err-clause-goes : goal.returns-in-Err-clause-goes
-returns-in-Err-clause-goes c start now clock came at there packet within i =
+returns-in-Err-clause-goes c start now clock came there packet within i =
     let e : Pair × Held = (c.args.pair, c.args.connection) in
     let es : List (Pair × Held) = c.args.self.now.table in
     stops_of start now came (e ∷ es) _ (follows_same start now came (e ∷ es) c.args.self.now _ refl refl refl refl refl i)

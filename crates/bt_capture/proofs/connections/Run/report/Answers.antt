@@ -10,10 +10,11 @@ use Rattle.bt_talk.specs.Rows.{shown_texts}
 use Rattle.bt_talk.specs.Shown.{AreTurnRows, Turn}
 use Rattle.bt_talk.specs.Talks.{HasHeard, IsTalk, is_in_opening, is_lost, of_side}
 use Rattle.bt_talk.specs.declared.talk.Talk.{Talk}
-use Rattle.bt_capture.specs.Following.{IsEnded, with_left}
+use Rattle.bt_capture.specs.Following.{IsEnded, with_over}
 use Rattle.bt_told.specs.declared.report.Left.{Left}
 use Rattle.bt_capture.specs.declared.connection.Connection.{Connection}
 use Rattle.bt_capture.specs.declared.connections.Losses.{Losses}
+use Rattle.bt_capture.specs.declared.connections.Over.{Over}
 use Rattle.bt_capture.specs.Forms.{handed, is_stream, showing_by, wanted_by}
 use Rattle.bt_capture.specs.Rowed.{heading_of}
 use Rattle.bt_capture.specs.Shown.{HasRows}
@@ -28,14 +29,14 @@ use Rattle.bt_capture.proofs.Turns.{ShowsTurns, ends_on}
 use Rattle.bt_capture.proofs.connections.Run.report.Goals as goal
 
 pub returns-then-is_silent-clause-goes : goal.returns-then-is_silent-clause-goes
-returns-then-is_silent-clause-goes c ph start now clock came p es cause absent may left i =
+returns-then-is_silent-clause-goes c ph start now clock came p es cause absent may over i =
     let connection = c.args.connection.value in
     let both = silent_is connection.has_payload (is_lost connection.talk) (search rules) in
     silent start now came p c.args.connection es c.args.self.now _ cause may absent both.0 both.1 refl refl refl refl
-    (c.with-self.ensures ∙ ap (λ (l : Left). with_left l c.args.self.now.lost) left) i
+    (c.with-self.ensures ∙ ap (λ (o : Over). with_over o c.args.self.now.lost) over) i
 
 pub returns-in-Ok-clause-goes : goal.returns-in-Ok-clause-goes
-returns-in-Ok-clause-goes c ph start now clock came p es cause absent may left i =
+returns-in-Ok-clause-goes c ph start now clock came p es cause absent may over i =
     let silent_not : (not c.args.connection.value.has_payload && not (is_lost c.args.connection.value.talk)) ≡ false = search rules in
     let old : c.deref_mut.result.now ≡ c.args.connection.value = search rules in
     let new : c.deref-in-Ok.result.now.talk ≡ c.end_opening.new.self = search rules in
@@ -85,13 +86,16 @@ returns-in-Ok-clause-goes c ph start now clock came p es cause absent may left i
     let IsHeaded : ℕ → ℕ → Type 0 = λ n from. (rows_in room).heading ≡ heading_of form n from in
     let R : Talk → Type 0 = λ t.
     OnOk c.report-told.result ((h : P) → IsHeaded number c.unwrap_or-from.result
-    → SaysAfter c.args.self.now.teller c.report-told.new.self number c.unwrap_or-from.result c.args.left t more h.rows) in
+    → SaysAfter c.args.self.now.teller c.report-told.new.self number c.unwrap_or-from.result c.left.result t more h.rows) in
     let S : ℕ → Type 0 = λ n.
-    OnOk c.report-told.result ((h : P) → IsHeaded number n → SaysAfter c.args.self.now.teller c.report-told.new.self number n c.args.left talk more h.rows) in
+    OnOk c.report-told.result ((h : P) → IsHeaded number n → SaysAfter c.args.self.now.teller c.report-told.new.self number n c.left.result talk more h.rows) in
     let T : ℕ → Type 0 = λ n.
     OnOk c.report-told.result ((h : P) → IsHeaded n start_is
-    → SaysAfter c.args.self.now.teller c.report-told.new.self n start_is c.args.left talk more h.rows) in
-    let says = subst T same (subst S c.unwrap_or-from.ensures (subst R new c.report-told.ensures.told)) in
+    → SaysAfter c.args.self.now.teller c.report-told.new.self n start_is c.left.result talk more h.rows) in
+    let L : Left → Type 0 = λ l.
+    OnOk c.report-told.result ((h : P) → IsHeaded connection.number start_is
+    → SaysAfter c.args.self.now.teller c.report-told.new.self connection.number start_is l talk more h.rows) in
+    let says = subst L c.left.ensures (subst T same (subst S c.unwrap_or-from.ensures (subst R new c.report-told.ensures.told))) in
     let heading : (rows_in c.turn_to.new.self).heading ≡ heading_of form connection.number start_is = search rules in
     let showing_is : showing_in c.turn_to.new.self ≡ showing = ap (λ (h : Heading). h.showing) c.turn_to.ensures.heading ∙ c.showing.ensures in
     let reports = on_ok c.report-told.result (λ says a b turns before t heard sh.
@@ -106,7 +110,7 @@ returns-in-Ok-clause-goes c ph start now clock came p es cause absent may left i
     → SendsOn (is_in_opening x.talk) (of_side side a b) (is_in_opening talk) (of_side side a b) (sent_in room) in
     let sends = subst U old c.in-Ok.ensures.sent in
     let wanted : wanted_in c.turn_to.new.self ≡ wanted_by form connection.number = search rules in
-    reported c.report-told.result start now came p c.args.connection es c.args.self.now _ cause c.args.left may left absent some refl refl
+    reported c.report-told.result start now came p c.args.connection es c.args.self.now _ cause c.args.over may over absent some refl refl
     c.with_told-self.ensures.some c.with_told-self.ensures.none c.report-told.ensures.form refl
     is_there talk (λ a b turns t heard. let e = ended a b turns t heard in (e.0, e.1)) P (subst Z old shown)
     c.report-told.ensures.same more
@@ -119,9 +123,9 @@ returns-in-Ok-clause-goes c ph start now clock came p es cause absent may left i
     reports i
 
 pub returns-clause-goes : goal.returns-clause-goes
-returns-clause-goes c ph start now clock came p es cause absent may left i =
-    let with : ℕ → Losses = λ n. record { memory = n; crowd = c.args.self.now.lost.crowd } in
-    lost_one start now came p c.args.connection es c.args.self.now _ absent refl refl refl (ap with c.saturating_add-self.ensures) refl i
+returns-clause-goes c ph start now clock came p es cause absent may over i =
+    let with : ℕ → Losses = λ n. record c.args.self.now.lost { memory = n } in
+    lost_one start now came p c.args.connection es c.args.self.now _ cause may absent refl refl refl (ap with c.saturating_add-self.ensures) refl i
 
 pub returns-then-is_silent-clause-sent : goal.returns-then-is_silent-clause-sent
 returns-then-is_silent-clause-sent c terms taken side sent some =

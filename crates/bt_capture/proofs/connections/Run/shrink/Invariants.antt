@@ -1,7 +1,6 @@
 use Rattle.std.proofs.Common.{◌≡◌, ◌≤◌, List, length}
 use Rattle.std.specs.List.{All, Contains}
 use Rattle.bt_io.specs.Seen.{TargetSeen}
-use Rattle.bt_talk.specs.declared.closing.When.{When}
 use Rattle.bt_capture.specs.Arrivals.{Arrival, Clock}
 use Rattle.bt_capture.specs.Bounds.{IsCounted}
 use Rattle.bt_capture.specs.Following.{Follows}
@@ -12,8 +11,8 @@ decreases-oldest l = length l.self.table
 
 abbrev pub invariant-oldest : goal.invariant-oldest
 invariant-oldest l = record {
-  told : (start now : TargetSeen) (clock : Clock) (came : List Arrival) (at : When) → Contains clock.packets at → at.packet ≡ clock.number
-      → All (λ x. x.when.packet ≤ at.packet) came → Follows start now clock came l.initial.self.table l.initial.self
+  told : (start now : TargetSeen) (clock : Clock) (came : List Arrival) → Contains clock.packets l.when → l.when.packet ≡ clock.number
+      → All (λ x. x.when.packet ≤ l.when.packet) came → Follows start now clock came l.initial.self.table l.initial.self
       → Follows start now clock came l.self.table l.self;
   terms : l.self.terms ≡ l.initial.self.terms;
   form : l.self.teller.form ≡ l.initial.self.teller.form;

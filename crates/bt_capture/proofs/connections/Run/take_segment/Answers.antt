@@ -44,7 +44,7 @@ returns-in-Ok-give-clause-goes c start now clock came new packet within i =
     × (c.give.new.self.teller.text.items ≡ run.teller.text.items ++ (shown_texts (showing_by form) rows ++ more)) in
     let shows = subst S was (c.in-Ok-give.ensures.shown run.terms h.taken) in
     let w = c.args.when in
-    c.put.ensures.goes start now (with_packet w clock) (came ++ x ∷ []) w (Contains-push clock.packets w) packet
+    c.put.ensures.goes start now (with_packet w clock) (came ++ x ∷ []) (Contains-push clock.packets w) packet
     (All-push (λ (y : Arrival). y.when.packet ≤ w.packet) came x within (omega arith))
     (follows_later start now clock (with_packet w clock) (w ∷ []) (came ++ x ∷ []) _ _ refl (omega arith)
     (follows_table start now (came ++ x ∷ []) _ _ es _ _ (ap (λ (k : Run). k.table) rest)
