@@ -15,6 +15,7 @@ import json
 import os
 import random
 import re
+import resource
 import shutil
 import struct
 import subprocess
@@ -766,9 +767,22 @@ def late_differs(program):
     yield "" if found == wanted else "late: got %s\nexpected %s" % (found, wanted)
 
 
+def late_costs(program):
+    """Whether segments after a final gap take longer, in processor time, if 1,000 bytes of it were captured, none beside another."""
+    times = []
+    for count in (0, 1000):
+        packets = [writer.Packet("A", SYN, 7, 0, b"", 0), writer.Packet("A", ACK, 8, 0, writer.handshakes()[0][:20], 0)]
+        packets += [writer.Packet("A", ACK, 1000 + 2 * k, 0, b"x", 0) for k in range(count)]
+        link, frames = writer.frames(packets + [writer.Packet("A", ACK, 8 + 2 ** 24, 0, b"x", 0)])
+        before = resource.getrusage(resource.RUSAGE_CHILDREN).ru_utime
+        run(program, writer.pcap((link, frames + 200_000 * frames[-1:])), "-")
+        times.append(resource.getrusage(resource.RUSAGE_CHILDREN).ru_utime - before)
+    yield "" if times[1] < 3 * times[0] + 0.1 else "late: after 1,000 bytes in a final gap it takes %.2f s for %.2f" % (times[1], times[0])
+
+
 def main():
     program = sys.argv[1] if len(sys.argv) > 1 else os.path.join(ROOT, "bt_tool")
-    found = [*model_differs(program), *left_differs(program), *late_differs(program)]
+    found = [*model_differs(program), *left_differs(program), *late_differs(program), *late_costs(program)]
     if shutil.which("tshark"):
         found += tshark_differs(program)
     else:
