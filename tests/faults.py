@@ -322,15 +322,15 @@ def capturing(runner):
     reports = [b"connection " + part for part in text.split(b"connection ")[1:]]
     heads = [report.splitlines()[0] for report in reports]
     ample = (text, b"", 0)
-    # A connection for which memory runs out isn't told; the others are, or a part of them.
-    rests = [b"".join(report for at, report in enumerate(reports) if kept >> at & 1) for kept in range(1 << len(reports))]
+    # A connection for which memory runs out isn't told, and the others are, also the one that has its ports later; or a part is told.
+    rests = [b"".join(report for report in reports if report != lost) for lost in reports]
     # What is lost is said too where the file can't be read on.
     for more, broken in ((b"", b""), (bytes(8) + 8 * b"\xff", b"fault: capture: a record of a pcap file has an impossible length\n")):
         both = broken + b"fault: memory\n"
         said = []
         for number, answer, was_made in runner.in_turn(words, packets + more, "MEMORY"):
             out, errors, ended = answer
-            is_fault = any(rest.startswith(out) for rest in rests) and errors in (b"fault: memory\n", both) and ended == 3
+            is_fault = (out in rests or text.startswith(out)) and errors in (b"fault: memory\n", both) and ended == 3
             if answer != ((text, broken, 3) if broken else ample) and not (was_made and is_fault):
                 yield "capture: request %d: %r" % (number, answer)
             said.append(errors)
