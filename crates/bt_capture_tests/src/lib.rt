@@ -14,6 +14,8 @@ mod frames;
 #[cfg(test)]
 mod halves;
 #[cfg(test)]
+mod late;
+#[cfg(test)]
 mod objects;
 #[cfg(test)]
 mod remarks;

@@ -1,7 +1,7 @@
 //! Reports and rows as JSON objects. The facts are those of the lines in told.rt, and of `show --json`.
 use crate::told::{
     NO_REMARKS, bad, known, own, packets, refused_twice, report, row, sample_rows, with_a_guess,
-    with_final_gaps, with_gaps, with_remarks,
+    with_gaps, with_remarks,
 };
 use bt_feed::View;
 use bt_json::message_line;
@@ -14,7 +14,7 @@ use bt_told::{
 use bt_wire::{Handshake, MessageView, Reason, Reserved};
 use std::test::Fail;
 
-fn object_of(rt: &HostRuntime, report: &Report) -> Result<Vec<u8>, Fail> {
+pub(crate) fn object_of(rt: &HostRuntime, report: &Report) -> Result<Vec<u8>, Fail> {
     let mut out = Vec::new(rt.alloc());
     put_report_object(report, &mut out)?;
     Ok(out)
@@ -34,19 +34,6 @@ fn gaps(rt: HostRuntime) -> Result<(), Fail> {
 \"metadata_id\":3}},\"closed\":{\"side\":\"A\",\"by\":\"FIN\",\"time\":0.057000,\"a\":{\"sent\":278,\
 \"last\":{\"offset\":247,\"item\":\"metadata-request\",\"piece\":1}},\"b\":{\"sent\":25889,\"last\":{\"offset\":296,\
 \"item\":\"choke\"}}}}
-";
-    assert_eq!(rt; out.as_slice(), wanted.as_slice());
-    Ok(())
-}
-
-#[test]
-fn final_gaps(rt: HostRuntime) -> Result<(), Fail> {
-    let out = object_of(&rt, &with_final_gaps())?;
-    let wanted = b"\
-{\"connection\":0,\"a\":\"10.0.0.1:51413\",\"b\":\"10.0.0.2:6881\",\"bittorrent\":true,\
-\"from_a\":{\"sent\":0,\"gap\":{\"offset\":0,\"bytes\":1024,\"final\":true},\"gaps\":2,\"missing\":2000},\
-\"from_b\":{\"sent\":7,\"gap\":{\"offset\":7,\"bytes\":5,\"final\":true},\"gaps\":1,\"missing\":5},\
-\"closed\":{\"side\":\"A\",\"by\":\"FIN\",\"time\":0.009000}}
 ";
     assert_eq!(rt; out.as_slice(), wanted.as_slice());
     Ok(())

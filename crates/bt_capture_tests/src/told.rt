@@ -111,7 +111,7 @@ fn hello(id: &[u8; 20]) -> Last {
     })
 }
 
-fn text_of(rt: &HostRuntime, report: &Report) -> Result<Vec<u8>, Fail> {
+pub(crate) fn text_of(rt: &HostRuntime, report: &Report) -> Result<Vec<u8>, Fail> {
     let mut out = Vec::new(rt.alloc());
     put_report(report, &mut out)?;
     Ok(out)
@@ -549,43 +549,6 @@ pub(crate) fn both(a: Direction, b: Direction) -> Report {
         remarked_a: NO_REMARKS,
         remarked_b: NO_REMARKS,
     }))
-}
-
-/// A direction of which these bytes came before a gap that is final.
-fn lost(sent: u64, length: u64, count: u64, sum: u64) -> Direction {
-    Direction {
-        sender: Sender::Unknown(sent),
-        exchange: 0,
-        conflicts: 0,
-        gaps: Gaps {
-            first: Some(Gap {
-                place: sent,
-                length,
-            }),
-            count,
-            sum,
-        },
-        is_final: true,
-    }
-}
-
-/// A report in which both sides have gaps that are final.
-pub(crate) fn with_final_gaps() -> Report {
-    both(lost(0, 1024, 2, 2000), lost(7, 5, 1, 5))
-}
-
-#[test]
-fn final_gaps(rt: HostRuntime) -> Result<(), Fail> {
-    let out = text_of(&rt, &with_final_gaps())?;
-    let wanted = b"connection 0  A 10.0.0.1:51413 > B 10.0.0.2:6881
-  A sent 0 bytes and no whole handshake
-    gap at 0: 1024 bytes aren't in the capture, or came more than 15 MiB late; 2 gaps, 2000 bytes in all
-  B sent 7 bytes and no whole handshake
-    gap at 7: 5 bytes aren't in the capture, or came more than 15 MiB late
-  A closed first, by FIN, at 0.009000 s
-";
-    assert_eq!(rt; out.as_slice(), wanted.as_slice());
-    Ok(())
 }
 
 /// Each rule set refuses another message.
