@@ -6,12 +6,18 @@ usage: tests/bindings.py [LIBRARIES]
 LIBRARIES is the folder of libbt.a, libbt.so and bt.node, with bt.wasm in the folder above, or else dist/x86_64-linux. The three examples
 `show` have to print the same for the example streams, of their cuts, and of streams with changed bytes, under each rule set and in chunks of
 each size. The examples `fetch`, also in C, have to fetch from a peer that is right, from `bt_tool serve` if LIBRARIES has it, and from none
-that breaks a rule. A language whose tool isn't installed is left out, and that is said.
+that breaks a rule. JavaScript is tried over the addon, without a flag, and over WebAssembly; its lines of JSON have to be those of
+`bt_tool show --json`, and each of its examples has to print what is worked out here. A language whose tool isn't installed is left out,
+and that is said.
 """
+import hashlib
+import itertools
+import json
 import os
 import pathlib
 import random
 import shutil
+import socket
 import subprocess
 import sys
 import tempfile
@@ -21,7 +27,9 @@ ROOT = pathlib.Path(__file__).resolve().parent.parent
 LIBRARIES = pathlib.Path(sys.argv[1] if len(sys.argv) > 1 else ROOT / "dist/x86_64-linux").resolve()
 WASM, ADDON = LIBRARIES.parent / "bt.wasm", LIBRARIES / "bt.node"
 BINDINGS = ROOT / "bindings"
-NODE = ["node", "--experimental-wasm-memory64", "--no-warnings"]
+# The addon needs no flag, and WebAssembly one in Node 20 and 22.
+NODE, NODE_WASM = ["node"], ["node", "--experimental-wasm-memory64", "--no-warnings"]
+WASM_NAME = "WebAssembly"
 STREAMS = 300
 SECONDS = "2"
 
@@ -58,8 +66,10 @@ def shows(room, given):
         found["Rust"] = [room / "target/debug/examples/show"]
     if shutil.which("node") and WASM.is_file():
         for test in sorted((BINDINGS / "js/tests").glob("*.mjs")):
-            tests([*NODE, test, WASM], given)
-        found["JavaScript"] = [*NODE, BINDINGS / "js/examples/show.mjs"]
+            tests([*NODE, *(["--expose-gc"] if test.stem == "ends" else []), test], given)
+        tests([*NODE_WASM, BINDINGS / "js/tests/streams.mjs", WASM], given)
+        found["JavaScript"] = ["env", "-u", "BT_WASM", *NODE, BINDINGS / "js/examples/show.mjs"]
+        found[WASM_NAME] = [*NODE_WASM, BINDINGS / "js/examples/show.mjs"]
     for language in {"Rust", "JavaScript"} - {*found}:
         print("bindings: %s is left out, since its tool isn't installed" % language)
     return found
@@ -82,6 +92,44 @@ def fetches(commands, given):
                 sys.exit("bindings: failed: %s fetches from a peer with '%s': %s" % (language, broken, done.stderr.decode()[-2000:]))
             count += 1
     return count
+
+
+# What the C example says of a peer that breaks a rule; offsets are those of the peer's stream: 68 bytes of a handshake, of which the
+# info hash begins at 28, then an extended handshake: 4 bytes of length, 2 of ids, and its dictionary, of 47 bytes if it is whole.
+TOLD_BY_C = {
+    "it closes at once": "the peer closed the connection", "it closes in a block": "the peer closed the connection",
+    "no BitTorrent": "message 0 refused at byte 0: BadProtocol", "another info hash": "message 0 refused at byte 28: WrongInfoHash",
+    "no bencoding": "message 1 refused at byte 93: BadBencode", "a false length": "message 2 refused at byte 121: TooLong",
+    "no extensions": "the peer has no metadata, or rejected a block of it", "it rejects": "the peer has no metadata, or rejected a block of it",
+    "a huge size": "the peer announced metadata of 1099511627776 bytes, not of 1 to 67108864",
+    "a size of 0": "the peer announced metadata of 0 bytes, not of 1 to 67108864", "another metadata": "the peer sent other metadata",
+    "no answer": "the peer didn't give the metadata in time", "no extended handshake": "the peer didn't give the metadata in time",
+    "another id": "the peer didn't give the metadata in time",
+}
+
+
+def says(program, words, status, wanted):
+    """Fails if the C example doesn't end with this status within ten seconds, or doesn't say this."""
+    done = subprocess.run([program, *words], capture_output=True, timeout=10)
+    if (done.returncode, done.stdout) != (status, b"") or wanted not in done.stderr.decode():
+        sys.exit("bindings: failed: C says %r, status %d, and not %r" % (done.stderr, done.returncode, wanted))
+
+
+def told_by_c(program):
+    """How many failures the C example tells apart, each with its text, and within its time."""
+    import ends
+    digits = ends.INFO_HASH.hex()
+    for broken, wanted in TOLD_BY_C.items():
+        with ends.Peer(broken) as address:
+            says(program, [digits, *address.split(":"), "1" if "in time" in wanted else "9"], 1, "fetch: %s\n" % wanted)
+    with socket.create_server(("127.0.0.1", 0)) as listener:
+        port = str(listener.getsockname()[1])
+    says(program, [digits, "127.0.0.1", port], 1, "fetch: 127.0.0.1 port %s isn't reached: Connection refused\n" % port)
+    says(program, [digits, "127.0.0.1", "no-such-service"], 1, "fetch: 127.0.0.1 port no-such-service: ")
+    for words in ([digits, "127.0.0.1"], [digits[1:], "127.0.0.1", port], ["+" + digits[1:], "127.0.0.1", port],
+                  *([digits, "127.0.0.1", port, seconds] for seconds in ("0", "86401", "x", "1x", ""))):
+        says(program, words, 2, "usage: fetch INFO-HASH HOST PORT [SECONDS] >METADATA\n")
+    return len(TOLD_BY_C) + 2
 
 
 def real(room, commands, given):
@@ -129,6 +177,40 @@ def served(room, commands, given):
         server.kill()
         server.communicate()
     return len(commands)
+
+
+def as_the_program(given):
+    """How many lists of peers Python and `bt_tool fetch` treat alike: which blocks they ask each peer for, and what they get."""
+    import many
+    tool, server, count = LIBRARIES / "bt_tool", many.Server, 0
+    if not tool.is_file():
+        return 0
+    longer = many.METADATA + bytes(20000)
+    for made in (lambda: [server(blocks=[0, 1]), server()], lambda: [server("another metadata", blocks=[0]), server()],
+                 lambda: [server(metadata=longer, blocks=[0]), server()], lambda: [server(blocks=[]), server("no bencoding"), server("it rejects")],
+                 lambda: [server("no answer"), server("another metadata"), server()]):
+        def fetched(call):
+            servers = made()
+            stack, addresses = many.served(*servers)
+            with stack:
+                found = call(addresses)
+            return found, [(it.count, sorted(it.asked)) for it in servers]
+
+        def by_python(addresses):
+            try:
+                return many.bt.fetch(None, many.INFO_HASH, peers=addresses, at_once=1)
+            except many.bt.FetchError:
+                return b""
+        words = [tool, "fetch", "--at-once", "1", many.INFO_HASH.hex()]
+        wanted, got = fetched(lambda them: subprocess.run([*words, *them], env=given, capture_output=True, timeout=60).stdout), fetched(by_python)
+        if wanted != got:
+            sys.exit("bindings: failed: Python fetches from several peers %r, and bt_tool %r" % (got[1], wanted[1]))
+        count += 1
+    return count
+
+
+def example_streams():
+    return [it.read_bytes() for it in sorted((ROOT / "examples").glob("*.bin"))]
 
 
 def changed(chosen, examples):
@@ -179,6 +261,124 @@ def alike(commands, paths, options, what):
     return len(paths)
 
 
+def each_kind():
+    """Streams with each kind of item, and extended handshakes with each kind of client's name."""
+    import ends
+    bt = ends.bt
+    hello = bt.handshake(ends.INFO_HASH, b"-XX\"\\\n\x7f\xc3\xa9 0123456789", 2 ** 64 - 1)
+    messages = ["", "00", "01", "02", "03", "04 ffffffff", "06 00000001 00000002 00000003", "07 00000001 00000002 6162", "07 00000001 00000002",
+                "08 00000001 00000002 ffffffff", "09 ffff", "0d 00000007", "10 00000007 00000000 00004000", "11 00000000", "63 6162", "ff",
+                "14 05", "14 63 6162", "14 09 00000011"]
+    for first in ("0e", "0f", "05 ff00"):
+        yield hello + b"".join(len(it).to_bytes(4, "big") + it for it in map(bytes.fromhex, [first, *messages]))
+    yield bt.handshake(ends.INFO_HASH, b"\xff" * 20, 0)
+    for dictionary in (b"de", b"d1:v3:\xc3\xa9xe", b"d1:v2:\xff\xfee", b"d1:vi7ee", b"d1:v0:e", b"d1:v1:a1:v1:be", b"d1:vle1:v1:be",
+                       b"d1:v9:\"\\/\n\r\t\b\f\x01e", b"d1:md11:ut_metadatai256e11:ut_metadatai7ee13:metadata_sizei-1ee",
+                       b"d1:md11:ut_metadatai0ee13:metadata_sizei9223372036854775807e1:v12:\xf0\x9f\x98\x80\xe2\x80\xa8\xed\x9f\xbf\x7f!e"):
+        for rest in (b"", b"rest"):
+            yield hello + (len(dictionary + rest) + 2).to_bytes(4, "big") + b"\x14\x00" + dictionary + rest
+    for dictionary in (b"d8:msg_typei0e5:piecei7ee", b"d8:msg_typei1e5:piecei7e10:total_sizei200000ee", b"d8:msg_typei2e5:piecei4294967295ee",
+                       b"d8:msg_typei3e5:piecei1ee", b"d8:msg_typei3ee", b"d8:msg_typei0ee", b"de"):
+        for rest in (b"", b"rest"):
+            yield hello + (len(dictionary + rest) + 2).to_bytes(4, "big") + b"\x14\x03" + dictionary + rest
+
+
+def as_json(room, chosen, examples):
+    """How many streams have the objects that `bt_tool show --json` prints, if that is beside the libraries."""
+    import ends
+    bt, tool = ends.bt, LIBRARIES / "bt_tool"
+    if not tool.is_file():
+        print("bindings: nothing is compared with `show --json`, since bt_tool isn't beside the libraries")
+        return 0
+    named, count = set(), 0
+    for path in kept(room, "json", [*each_kind(), *changed(chosen, examples)]):
+        metadata_id, donthave_id, rules = chosen.choice([3, 3, 2, 0]), chosen.choice([9, 9, 0]), chosen.choice(["free", "free", "bep"])
+        words = [tool, "show", "--json", "--metadata-id", str(metadata_id), "--donthave-id", str(donthave_id), "--rules", rules, path]
+        *wanted, verdict, _ = subprocess.run(words, capture_output=True).stdout.decode().split("\n")
+        own, got = bt.Own(metadata_id=metadata_id, donthave_id=donthave_id, strict=rules == "bep"), []
+        try:
+            for item in bt.read(path.read_bytes(), own):
+                got.append(json.dumps(item.as_json(), separators=(",", ":"), ensure_ascii=False))
+                named.add(item.name)
+        except bt.Refused:
+            pass
+        count += 1
+        if [list(json.loads(it).items()) for it in wanted] != [list(json.loads(it).items()) for it in got]:
+            other = next((pair for pair in zip(wanted, got) if pair[0] != pair[1]), verdict)
+            sys.exit("bindings: failed: as_json and `show --json` differ by %s, on %s" % (other, path.read_bytes()[:400].hex()))
+    missing = {bt.Id(it).name.lower().replace("_", "-") for it in bt.Id if it != bt.EXTENDED} - named
+    missing |= {it.name.lower().replace("_", "-") for it in bt.Kind if it != bt.EXT_RAW} - named
+    if missing or not {"unknown", "extended"} <= named:
+        sys.exit("bindings: failed: no item is compared with `show --json` of %s" % (missing or "unknown, extended"))
+    return count
+
+
+# The options of `show --json`, and those of the example `json` for the same.
+OBJECTS = (([], {}), (["--rules", "bep", "--pieces", "38", "--donthave-id", "77"], {"RULES": "bep", "PIECES": "38", "DONTHAVE_ID": "77"}),
+           (["--limit", "300"], {"LIMIT": "300"}))
+
+
+def objects(room, given):
+    """How many streams JavaScript shows as `bt_tool show --json` does, if that is beside the libraries."""
+    tool = LIBRARIES / "bt_tool"
+    if not shutil.which("node") or not tool.is_file():
+        print("bindings: no JSON is compared, since node isn't installed or bt_tool isn't beside the libraries")
+        return 0
+    sys.path.insert(0, str(ROOT / "tests"))
+    import json_lines
+    examples = [it.read_bytes() for it in sorted((ROOT / "examples").glob("*.bin"))]
+    streams = [data for _, data, _ in json_lines.ROWS] + list(itertools.islice(changed(random.Random(44), examples), 60))
+    large = json_lines.hand(json_lines.PEER) + b"".join(json_lines.extended(0, b"d13:metadata_sizei%dee" % size)
+                                                        for size in (0, 2 ** 53 - 1, 2 ** 53, 2 ** 53 + 1, 2 ** 63 - 1))
+    paths = kept(room, "json", [*streams, large])
+    for words, more in OBJECTS:
+        said = subprocess.run([*NODE, BINDINGS / "js/examples/json.mjs", *paths], env={**given, **more}, capture_output=True)
+        wanted = b"".join(subprocess.run([tool, "show", "--json", *words, path], capture_output=True).stdout for path in paths)
+        if said.stdout != wanted or said.stderr:
+            pairs = zip(said.stdout.decode().split("\n"), wanted.decode().split("\n"))
+            other = next((pair for pair in pairs if pair[0] != pair[1]), "lines")
+            sys.exit("bindings: failed: JavaScript and show --json %s differ by %s %s" % (words, other, said.stderr.decode()[-2000:]))
+    return len(paths) * len(OBJECTS)
+
+
+# What the examples of JavaScript print of examples/serving.bin, of which docs/RULES.md and examples/README.md tell what is in it. The answer
+# is a handshake of 68 bytes, a dictionary d1:md11:ut_metadatai3eee of 24 after 6 bytes, have-none, d8:msg_typei0e5:piecei0ee of 25 after 6
+# under the peer's id 2, interested, and a request.
+READ = ["handshake af5a3b2ac0bec218a9f53f021946bfee0f069177", "ext-handshake ", "have-all ", "unchoke ", "choke ", "metadata-data ", "metadata-data "]
+REFUSED = [*READ[:5], "message 5 breaks a rule at byte 400: EndInside"]
+WRITTEN = ["98 have-none", "103 metadata-request 0", "134 interested", "139 request 0 0 16384", "ok messages=5 bytes=156"]
+SERVED = bytes(40000)
+
+
+def examples_in_javascript(room, given):
+    """How many of JavaScript's examples printed what they have to: those that read, that write, and that have an end."""
+    if not shutil.which("node"):
+        return 0
+    place, stream = BINDINGS / "js/examples", (ROOT / "examples/serving.bin").read_bytes()
+
+    def lines(words, text):
+        return passes([*map(str, words)], given, input=text).decode().split("\n")[:-1]
+
+    for text, wanted in ((stream, READ), (stream[:400], REFUSED)):
+        if lines([*NODE, place / "read.mjs"], text) != wanted:
+            sys.exit("bindings: failed: examples/read.mjs prints %s" % lines([*NODE, place / "read.mjs"], text))
+    answer = passes([*NODE, str(place / "write.mjs")], given, input=stream)
+    if (LIBRARIES / "bt_tool").is_file() and lines([LIBRARIES / "bt_tool", "show", "--metadata-id", "2"], answer)[2:] != WRITTEN:
+        sys.exit("bindings: failed: examples/write.mjs writes %r" % answer)
+    (room / "info").write_bytes(SERVED)
+    server = subprocess.Popen([*NODE, place / "serve.mjs", room / "info"], env=given, stdout=subprocess.PIPE, stderr=subprocess.DEVNULL)
+    try:
+        digits, address = server.stdout.readline().decode().split()
+        for _ in range(2):
+            done = subprocess.run([*NODE, place / "fetch.mjs", digits, address], env=given, capture_output=True, timeout=60)
+            if (digits, done.stdout) != (hashlib.sha1(SERVED).hexdigest(), SERVED):
+                sys.exit("bindings: failed: examples/fetch.mjs from serve.mjs: %s" % done.stderr.decode())
+    finally:
+        server.kill()
+        server.communicate()
+    return 4
+
+
 def kept(room, name, streams):
     paths = []
     for number, stream in enumerate(streams):
@@ -191,8 +391,7 @@ def compare(room, commands, given):
     """How many streams the languages show alike, and of how many their ends hear the same."""
     import ends
     chosen, shown = random.Random(43), 0
-    examples = [it.read_bytes() for it in sorted((ROOT / "examples").glob("*.bin"))]
-    every = kept(room, "shown", changed(chosen, examples))
+    every = kept(room, "shown", changed(chosen, example_streams()))
     for size, rules, pieces in ((1, "free", None), (65536, "bep", None), (1000, "bep", "38"), (7, "free", "3")):
         paths = [it for it in every if size > 7 or it.stat().st_size < 2000]
         options = {**given, "PIECE": str(size), "RULES": rules, **({"PIECES": pieces} if pieces else {})}
@@ -204,8 +403,9 @@ def compare(room, commands, given):
 
 
 def others(commands, name):
-    """The commands of another example, in the languages that have it."""
-    found = {language: [*words[:-1], pathlib.Path(str(words[-1]).replace("show", name))] for language, words in commands.items()}
+    """The commands of another example, in the languages that have it. An end isn't there in WebAssembly."""
+    found = {language: [*words[:-1], pathlib.Path(str(words[-1]).replace("show", name))] for language, words in commands.items()
+             if language != WASM_NAME}
     return {language: words for language, words in found.items() if words[-1].is_file()}
 
 
@@ -222,8 +422,13 @@ def main():
             fetchers["C"] = [room / "fetch"]
             passes(["cc", "-D_GNU_SOURCE", "-I", ROOT / "crates/bt_c", ROOT / "crates/bt_c/examples/fetch.c", LIBRARIES / "libbt.a",
                     "-o", room / "fetch"], given)
+            print("bindings: C tells %d failures" % told_by_c(room / "fetch"))
+        print("bindings: %d streams with the objects of `show --json`" % as_json(room, random.Random(44), example_streams()))
+        print("bindings: %d lists of peers treated as by bt_tool fetch" % as_the_program(given))
         fetched = fetches(fetchers, given) + served(room, fetchers, given) + real(room, fetchers, given)
-    print("bindings: ok: %s, %d streams shown alike, %d heard alike, %d fetches" % (", ".join(commands), shown, heard, fetched))
+        lines, tried = objects(room, given), examples_in_javascript(room, given)
+    print("bindings: ok: %s, %d streams shown alike, %d heard alike, %d fetches, %d streams in JSON, %d examples"
+          % (", ".join(commands), shown, heard, fetched, lines, tried))
 
 
 if __name__ == "__main__":

@@ -509,6 +509,19 @@ def stream_differences(program, paths, row):
         yield difference(name, given, done, done.stdout, (b"", errors if b"fault" in errors else b"no connection 9", 3))
 
 
+# What a report says of a connection of which only a part was read.
+PARTIAL = re.compile(r"^    gap at |^  [AB] sent [1-9]\d* bytes and no whole handshake$|not read further", re.M)
+
+
+def strict_difference(program, paths, row):
+    """What is wrong with a run under --strict-status: its status is 4 in place of 0 if the report says that only a part was read."""
+    name, words, _, out, errors, status = row
+    given = [*words, "--strict-status", "CAPTURE"]
+    done = run(program, paths, given)
+    strict = 4 if status == 0 and PARTIAL.search(out) else status
+    return difference(name, given, done, done.stdout.decode(), (out, errors, strict))
+
+
 def differences(program, folder):
     """What is wrong with each run; an empty text is right."""
     paths = {"TORRENT": keep(folder, "a.torrent", made.TORRENT), "CAPTURE": os.path.join(folder, "capture")}
@@ -517,6 +530,7 @@ def differences(program, folder):
         keep(folder, "capture", capture)
         yield from report_differences(program, paths, row)
         yield from stream_differences(program, paths, row)
+        yield strict_difference(program, paths, row)
         if status < 2:
             is_same = judged.is_said_again(program, streams_in(capture), out)
             yield "" if is_same else name + ": check gives other verdicts with these options"

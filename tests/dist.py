@@ -351,7 +351,7 @@ def in_javascript(at):
             return
     imports = passes([*node, "-p", "WebAssembly.Module.imports(%s).length" % module], at)
     assert imports == b"0\n", "bt.wasm wants imports"
-    reads_all(at, [*node, "bindings/js/examples/show.mjs"], at)
+    reads_all(at, [*node, "bindings/js/examples/show.mjs"], at, {"BT_WASM": "dist/bt.wasm"})
 
 
 def in_node(at):
@@ -367,6 +367,7 @@ def in_node(at):
     if which("node"):
         code = "import { End } from './bindings/js/end.mjs'; console.log(new End({ infoHash: new Uint8Array(20) }).take().length)"
         assert passes([shutil.which("node"), "--input-type=module", "-e", code], at) == b"68\n"
+        reads_all(at, [shutil.which("node"), "bindings/js/examples/show.mjs"], at)
 
 
 def addon_again(at):
@@ -420,6 +421,111 @@ def installed(at):
         assert not (room / "home/.local/bin").exists()
 
 
+def odd_prefixes(at):
+    """A prefix with characters that mean something to `sed` or to the shell."""
+    with tempfile.TemporaryDirectory() as name:
+        room = pathlib.Path(name)
+        for part in ("R&D", "a|b", "a\\1b", "it's $HOME; `x` \"q\" *"):
+            prefix = room / part
+            said = passes(["tools/install", prefix], at).decode()
+            assert "installed under %s; " % prefix in said, said
+            described = (prefix / "lib/pkgconfig/bt.pc").read_text().splitlines()
+            assert described[:3] == ["prefix=%s" % prefix, "libdir=${prefix}/lib", "includedir=${prefix}/include"], described
+            assert described[3:] == (at / "dist/x86_64-linux/bt.pc").read_text().splitlines()[3:], described
+            passes(["tools/install", "--uninstall", prefix], at)
+            assert everything(prefix) == [], everything(prefix)
+
+
+def modes(at):
+    """Everybody can read what is installed, whatever the umask, and run the program."""
+    with tempfile.TemporaryDirectory() as name:
+        prefix = pathlib.Path(name) / "here"
+        for mask in ("077", "000", "027"):
+            passes(["sh", "-c", "umask %s && tools/install \"$1\"" % mask, "sh", prefix], at)
+            found = {it: it.lstat().st_mode & 0o7777 for it in [prefix, *prefix.rglob("*")] if not it.is_symlink()}
+            runs = {it for it in found if it.is_dir() or it.name in ("bt_tool", "libbt.so.2") and it.parent.name in ("bin", "lib")}
+            wrong = [(it.name, oct(mode)) for it, mode in found.items() if mode != (0o755 if it in runs else 0o644)]
+            assert len(runs) > 10 and not wrong, (mask, wrong)
+            passes(["tools/install", "--uninstall", prefix], at)
+            prefix.rmdir()
+
+
+# Takes the place of a program of the system: for the man page it writes half of a file and fails, and else it runs that program.
+BROKEN = """#!/bin/sh
+for last; do :; done
+case $last in
+*share/man/man1*) %s ;;
+esac
+exec /usr/bin/%s "$@"
+"""
+NO_ROOM = "head -c 100 \"$1\" >\"$last\"; echo 'No space left on device' >&2; exit 1"
+
+
+def fails_midway(at):
+    """If a step fails, it says which, each name has its old or its new file, and all can be installed again or removed."""
+    steps = [("cp", NO_ROOM), ("cp", "kill $PPID; sleep 1; exit 1"), ("mv", "echo 'Input/output error' >&2; exit 1"), ("chmod", "exit 1"),
+             ("mkdir", "exit 1"), (None, None)]
+    with tempfile.TemporaryDirectory() as name:
+        passes(["tools/install", name], at)
+        new = contents(pathlib.Path(name))
+    new.pop("share/bt_tool/files"), new.pop("lib/pkgconfig/bt.pc")
+    for tool, does in steps:
+        for is_first in (True, False):
+            with tempfile.TemporaryDirectory() as name:
+                half_installed(at, pathlib.Path(name), new, tool, does, is_first)
+
+
+def half_installed(at, room, new, tool, does, is_first):
+    prefix, tools = room / "here", room / "tools"
+    for folder in (prefix, tools):
+        folder.mkdir()
+    old = {} if is_first else older(at, prefix)
+    if tool:
+        (tools / tool).write_text(BROKEN % (does, tool))
+        (tools / tool).chmod(0o755)
+    blocks = prefix / "share/man/man1/bt_tool.1"
+    if tool is None:
+        blocks.unlink(missing_ok=True)
+        blocks.mkdir(parents=True)
+    if tool == "mkdir" and not is_first:
+        shutil.rmtree(prefix / "share/man")
+        old.pop("share/man/man1/bt_tool.1")
+    done = run(["tools/install", prefix], at, environment={"PATH": "%s:%s" % (tools, CLEAN["PATH"])})
+    what = "%s, %s: %r" % (tool, "the first time" if is_first else "again", done)
+    assert done.returncode not in (0, 2) and done.returncode < 125 and b"installed under" not in done.stdout, what
+    assert does and "kill" in does or b"install: " in done.stderr and b"share/man/man1" in done.stderr, what
+    found = contents(prefix)
+    for path, content in found.items():
+        if path not in ("share/bt_tool/files", "lib/pkgconfig/bt.pc"):
+            assert content in (old.get(path), new.get(path)), "%s is neither old nor new; %s" % (path, what)
+    assert not {*old} - {*found, "share/man/man1/bt_tool.1" if tool is None else ""}, "%s is gone; %s" % ({*old} - {*found}, what)
+    if tool is None:
+        blocks.rmdir()
+    passes(["tools/install", prefix], at)
+    again = contents(prefix)
+    assert {path: again.get(path) for path in new} == new and {*again} == {*new, "share/bt_tool/files", "lib/pkgconfig/bt.pc"}, what
+    passes(["tools/install", "--uninstall", prefix], at)
+    assert not contents(prefix), "%s is left; %s" % (contents(prefix).keys(), what)
+
+
+def contents(prefix):
+    """What each file under a folder has; of a link the name that it has."""
+    return {str(it.relative_to(prefix)): os.readlink(it) if it.is_symlink() else it.read_bytes()
+            for it in prefix.rglob("*") if it.is_symlink() or it.is_file()}
+
+
+def older(at, prefix):
+    """An older version, with other texts and a file that the new one hasn't."""
+    passes(["tools/install", prefix], at)
+    for path in contents(prefix):
+        if path != "share/bt_tool/files" and not (prefix / path).is_symlink():
+            (prefix / path).write_text("the old one\n")
+    (prefix / "share/old.txt").write_text("the old one\n")
+    listed = prefix / "share/bt_tool/files"
+    listed.write_text(listed.read_text().replace("folder share/man\n", "file share/old.txt\nfolder share/man\n"))
+    return contents(prefix)
+
+
 def packaged(at):
     """With DESTDIR, and a C program by pkg-config."""
     with tempfile.TemporaryDirectory() as name:
@@ -463,7 +569,7 @@ def texts(at):
 
 
 CHECKS = [first_run, version, sources, page, package, tampered, other_machines, built_here, not_writable, all_files, in_c, in_python, in_javascript,
-          in_node, addon_again, installed, packaged, texts]
+          in_node, addon_again, installed, odd_prefixes, modes, fails_midway, packaged, texts]
 
 
 def main():

@@ -6,14 +6,19 @@ usage: tests/limits.py [PROGRAM]
 PROGRAM is the built program, or else the script `bt_tool` at the top of the repository. Each part of `PARTS` checks a row of the
 second table of docs/COMMANDS.md, "Limits", and says which. What is wanted follows from the rules for faults there.
 """
+import contextlib
 import fcntl
+import itertools
 import os
 import resource
+import select
+import socket
 import subprocess
 import sys
 import tempfile
 import time
 
+import peers
 from faults import COMMANDS as STREAMS, HAND, LINE, capture_of, whole
 from peers import summary, timeless
 from statuses import HASH, ROOT
@@ -25,6 +30,7 @@ LONG = HAND + b"".join(b"\0\0\0\x05\x04" + number.to_bytes(4, "big") for number 
 SHOWN = b"0 " + LINE + b"".join(b"%d have %d\n" % (68 + 9 * number, number) for number in range(HAVES)) \
     + b"ok messages=%d bytes=%d\n" % (HAVES, len(LONG))
 SCRIPT = LINE + b"".join(b"have %d\n" % number for number in range(HAVES))
+LOOP = next(it for it in COMMANDS if it[0] == "loop")
 LONG_COMMANDS = [("show", LONG, SHOWN), ("unpack", LONG, SCRIPT), ("pack", SCRIPT, LONG)]
 
 # A fault at the last byte, and what is written at once.
@@ -61,8 +67,8 @@ class Program:
         return subprocess.Popen([self.path, *words.split()], **how)
 
 
-def closed(device):
-    return lambda: os.close(device)
+def closed(*devices):
+    return lambda: [os.close(device) for device in devices]
 
 
 def limited(what, size):
@@ -75,6 +81,101 @@ def unlike(words, found, wanted):
 
 def accepted(parts):
     return whole(parts), b"", 0
+
+
+# ---- peers
+
+# The ids of messages that an end may send (BEP 3, 5, 6 and 10).
+IDS = [*range(10), *range(13, 18), 20]
+
+
+class Noted(peers.Link):
+    """A connection, with all that it received."""
+
+    def __init__(self, link):
+        super().__init__(link)
+        self.heard = b""
+
+    def exactly(self, count):
+        taken = super().exactly(count)
+        self.heard += taken
+        return taken
+
+    def all_heard(self):
+        """All that came until the other end closed."""
+        try:
+            while True:
+                self.exactly(1)
+        except OSError:
+            return self.heard + self.buffer
+
+
+def is_wire(stream):
+    """Whether the bytes are a handshake, whole messages after it, and nothing else."""
+    at = 68
+    while at + 5 <= len(stream) and (size := int.from_bytes(stream[at:at + 4], "big")) and stream[at + 4] in IDS:
+        at += 4 + size
+    return stream.startswith(peers.PROTOCOL) and at == len(stream)
+
+
+def holding_back(heard, other):
+    """An honest peer that gives its blocks once the other one has closed twice. It keeps what it heard."""
+    def talk(link, count):
+        noted = Noted(link.link)
+        try:
+            peers.greet(noted)
+            last = time.monotonic() + 10
+            while other.count < 2 and time.monotonic() < last:
+                time.sleep(0.01)
+            time.sleep(0.2)
+            while True:
+                noted.send(peers.data(3, noted.request()))
+        except OSError:
+            heard.append(noted.all_heard())
+    return talk
+
+
+def connected(port):
+    """A connection to a port of this machine, at which somebody begins to listen."""
+    last = time.monotonic() + 20
+    while True:
+        try:
+            return Noted(socket.create_connection(("127.0.0.1", port)))
+        except ConnectionRefusedError:
+            if time.monotonic() > last:
+                raise
+            time.sleep(0.01)
+
+
+def crowd_at(port, count):
+    """As many connections to a port of this machine; fewer if nobody listens there any more."""
+    found = []
+    with contextlib.suppress(OSError):
+        for _ in range(count):
+            found.append(Noted(socket.create_connection(("127.0.0.1", port))))
+    return found
+
+
+def asked_block(link):
+    """The first block of the metadata that `serve` gives; what came of it, if it closes before."""
+    return next_block(link, peers.handshake(), peers.message(20, b"\0d1:md11:ut_metadatai7eee"))
+
+
+def next_block(link, *before):
+    """The same, after these bytes."""
+    start = len(link.heard)
+    try:
+        link.send(*before, peers.message(20, b"\3d8:msg_typei0e5:piecei0ee"))
+        while not link.heard.endswith(peers.INFO[:peers.BLOCK], start):
+            link.exactly(1)
+    except OSError:
+        pass
+    return link.heard[start:][-peers.BLOCK:]
+
+
+def is_closed(link):
+    """Whether the other end has closed the connection, and sent nothing."""
+    return bool(select.select([link.link], [], [], 0)[0]) and not link.all_heard()
 
 
 # ---- the parts
@@ -134,6 +235,60 @@ def standard_error(program):
                             ("2>/dev/full", program.run(words, given, errors=full))):
             wrong += unlike("%s %s" % (words, name), found, (out, b"", status))
         os.close(full)
+    return wrong
+
+
+def without(devices, out, errors, status):
+    """The outputs and the status, if these of the standard streams are closed."""
+    return b"" if 1 in devices else out, b"" if 2 in devices else errors, status
+
+
+def fetched_without(program, devices):
+    """`fetch` from a peer while another one closes, without these of the standard streams."""
+    heard, closing = [], peers.Peer(peers.closing)
+    giving = peers.Peer(holding_back(heard, closing))
+    words = "fetch --timeout 5 %s %s %s" % (peers.HASH.hex(), giving.address, closing.address)
+    out, errors, status = program.run(words, before=closed(*devices))
+    last = time.monotonic() + 10
+    while not heard and time.monotonic() < last:
+        time.sleep(0.01)
+    for peer in (giving, closing):
+        peer.close()
+    lines = 2 * (closing.address + " closed\n") + giving.address + " fetched\n"
+    lines += summary(lines) + ("fault: write\n" if 1 in devices else "")
+    found = out.replace(peers.INFO, b"INFO"), timeless(errors.decode()).encode(), status, [is_wire(it) for it in heard]
+    return unlike("%s without %s" % (words, devices), found,
+                  (*without(devices, b"INFO", lines.encode(), 3 if 1 in devices else 0), [True]))
+
+
+def served_without(program, devices, name):
+    """`serve` of a file to a peer, without these of the standard streams."""
+    with socket.create_server(("127.0.0.1", 0)) as server:
+        port = server.getsockname()[1]
+    running = program.start("serve --exit-after 1 --listen 127.0.0.1:%d %s" % (port, name), stdin=subprocess.PIPE, stdout=subprocess.PIPE,
+                            stderr=subprocess.PIPE, preexec_fn=closed(*devices))
+    link = connected(port)
+    asked_block(link)
+    link.link.shutdown(socket.SHUT_WR)
+    heard = link.all_heard()
+    out, errors = running.communicate(timeout=20)
+    lines = "serving %s size=%d on 127.0.0.1:%d\n127.0.0.1:%d sent=4 handled=3 closed\n" % (
+        peers.HASH.hex(), len(peers.INFO), port, link.link.getsockname()[1])
+    return unlike("serve without %s" % (devices,), (out, errors, running.returncode, is_wire(heard)),
+                  (*without(devices, lines.encode(), b"", 0), True))
+
+
+def standard_streams(program):
+    """some of the standard streams are closed, and `fetch` or `serve` has peers"""
+    wrong = []
+    with tempfile.NamedTemporaryFile() as file:
+        file.write(peers.INFO)
+        file.flush()
+        for devices in [it for count in (1, 2, 3) for it in itertools.combinations(range(3), count)]:
+            wrong += fetched_without(program, devices) + served_without(program, devices, file.name)
+            looped = READ if 0 in devices else WRITE if 1 in devices else accepted(LOOP[2])
+            found = program.run("loop", LOOP[1], before=closed(*devices))
+            wrong += unlike("loop without %s" % (devices,), found, without(devices, *looped))
     return wrong
 
 
@@ -266,12 +421,36 @@ def address_space(program):
                    {"memory": lambda found: found == MEMORY, "unloaded": is_unloaded, "overflow": is_overflow})
 
 
+def crowded(program):
+    """`serve` has more peers than there is memory for"""
+    count, first, block = 400, 16, peers.INFO[:peers.BLOCK]
+    with tempfile.NamedTemporaryFile() as file:
+        file.write(peers.INFO)
+        file.flush()
+        with socket.create_server(("127.0.0.1", 0)) as server:
+            port = server.getsockname()[1]
+        words = "serve --max-connections 1024 --exit-after %d --listen 127.0.0.1:%d %s" % (count, port, file.name)
+        running = program.start(words, stdout=subprocess.PIPE, stderr=subprocess.PIPE, preexec_fn=limited(resource.RLIMIT_AS, 80 << 20))
+        links = [connected(port) for _ in range(first)]
+        before = [asked_block(it) == block for it in links]
+        crowd = crowd_at(port, count - first)
+        last = time.monotonic() + 20
+        while not any(map(is_closed, crowd)) and time.monotonic() < last:
+            time.sleep(0.1)
+        closed, during = any(map(is_closed, crowd)), [next_block(it) == block for it in links]
+        for link in links + crowd:
+            link.link.close()
+        out, errors = running.communicate(timeout=60)
+    wrong = unlike(words, (len(crowd), closed, before, during), (count - first, True, first * [True], first * [True]))
+    return wrong + unlike(words, (len(out.splitlines()), errors, running.returncode), (1 + count, b"", 0))
+
+
 def stack(program):
     """a small stack"""
-    wrong = scanned(program, resource.RLIMIT_STACK, range(32, 513, 32), {"overflow": is_overflow})
+    wrong = scanned(program, resource.RLIMIT_STACK, range(32, 201, 24), {"overflow": is_overflow})
     for words, given, parts in COMMANDS:
-        found = program.run(words, given, before=limited(resource.RLIMIT_STACK, 512 * 1024))
-        wrong += unlike(words + " under 512 KiB of stack", found, accepted(parts))
+        found = program.run(words, given, before=limited(resource.RLIMIT_STACK, 200 * 1024))
+        wrong += unlike(words + " under 200 KiB of stack", found, accepted(parts))
     return wrong
 
 
@@ -284,8 +463,8 @@ def too_long(program):
         return wrong + unlike("the offset after loop", os.lseek(file.fileno(), 0, os.SEEK_CUR), 67_108_865)
 
 
-PARTS = [standard_input, standard_output, full_pipe, standard_error, lost_reader, slow_writer, open_input, shown_at_once,
-         too_long, descriptors, address_space, stack]
+PARTS = [standard_input, standard_output, full_pipe, standard_error, standard_streams, lost_reader, slow_writer, open_input, shown_at_once,
+         too_long, descriptors, address_space, crowded, stack]
 
 
 def unlisted():

@@ -154,6 +154,42 @@ def pcapng(framed, order="<", nano=False):
     return holding(File(file), packets=packets_of(found))
 
 
+def offset_option(order, *offsets):
+    """The options of an interface whose packets' times these seconds are added to: only the first counts, and none of another length."""
+    options = struct.pack(order + "HH4s", 1, 4, b"eth0") + struct.pack(order + "HHi", 14, 4, 77)
+    return options + b"".join(struct.pack(order + "HHq", 14, 8, it) for it in offsets) + bytes(4)
+
+
+def moved(framed, offsets, order="<", since=1_000_000):
+    """A pcapng file whose packets are on its interfaces in turn. With each interface's offset the first packet is at this second."""
+    link, found = framed
+    file = block(order, 0x0A0D0D0A, struct.pack(order + "IHHq", 0x1A2B3C4D, 1, 0, -1))
+    for offset in offsets:
+        file += block(order, 1, struct.pack(order + "HHI", link, 0, 0) + offset_option(order, offset, 5))
+    for k, (at, frame) in enumerate(found):
+        number = k % len(offsets)
+        ticks = (since - offsets[number]) * 10 ** 6 + at * 1000
+        file += block(order, 6, struct.pack(order + "5I", number, ticks >> 32, ticks & 0xFFFFFFFF, len(frame), len(frame)) + frame)
+    return holding(File(file), packets=packets_of(found))
+
+
+def simple(framed, snap=0):
+    """A pcapng file of simple packet blocks, whose interface has this snap length; 0 is none. Bytes that nobody sent fill each block up."""
+    link, found = framed
+    file = block("<", 0x0A0D0D0A, struct.pack("<IHHq", 0x1A2B3C4D, 1, 0, -1)) + block("<", 1, struct.pack("<HHI", link, 0, snap))
+    for _, frame in found:
+        kept = frame[:snap or None]
+        file += block("<", 3, struct.pack("<I", len(frame)) + kept + b"\xff" * (-len(kept) % 4))
+    return holding(File(file), packets=packets_of(found, snap or None))
+
+
+def timeless(packets):
+    """The same packets, all at one time: a simple packet block has none."""
+    for packet in packets:
+        packet.at = 0
+    return packets
+
+
 # ---- what is expected
 
 A_LINES = """  A Transmission 3.00
@@ -216,6 +252,8 @@ def readings():
     yield "pcapng", pcapng(plain)
     yield "pcapng, big-endian", pcapng(plain, order=">")
     yield "pcapng, nanoseconds", pcapng(plain, nano=True)
+    yield "pcapng, offsets", moved(plain, (999_990, -86_400))
+    yield "pcapng, offsets, big-endian", moved(plain, (-3, 1_000_000), order=">")
     yield "segmentation offload", pcap(frames(talk(), ip=offloaded))
     yield "sequence numbers wrap", pcap(frames(talk(start=2 ** 32 - 100)))
     yield "sequence numbers wrap later", pcap(frames(talk(start=2 ** 32 - 20_000)))
@@ -731,17 +769,25 @@ def handshake_line(stream):
     return "0 handshake %s %s %s" % (stream[20:28].hex(), stream[28:48].hex(), stream[48:68].hex())
 
 
-def short():
-    """The report if each segment has its first 146 bytes: 25 of 1,000 and one of 889, and one of 278. The last one is at 25,000."""
-    cut = "refused message=1 at=146 EndInside (cut by the gap)"
-    a = report("-TR3000-hkurt404hubr", 146, cut, cut, notes="    gap at 146: 132 bytes aren't in the capture\n")
-    more = "    gap at 146: 854 bytes aren't in the capture; 26 gaps, 22093 bytes in all\n"
-    b = report("-LT2080-OSBc(V--pHy8", 146, cut, cut, "--reserved 0000000000100004 --metadata-id 0", "B", more)
+def short(kept=146):
+    """The report if each segment has its first bytes: 25 of 1,000 and one of 889, and one of 278. The last one is at 25,000."""
+    cut = "refused message=1 at=%d EndInside (cut by the gap)" % kept
+    gap = "    gap at %d: %d bytes aren't in the capture%s\n"
+    a = report("-TR3000-hkurt404hubr", kept, cut, cut, notes=gap % (kept, 278 - kept, ""))
+    more = gap % (kept, 1000 - kept, "; 26 gaps, %d bytes in all" % (25889 - 26 * kept))
+    b = report("-LT2080-OSBc(V--pHy8", kept, cut, cut, "--reserved 0000000000100004 --metadata-id 0", "B", more)
     return NAMES + a + b + """\
   A closed first, by FIN, at 0.057000 s
-    B had sent 25146 bytes, last: %s
-    A had sent 146 bytes, last: %s
-""" % (handshake_line(SERVING), handshake_line(FETCHING))
+    B had sent %d bytes, last: %s
+    A had sent %d bytes, last: %s
+""" % (25000 + kept, handshake_line(SERVING), kept, handshake_line(FETCHING))
+
+
+def simple_packets():
+    """Simple packet blocks: whole, and cut by snap lengths. 54 bytes of a packet are headers."""
+    yield "simple packets", simple(frames(timeless(talk()))), WHOLE
+    for snap in (200, 201, 202, 203):
+        yield "simple packets of %d bytes" % snap, simple(frames(timeless(talk())), snap), short(snap - 54)
 
 
 def damaged():
@@ -777,6 +823,7 @@ def rows():
     yield from ((name, [], file, lines, b"", 0) for name, file, lines in [*six(), *gaps()])
     yield from (("a gap in a handshake", [], *row) for row in gap_in_handshake())
     yield "a short snap length", [], pcap(frames(talk()), snap=200), short(), b"", 0
+    yield from ((name, [], file, lines.replace("0.057000", "0.000000"), b"", 0) for name, file, lines in simple_packets())
     yield "the first packet lost", [], pcap(frames(without(0))), WHOLE.replace("0.057000", "0.056000"), b"", 0
     whole = pcap(frames(talk()))
     yield "cut inside the last packet", [], holding(File(whole[:-1]), packets=whole.packets[:-1]), WHOLE, b"ends inside a packet", 0

@@ -865,6 +865,52 @@ def swarm(program):
     return failed, 5 * 3
 
 
+class Mute:
+    """An address at which nobody answers: it listens, and the one connection that may wait there is taken."""
+
+    def __init__(self):
+        self.socket = socket.socket()
+        self.socket.bind(("127.0.0.1", 0))
+        self.socket.listen(0)
+        self.address = "127.0.0.1:%d" % self.socket.getsockname()[1]
+        self.waiting = [socket.socket() for _ in range(3)]
+        for link in self.waiting:
+            link.setblocking(False)
+            link.connect_ex(self.socket.getsockname())
+
+    def close(self):
+        for link in self.waiting + [self.socket]:
+            link.close()
+
+
+def dead(program):
+    """Of 201 addresses only the last one answers: the others take no place, and an address at a time costs none either."""
+    failed, tried = 0, 0
+    mute = Mute()
+    gone = [nobody() for _ in range(200)]
+    for name, addresses, words in (("silent", 200 * [mute.address], ""), ("refused", gone, ""), ("both", 100 * [mute.address] + gone[:100], ""),
+                                   ("one place", 200 * [mute.address], "--at-once 1")):
+        peer = Peer(honest)
+        begin = time.monotonic()
+        done = run(program, HASH, addresses + [peer.address], words.split())
+        took = time.monotonic() - begin
+        peer.close()
+        ends = told(done.stderr.decode())
+        failed += (same("dead, " + name, done.stdout, INFO) + same("its giver", [end for end in ends if end[1] == "fetched"], [[peer.address, "fetched"]])
+                   + same("its connections", (len(ends) >= 201, peer.count), (True, 1)) + same("its time, %.2f s" % took, took < 1, True))
+        tried += 4
+    mute.close()
+
+    # Nobody answers at all: five seconds, twice.
+    mute = Mute()
+    begin = time.monotonic()
+    done = run(program, HASH, 3 * [mute.address], ["--at-once", "1"])
+    took = time.monotonic() - begin
+    mute.close()
+    failed += differs("all dead", done, b"", 6 * (mute.address + " unreachable\n"), 1) + same("its time, %.1f s" % took, 10 <= took < 13, True)
+    return failed, tried + 2
+
+
 def objects(program):
     """With `--json` standard error gets an object a line."""
     peers = [Peer(wrong_hash), Peer(honest)]
@@ -1248,7 +1294,7 @@ def soaked(program):
 def main(words):
     program = program_of(words)
     failed = count = 0
-    for part in (hostile, kept, linked, hosted, taken, largest, many_pieces, million, single, shown, unread, unwritten, dialled, placed, hindered, both, swarm, objects,
+    for part in (hostile, kept, linked, hosted, taken, largest, many_pieces, million, single, shown, unread, unwritten, dialled, placed, hindered, both, swarm, dead, objects,
                  several_ids, serving, pieces, one_write, memory, served_apart, descriptors, soaked):
         more, tried = part(program)
         failed += more

@@ -5,12 +5,16 @@ usage: tests/peertest.py [PROGRAM [PART..]]
 
 PROGRAM is the built program, or else dist's, or the script `bt_tool` at the top of the repository. The suite is held against what
 is known: the proved rules say of each case's stream what the case says; a client that is right (tests/standin.py) passes all; and
-for each rule there is a mutant of it that breaks only that, which fails. PART is stated, right, mutants, command or ours. The
-library is libbt.so of dist/x86_64-linux, of crates/bt_c/out, or BT_LIBRARY.
+for each rule there is a mutant of it that breaks only that, which fails. PART is stated, right, mutants, command, times or ours; and
+whole, which isn't among the parts that run without a name: it measures whole runs, for some minutes. The library is libbt.so of
+dist/x86_64-linux, of crates/bt_c/out, or BT_LIBRARY.
 """
+import collections
+import contextlib
 import fnmatch
 import json
 import os
+import pty
 import queue
 import re
 import signal
@@ -133,13 +137,17 @@ MUTANTS = {
         "fs.advice-bad/* ex.bad/* ex.unsorted/* ex.trailing/* ex.deep/* ex.deep-dict ex.fields/* ex.same-ids ex.v-long ex.many "
         "ex.unknown-id ex.off-bit ex.size/* md.data-unasked md.data-odd/* dh.message/*",
     "what is written is right": "",
+    "an interested peer is unchoked": "",
+    "connections are taken at once": "",
+    "later connections are answered": "",
 }
 
 
 class InProcess:
     """The stand-in in this process: a new one at each start."""
 
-    restarts = movable = True
+    restarts, movable, several = True, True, False
+    wanted = staticmethod(lambda: True)
 
     def __init__(self, subject, mode, broken=None):
         self.torrent, self.mode, self.broken, self.client = subject, mode, broken, None
@@ -238,13 +246,19 @@ def sound(loaded, subject, failures):
 
 
 def documented(loaded, failures):
-    """The table of docs/RIG.md has the number of cases of each family."""
+    """docs/RIG.md has the number of cases of each family, each option, and how long a run takes."""
     with open(os.path.join(ROOT, "docs", "RIG.md"), encoding="utf8") as file:
-        rows = re.findall(r"^\| ((?:`[a-z]+`,? ?)+) \| (\d+) \|", file.read(), re.M)
-    families = [(re.findall("`([a-z]+)`", names), int(number)) for names, number in rows]
+        text = file.read()
+    found = re.findall(r"^\| ((?:`[a-z]+`,? ?)+) \| (\d+) \|", text, re.M)
+    families = [(re.findall("`([a-z]+)`", names), int(number)) for names, number in found]
     for names, number in families:
         failures.same("docs/RIG.md: %s" % names, number, sum(case.id.split(".")[0] in names for case in loaded))
     failures.same("docs/RIG.md: cases", sum(number for _, number in families), len(loaded))
+    part = text.split("## The conformance suite")[1].split("\n## ")[0]
+    help_ = " ".join(command.parser().format_help().split())
+    options = set(re.findall(r"--[a-z][a-z-]*", help_)) - {"--help", "--other"}
+    failures.same("docs/RIG.md: the options of --help", set(re.findall(r"`(--[a-z-]+)", part)) - {"--other"}, options)
+    failures.same("what is told of the time", ["60 seconds" in told and "120" in told for told in (part, help_)], [True, True])
 
 
 def rest_of(stream, subject, reason):
@@ -280,8 +294,8 @@ def right(loaded, subject, failures):
 
 
 def at_once(tasks, workers):
-    """Runs the tasks, so many at a time."""
-    waiting = queue.Queue()
+    """Runs the tasks, so many at a time. Raises what one of them raised."""
+    waiting, faults = queue.Queue(), []
     for task in tasks:
         waiting.put(task)
 
@@ -291,12 +305,17 @@ def at_once(tasks, workers):
                 task = waiting.get_nowait()
             except queue.Empty:
                 return
-            task()
+            try:
+                task()
+            except Exception as fault:
+                faults.append(fault)
     threads = [threading.Thread(target=work) for _ in range(workers)]
     for thread in threads:
         thread.start()
     for thread in threads:
         thread.join()
+    if faults:
+        raise faults[0]
 
 
 def mutants(loaded, subject, failures):
@@ -332,9 +351,38 @@ def mutant(subject, failures, broken, case):
 # The command, by a process of its own.
 
 
-def run(*words):
-    done = subprocess.run([sys.executable, SUITE, *words], stdin=subprocess.DEVNULL, capture_output=True, text=True)
+def run(*words, suite_=SUITE):
+    done = subprocess.run([sys.executable, suite_, *words], stdin=subprocess.DEVNULL, capture_output=True, text=True)
     return done.returncode, done.stdout, done.stderr
+
+
+@contextlib.contextmanager
+def listening(mode, path, broken, port):
+    """The stand-in in a process of its own, which the suite doesn't start."""
+    words = [sys.executable, STANDIN, mode, path, "127.0.0.1:%d" % port, broken]
+    with subprocess.Popen(words) as started:
+        while started.poll() is None:
+            try:
+                socket.create_connection(("127.0.0.1", port), 1).close()
+                break
+            except OSError:
+                time.sleep(0.05)
+        try:
+            yield started
+        finally:
+            started.kill()
+
+
+def own_cases(folder, name, text):
+    """The words that take these cases in place of the suite's own."""
+    with open(os.path.join(folder, name), "w", encoding="utf8") as file:
+        file.write(text)
+    return ["--cases", os.path.join(cases.FOLDER, "00-sentences.txt"), "--cases", os.path.join(folder, name)]
+
+
+def results_of(path):
+    """What JUnit has of each case: its name, and the name of the element in it."""
+    return [(case.get("name"), case[0].tag) for case in xml.etree.ElementTree.parse(path).getroot()]
 
 
 def listener(mode, path, broken=""):
@@ -360,6 +408,17 @@ def separate(loaded, subject, failures):
     watched.stop()
 
 
+def taken_away(loaded, subject, failures):
+    """A run that was ended takes its clients away, which is no death."""
+    case = next(case for case in loaded if case.id == "unk.id/10")
+    played, watched = against(subject, "seed", [case], suite.Options(6, 6, "all", 1), "it lives on")
+    for over, died in ((False, [case.id]), (True, [])):
+        played.over, played.died = over, []
+        played.play_moved(case)
+        failures.same("deaths, %s" % ("once the run was ended" if over else "before"), played.died, died)
+    watched.stop()
+
+
 def lessons(path, failures):
     """What false findings taught: the gate, the twin, the crash, the new client; and the statuses."""
     at = "127.0.0.1:%d" % client.free_port("127.0.0.1")
@@ -378,17 +437,118 @@ def lessons(path, failures):
     failures.same("the cases without a death", sorted(re.findall(r"pass +(\S+)", crash[1])), ["ka.one", "md.get"])
     # A client that the suite didn't start: the death is seen by its process, and the rest isn't run.
     port = client.free_port("127.0.0.1")
-    with subprocess.Popen([sys.executable, STANDIN, "seed", path, "127.0.0.1:%d" % port, "it lives on"]) as watched:
-        while watched.poll() is None:
-            try:
-                socket.create_connection(("127.0.0.1", port), 1).close()
-                break
-            except OSError:
-                time.sleep(0.05)
+    with listening("seed", path, "it lives on", port) as watched:
         words = ["--only", "unk.id/10,ka.one,md.get,bf.some", "--jobs", "1", "--pid", str(watched.pid)]
         status, text, _ = run("127.0.0.1:%d" % port, "--torrent", path, *words)
     failures.same("a death of a client that wasn't started", (status, re.findall(r"^(pass|fail|skip) +(\S+)", text, re.M)),
                   (4, [("pass", "ka.one"), ("fail", "unk.id/10"), ("skip", "bf.some"), ("skip", "md.get")]))
+
+
+UNPLAYED = """case my.closed
+title another info hash
+rule info-hash must
+twin my.kept
+open handshake=no
+raw 13+"BitTorrent protocol"+0000000000100004+0102030405060708090a0b0c0d0e0f1011121314+{peer}
+ping read 6
+pass closed
+
+case my.death
+title an unknown id, so late that no earlier case is to blame, and then time for the process to end
+rule unknown own
+pause 3.5
+raw 000000010a
+noread 5
+info alive
+
+case my.kept
+title a correct handshake
+rule info-hash must
+pass alive
+"""
+
+
+def unplayed(folder, path, failures):
+    """A death before the twin of a case was played: all is summed up and written."""
+    port, written = client.free_port("127.0.0.1"), os.path.join(folder, "unplayed.xml")
+    words = own_cases(folder, "unplayed.txt", UNPLAYED)
+    gate = ["--cases", os.path.join(cases.FOLDER, "10-handshake.txt"), "--only", "my.*"]
+    for more in (gate, []):
+        with listening("seed", path, "it lives on", port) as watched:
+            status, text, errors = run("127.0.0.1:%d" % port, "--torrent", path, *words, *more, "--jobs", "1", "--pid",
+                                       str(watched.pid), "--junit", written)
+        failures.same("a death before a twin", (status, re.findall(r"^(pass|fail|skip) +(\S+)", text, re.M), errors),
+                      (4, [("pass", "my.closed"), ("fail", "my.death"), ("skip", "my.kept")], ""))
+        failures.same("its summary", text.endswith("1 pass, 1 fail, 1 skip; THE CLIENT DIED in my.death\n"), True)
+        failures.same("its JUnit", results_of(written), [("my.closed", "system-out"), ("my.death", "failure"), ("my.kept", "skipped")])
+
+
+ENDLESS = """case my.kept
+title a correct handshake
+rule info-hash must
+{more}
+pass alive
+
+case my.endless
+title a pause
+rule unknown own
+{more}
+pause 600
+pass alive
+
+case my.later
+title a case that isn't reached
+rule unknown own
+{more}
+pass alive
+"""
+
+
+def shown(screen, played):
+    """Waits until the first of three cases is played, and the next one has begun."""
+    told = b""
+    while b"1 of 3 cases" not in told and played.poll() is None:
+        told += os.read(screen, 4096)
+    time.sleep(1.5)
+
+
+def terminated(folder, path, failures, mode, more):
+    """SIGTERM ends it and its client within the ten seconds that CI gives, and what was played is written."""
+    port, written = client.free_port("127.0.0.1"), os.path.join(folder, "terminated-%s.xml" % mode)
+    tap = os.path.join(folder, "terminated-%s.tap" % mode)
+    room = os.path.join(folder, "room of " + mode)
+    os.mkdir(room)
+    played_cases = own_cases(folder, "endless-%s.txt" % mode, ENDLESS.format(more=more))
+    words = [sys.executable, SUITE, "127.0.0.1:%d" % port, "--torrent", path, *played_cases, "--mode", mode,
+             "--jobs", "1", "--junit", written, "--tap", tap, "--start", listener(mode, path)]
+    # (on a terminal it shows how many cases were played)
+    screen, end = pty.openpty()
+    with subprocess.Popen(words, stdout=subprocess.PIPE, stderr=end, text=True, start_new_session=True,
+                          env={**os.environ, "TMPDIR": room}) as played:
+        os.close(end)
+        shown(screen, played)
+        begin = time.monotonic()
+        played.terminate()
+        text = played.communicate(timeout=60)[0]
+        took = time.monotonic() - begin
+    failures.same("SIGTERM: status", played.returncode, 143)
+    failures.same("SIGTERM: it says so", b"peertest: ended by SIGTERM" in os.read(screen, 4096), True)
+    os.close(screen)
+    failures.same("SIGTERM: lines", re.findall(r"^(?:pass +(my\S+)|peertest: .*: (.*))", text, re.M),
+                  [("my.kept", ""), ("", "1 pass, 0 fail, 2 skip")])
+    if os.path.exists(written):
+        failures.same("SIGTERM: JUnit", results_of(written),
+                      [("my.kept", "system-out"), ("my.endless", "skipped"), ("my.later", "skipped")])
+    failures.same("SIGTERM: JUnit is there", os.path.exists(written), True)
+    if os.path.exists(tap):
+        failures.same("SIGTERM: TAP", [(ok, name, directive) for ok, _, name, directive, _ in points(tap)[0]],
+                      [("ok", "my.kept", ""), ("ok", "my.endless", "SKIP the run was ended before"),
+                       ("ok", "my.later", "SKIP the run was ended before")])
+    failures.same("SIGTERM: TAP is there", os.path.exists(tap), True)
+    failures.same("SIGTERM: it took less than 10 s", took < 10, True)
+    failures.same("SIGTERM: folders that are left", os.listdir(room), [])
+    with socket.socket() as door:
+        failures.same("the client's port after SIGTERM", door.connect_ex(("127.0.0.1", port)) != 0, True)
 
 
 def interrupted(path, failures):
@@ -478,6 +638,34 @@ def replays(loaded, subject, path, failures):
     failures.same("--replay", (text.startswith("#!/bin/sh\n# hs.plain"), "have-none" in text), (True, True))
 
 
+def again(folder, path, failures):
+    """A failure in JUnit has a line that runs its case again."""
+    top, port, written = os.path.join(folder, "a top"), client.free_port("127.0.0.1"), os.path.join(folder, "again.xml")
+    os.mkdir(top)
+    os.symlink(PROGRAM, os.path.join(top, "bt_tool"))
+    os.symlink(os.path.join(ROOT, "tools"), os.path.join(top, "tools"))
+    for mode, name, broken in (("seed", "md.unknown-type", "an unknown type is ignored"), ("leech", "ka.one", "a keep-alive is ignored")):
+        run("127.0.0.1:%d" % port, "--torrent", path, "--only", name, "--mode", mode, "--start", listener(mode, path, broken),
+            "--junit", written, suite_=os.path.join(top, "tools", "peertest"))
+        failure, = xml.etree.ElementTree.parse(written).getroot().iter("failure")
+        sentence, line = failure.text.split("\n")
+        failures.same("the sentence in JUnit", re.match('BEP [39], ".*" [(]must, paraphrased[)]: ', sentence) is not None, True)
+        failures.same("the words in JUnit", re.match("again: .*--replay %s " % name, line) is not None, True)
+        with listening(mode, path, broken, port):
+            done = subprocess.run(["sh", "-c", line.partition(": ")[2]], cwd=folder, capture_output=True, text=True)
+        failures.same("again: %s" % done.stderr, (done.returncode, re.search("talk: (closed|reset) after", done.stderr) is not None), (1, True))
+        case = next(case for case in cases.load() if case.id == name)
+        with open(os.path.join(top, "stream.bin"), "rb") as file:
+            failures.same("the stream that was sent again", file.read() == replay.script(case, torrent.Torrent(path), mode)[1], True)
+    # (what it writes on standard error isn't text that XML may have)
+    dialled = "%s %s magnet %s --dial {addr} {out} 'what is written is right'; printf '\\033[31mred\\001\\n' >&2" % (sys.executable, STANDIN, path)
+    run("--torrent", path, "--only", "mg.good,mg.meta/short", "--junit", written, "--dial", dialled)
+    failures.same("control characters in JUnit", results_of(written), [("mg.meta/short", "system-out"), ("mg.good", "failure")])
+    failure, = xml.etree.ElementTree.parse(written).getroot().iter("failure")
+    done = subprocess.run(["sh", "-c", failure.text.partition("again: ")[2]], cwd=folder, capture_output=True, text=True)
+    failures.same("again, of a client that dials", done.stdout.startswith("#!/bin/sh\n# mg.good"), True)
+
+
 def dials(path, failures):
     """A client that dials: what it writes is judged."""
     words = ["--torrent", path, "--only", "mg.good,hs.plain,hs.wrong-hash", "--level", "all", "--dial"]
@@ -485,6 +673,357 @@ def dials(path, failures):
     failures.same("a client that dials", run(*words, command_)[0], 0)
     false = run(*words, command_ + "'what is written is right'")
     failures.same("false metadata", (false[0], false[1].count("FALSE METADATA")), (1, 1))
+
+
+# Results as TAP, and the file of known failures.
+
+ODD = """case my.fine
+title a correct handshake
+rule info-hash must
+pass alive
+
+case my.number#1
+title a client that takes an unknown type
+rule metadata-type must
+um "d8:msg_typei9e5:piecei0ee"
+pass alive
+
+case my.other
+title another
+rule info-hash must
+um "d8:msg_typei9e5:piecei0ee"
+pass alive
+
+case my.lacking
+title the client has the Fast Extension
+rule info-hash must
+need nofast
+pass alive
+
+case my.weak
+title what no sentence forbids
+rule info-hash should
+um "d8:msg_typei9e5:piecei0ee"
+pass alive
+note closed
+"""
+
+
+def points(path):
+    """The lines of a TAP file: ok or not, id, directive, and the YAML below; with its version, its plan, and what else it has."""
+    with open(path, encoding="utf8") as file:
+        lines = file.read().split("\n")
+    found, others, block = [], [], None
+    for line in lines:
+        point = re.match(r"(ok|not ok) (\d+) - ((?:[^#\\]|\\.)*?)(?: # (.*))?$", line)
+        if point:
+            found.append((point[1], int(point[2]), re.sub(r"\\(.)", r"\1", point[3]), point[4] or "", {}))
+        elif line in ("  ---", "  ..."):
+            block = found[-1][4] if line == "  ---" else None
+        elif block is not None:
+            name, _, value = line.strip().partition(": ")
+            block[name] = json.loads(value)
+        else:
+            others.append(line)
+    return found, others
+
+
+def tapped(folder, path, failures):
+    """TAP has a line for each case, in the order of the cases, with YAML, SKIP, and TODO for what is known to fail."""
+    names = [os.path.join(folder, name) for name in ("odd.tap", "odd.xml", "odd.known")]
+    with open(names[2], "w", encoding="utf8") as file:
+        file.write("my.other  it closes\nmy.fine  it did\n")
+    words = [*own_cases(folder, "odd.txt", ODD), "--tap", names[0], "--junit", names[1], "--known", names[2]]
+    at = "127.0.0.1:%d" % client.free_port("127.0.0.1")
+    status, _, errors = run(at, "--torrent", path, *words, "--start", listener("seed", path, "an unknown type is ignored"))
+    failures.same("TAP: status", (status, errors), (1, ""))
+    found, others = points(names[0])
+    failures.same("TAP: version and plan", others, ["TAP version 14", "1..5", ""])
+    failures.same("TAP: numbers", [number for _, number, _, _, _ in found], [1, 2, 3, 4, 5])
+    failures.same("TAP: lines", [(ok, name, directive) for ok, _, name, directive, _ in found], [
+        ("ok", "my.fine", "TODO known to fail, and it doesn't: take it off the list"), ("not ok", "my.number#1", ""),
+        ("not ok", "my.other", "TODO known to fail"),
+        ("ok", "my.lacking", "SKIP the client has no way without the Fast Extension"), ("ok", "my.weak", "")])
+    failures.same("TAP: the order of JUnit", [name for _, _, name, _, _ in found], [name for name, _ in results_of(names[1])])
+    said = found[1][4]
+    failures.same("TAP: a failure", {name: said.get(name) for name in ("result", "level", "bep")},
+                  {"result": "fail", "level": "must", "bep": "BEP 9"})
+    failures.same("TAP: its message", re.search("(closed|reset) after", said.get("message", "")) is not None, True)
+    failures.same("TAP: its words", ("--replay 'my.number#1'" in said.get("again", ""), "(paraphrased)" in said.get("sentence", "")),
+                  (True, True))
+    failures.same("TAP: times", [name for *_, name, _, block in found if "duration_ms" not in block], ["my.lacking"])
+    run("127.0.0.1:%d" % client.free_port("127.0.0.1"), "--torrent", path, "--patience", "0.2", "--tap", names[0])
+    failures.same("TAP: nobody listens", points(names[0]),
+                  ([], ["TAP version 14", "Bail out! the client takes no correct connection", ""]))
+
+
+def writes_known(folder, path, failures):
+    """What a run writes as known lets the next one pass; what no longer fails is told, and leaves the list."""
+    first, second = os.path.join(folder, "first.known"), os.path.join(folder, "second.known")
+    at = ["127.0.0.1:%d" % client.free_port("127.0.0.1"), "--torrent", path]
+    broken, right_ = [["--start", listener("seed", path, name)] for name in ("an unknown type is ignored", "")]
+    chosen = ["--only", "md.get,md.unknown-type,bf.late,hv.bad"]
+    status, text, _ = run(*at, *chosen, *broken, "--write-known", first)
+    failures.same("the first run", (status, re.findall(r"^fail +(\S+)", text, re.M)), (1, ["md.unknown-type"]))
+    with open(first, encoding="utf8") as file:
+        lines = [line.rstrip("\n") for line in file]
+    listed = [line for line in lines if not line.startswith("#")]
+    failures.same("what is known", [line.split()[0] for line in listed], ["md.unknown-type"])
+    failures.same("its reason", re.match(r"md\.unknown-type  # (closed|reset) after \d+ bytes of ours\. BEP 9, ", listed[0]) is not None, True)
+    status, text, errors = run(*at, *chosen, *broken, "--known", first)
+    failures.same("a second run", (status, errors, "fail " in text), (0, "", False))
+    # A line that somebody wrote stays, and so does one that this run says nothing of.
+    with open(first, "w", encoding="utf8") as file:
+        file.write("md.unknown-type  issue 12\nrq.last  flaky\nbf.late  it was kept\n")
+    status, text, _ = run(*at, *chosen, *broken, "--known", first, "--write-known", second)
+    told = "peertest: bf.late is known to fail, and passed: take it off the list\n"
+    failures.same("what no longer fails", (status, told in text), (0, True))
+    with open(second, encoding="utf8") as file:
+        failures.same("the next list", [line for line in file if not line.startswith("#")],
+                      ["md.unknown-type  issue 12\n", "rq.last  flaky\n"])
+    status, text, _ = run(*at, *chosen, *right_, "--known", second, "--write-known", second)
+    with open(second, encoding="utf8") as file:
+        failures.same("the list of a client that is right", [line for line in file if not line.startswith("#")], ["rq.last  flaky\n"])
+    own = own_cases(folder, "weak.txt", ODD)
+    with open(first, "w", encoding="utf8") as file:
+        file.write("my.weak  it closes\n")
+    text = run(*at, *own, "--only", "my.weak", *broken, "--known", first)[1]
+    failures.same("a known failure that is a note", "my.weak is known to fail, and is a note now: take it off the list" in text, True)
+    run(*at, "--only", "unk.id/10", "--start", listener("seed", path, "it lives on"), "--write-known", second)
+    with open(second, encoding="utf8") as file:
+        last = file.readlines()[-1]
+    failures.same("a death isn't forgiven", re.match(r"# unk\.id/10 isn't forgiven: .*THE CLIENT DIED", last) is not None, True)
+
+
+# Deaths that only the process shows. They cost a second at most; the rest is for a machine that has other work.
+SOON = 5
+
+
+def ended_after(words, end):
+    """A run in which `end()` ends the client in the second case: its status, its lines, and its seconds since. It is killed after 30."""
+    screen, other = pty.openpty()
+    with subprocess.Popen(words, stdin=subprocess.DEVNULL, stdout=subprocess.PIPE, stderr=other, text=True) as played:
+        os.close(other)
+        shown(screen, played)
+        time.sleep(2.5)  # (so that the first case isn't to blame)
+        end()
+        begin = time.monotonic()
+        try:
+            text = played.communicate(timeout=30)[0]
+        except subprocess.TimeoutExpired:
+            played.kill()
+            text = played.communicate()[0]
+        took = time.monotonic() - begin
+    os.close(screen)
+    return played.returncode, text, took
+
+
+def seen_by_pid(folder, path, failures):
+    """The process of --pid ends while something keeps the connection open: the run is over within a second."""
+    port = client.free_port("127.0.0.1")
+    words = [sys.executable, SUITE, "127.0.0.1:%d" % port, "--torrent", path, *own_cases(folder, "pid.txt", ENDLESS.format(more="")),
+             "--jobs", "1", "--pid"]
+    with listening("seed", path, "", port), subprocess.Popen(["sleep", "600"]) as watched:
+        status, text, took = ended_after([*words, str(watched.pid)], watched.kill)
+    failures.same("a death that its process shows", (status, re.findall(r"^(pass|fail|skip) +(\S+)", text, re.M)),
+                  (4, [("pass", "my.kept"), ("fail", "my.endless"), ("skip", "my.later")]))
+    failures.same("seconds after it: %.1f" % took, took < SOON, True)
+
+
+def seen_by_child(folder, path, failures):
+    """The command of --start ends while what it started keeps the connection: a new client starts within a second."""
+    port, log = client.free_port("127.0.0.1"), os.path.join(folder, "child.log")
+    script, stop = os.path.join(folder, "child.sh"), os.path.join(folder, "stop")
+    with open(script, "w", encoding="utf8") as file:
+        file.write("echo start $(date +%%s.%%N) >> %s\ntrap '' TERM\n%s %s seed %s $1 &\nwhile [ ! -e %s ]; do sleep 0.1; done\nrm %s\n"
+                   "echo end $(date +%%s.%%N) >> %s\nexit 70\n" % (log, sys.executable, STANDIN, path, stop, stop, log))
+    words = [sys.executable, SUITE, "127.0.0.1:%d" % port, "--torrent", path, *own_cases(folder, "child.txt", ENDLESS.format(more="")),
+             "--jobs", "1", "--start", "exec sh %s {address}" % script]
+    def end():
+        with open(stop, "w", encoding="utf8"):
+            pass
+    status, text, _ = ended_after(words, end)
+    failures.same("a death that its child shows", (status, re.findall(r"^(pass|fail|skip) +(\S+)", text, re.M)),
+                  (4, [("pass", "my.kept"), ("fail", "my.endless"), ("pass", "my.later")]))
+    with open(log, encoding="utf8") as file:
+        times = [float(line.split()[1]) for line in file]
+    failures.same("seconds until the next start: %s" % times, len(times) > 2 and times[2] - times[1] < SOON, True)
+
+
+# Cases that wait, at the same time.
+
+READS = """case my.read
+title reads for a while
+rule info-hash must
+each number: {rows}
+ping read 2
+pass open
+"""
+CROWDS = """case my.crowd
+title a small crowd
+rule connections own
+alone
+crowd 20
+ping none
+pass crowd 20
+"""
+FLOODS = """case my.flood
+title an unknown id, by itself
+rule unknown own
+alone
+each number: 1|2|3|4
+refused UnknownId 4
+raw 000000010a
+pass alive
+note silent
+"""
+
+
+def rows(number):
+    return "|".join(map(str, range(number)))
+
+
+def seconds_of(text):
+    """What the last line says of the time."""
+    return float(re.search(r"cases in ([0-9.]+) s: ", text)[1])
+
+
+def waits(folder, path, failures):
+    """Cases that wait are played at the same time, in their order, and no more of them than --at-once."""
+    at = ["127.0.0.1:%d" % client.free_port("127.0.0.1"), "--torrent", path]
+    many = own_cases(folder, "reads.txt", READS.format(rows=rows(60)))
+    _, text, _ = run(*at, *many, "--start", listener("seed", path))
+    failures.same("60 cases that read 2 seconds: %s" % text.splitlines()[-1], seconds_of(text) < 16, True)
+    failures.same("their order", re.findall(r"^pass +my\.read/(\d+) ", text, re.M), [str(number) for number in range(60)])
+    few = own_cases(folder, "few.txt", READS.format(rows=rows(4)))
+    for option in ("--at-once", "--jobs"):
+        _, text, _ = run(*at, *few, option, "2", "--start", listener("seed", path))
+        failures.same("%s 2: %s" % (option, text.splitlines()[-1]), seconds_of(text) > 4, True)
+
+
+def silent_floods(folder, path, failures):
+    """After a flood an answer may take 5 times the patience; the next case begins while one waits for it."""
+    at = ["127.0.0.1:%d" % client.free_port("127.0.0.1"), "--torrent", path]
+    deaf = ["--start", listener("seed", path, "questions are answered after it"), "--patience", "1.5"]
+    status, text, _ = run(*at, *own_cases(folder, "floods.txt", FLOODS), *deaf)
+    failures.same("4 silent floods: %s" % text.splitlines()[-1], (status, text.count("note  my.flood"), seconds_of(text) < 40), (0, 4, True))
+
+
+def hangs(folder, path, failures):
+    """A client that answers no further handshake is waited for less."""
+    at = ["127.0.0.1:%d" % client.free_port("127.0.0.1"), "--torrent", path]
+    hung = ["--start", listener("seed", path, "later connections are answered"), "--patience", "2"]
+    status, text, _ = run(*at, *own_cases(folder, "hung.txt", READS.format(rows=rows(60))), *hung)
+    failures.same("60 cases of a client that hangs: %s" % text.splitlines()[-1], (status, seconds_of(text) < 30), (0, True))
+
+
+def crowds(folder, path, failures):
+    """A crowd's handshakes are waited for at the same time."""
+    at = ["127.0.0.1:%d" % client.free_port("127.0.0.1"), "--torrent", path]
+    slow = listener("seed", path, "connections are taken at once")
+    status, text, _ = run(*at, *own_cases(folder, "crowds.txt", CROWDS), "--start", slow)
+    failures.same("a crowd of 20, three a second: %s" % text.splitlines()[-1], (status, seconds_of(text) < 18), (0, True))
+
+
+def several(folder, path, failures):
+    """Several clients of --start share the cases; those that can't be used get none."""
+    at = ["127.0.0.1:%d" % client.free_port("127.0.0.1"), "--torrent", path]
+    slow = listener("seed", path, "connections are taken at once")
+    log, reads = os.path.join(folder, "several.log"), own_cases(folder, "several.txt", READS.format(rows=rows(42)))
+    words = ["--start", "echo {dir} >> %s; %s" % (log, slow)]
+    status, text, _ = run(*at, *reads, *words)
+    with open(log, encoding="utf8") as file:
+        places = file.read().split()
+    failures.same("several clients: %s: %s" % (places, text.splitlines()[-1]), (status, len(places) == len(set(places)) > 2), (0, True))
+    failures.same("the order of several clients' cases", re.findall(r"^pass +my\.read/(\d+) ", text, re.M), [str(number) for number in range(42)])
+    # Further clients that can't be used, since the first one has what only one can have.
+    lock = os.path.join(folder, "lock")
+    alike = listener("seed", path), listener("seed", path, "the handshake is first")
+    status, text, _ = run(*at, *reads, "--start", "if mkdir %s; then %s; else %s; fi # {dir}" % (lock, *alike))
+    failures.same("further clients that can't be used: %s" % text, status, 0)
+    os.remove(log)
+    run(*at, *reads, "--only", "my.read/[1-3]*", *words, "--clients", "1")
+    with open(log, encoding="utf8") as file:
+        failures.same("--clients 1", len(file.read().split()), 1)
+
+
+def deaths_of_several(folder, path, failures):
+    """Of several clients each death is given to its case, as it is of one."""
+    at, log = "127.0.0.1:%d" % client.free_port("127.0.0.1"), os.path.join(folder, "deaths.log")
+    chosen = ["--only", "unk.id/1*,hs.plain,hs.bytewise,hs.split,hs.zero-hash,hs.wrong-hash,ka.one,md.get,md.last,own.first,ex.off"]
+    start = ["--start", "echo {dir} >> %s; %s" % (log, listener("seed", path, "it lives on"))]
+    found = []
+    for more in ([], ["--clients", "1", "--at-once", "1"]):
+        status, text, _ = run(at, "--torrent", path, *chosen, *start, *more)
+        lines = re.findall(r"^(pass|fail|skip|info|note) +(\S+) .*?(DIED)?(?: \(status 70\))?$", text, re.M)
+        found.append((status, lines, re.search("; THE CLIENT DIED in (.*)", text)))
+    failures.same("deaths of several clients", found[0][:2], found[1][:2])
+    died = [name for _, name, word in found[1][1] if word]
+    failures.same("deaths", ([name.split("/")[0] for name in died], found[1][0]), (["unk.id"] * 5 + ["ex.off", "md.last"], 4))
+    failures.same("deaths, in order", [one and one[1].split(", ") for _, _, one in found], [died, died])
+
+
+def bounded(loaded, subject, failures):
+    """Never are more connections open than --at-once says, and never are more than four unchoked for cases."""
+    chosen = [case for case in loaded if case.id.startswith(("rq.", "unk.")) and not case.alone and "seed" in case.modes]
+    played, watched = against(subject, "seed", chosen, suite.Options(6, 6, "all", 9))
+    lock, now, most = threading.Lock(), collections.Counter(), collections.Counter()
+    link_, play = played.dialler.link, played.play
+
+    def add(name, number):
+        with lock:
+            now[name] += number
+            most[name] = max(most[name], now[name])
+
+    def linked():
+        found = link_()
+        add("open", 1)
+        close = found.close
+        found.close = lambda: (add("open", -1), close())
+        return found
+
+    def counted(case, *words):
+        unchoked = any(word == "unchoked" for word, _ in case.steps)
+        add("unchoked", unchoked)
+        try:
+            return play(case, *words)
+        finally:
+            add("unchoked", -unchoked)
+    played.dialler.link, played.play = linked, counted
+    played.run()
+    failures.same("the most at a time", most, {"open": 9, "unchoked": 4})
+    watched.stop()
+
+
+def one_by_one(loaded, subject, failures):
+    """A silent client's results are those of one case at a time, and they are told in the order of the cases."""
+    names = ["hs.plain", "unk.id/10", "bf.late", "rq.cancel-beyond", "fs.missing", "ex.size/0", "dh.message/fine", "md.get"]
+    chosen, found = [case for case in loaded if case.id in names], []
+    for at_once_ in (1, WORKERS):
+        told = []
+        played, watched = against(subject, "seed", chosen, suite.Options(1.5, 2, "all", at_once_), "questions are answered after it")
+        played.tell = told.append
+        played.run()
+        watched.stop()
+        found.append([(result["id"], result["result"], result["state"]) for result in told])
+    failures.same("at the same time, and one by one", found[1], found[0])
+    failures.same("told in order", [name for name, _, _ in found[1]], [case.id for case in chosen])
+
+
+def whole(path, failures):
+    """A whole run takes 60 seconds if the client answers, and 120 if it is silent."""
+    rows_ = [("", 60), ("connections are taken at once", 60), ("an interested peer is unchoked", 120),
+             ("questions are answered after it", 120), ("later connections are answered", 120)]
+
+    def play(broken, most):
+        at = "127.0.0.1:%d" % client.free_port("127.0.0.1")
+        # (with a folder, so that several clients share the cases of one that is slow)
+        start = listener("seed", path, broken) + (" {dir}" if broken == "connections are taken at once" else "")
+        text = run(at, "--torrent", path, "--start", start)[1]
+        print("%s: %s" % (broken or "right", text.splitlines()[-1]), flush=True)
+        failures.same("a whole run, %s" % (broken or "right"), seconds_of(text) < most, True)
+    # (they mostly wait)
+    at_once([lambda row=row: play(*row) for row in rows_], 3)
 
 
 # `serve` and `fetch`.
@@ -506,7 +1045,7 @@ def ours(path, failures):
 
 def main(words):
     begin, failures, loaded = time.monotonic(), Failures(), cases.load()
-    wanted = words[1:] or ["stated", "right", "mutants", "command", "ours"]
+    wanted = words[1:] or ["stated", "right", "mutants", "command", "times", "ours"]
     try:
         proved.load()
     except proved.Missing as missing:
@@ -520,14 +1059,23 @@ def main(words):
                        lambda: stated(loaded, subject, failures)],
             "right": [lambda: right(loaded, subject, failures)],
             "mutants": [lambda: mutants(loaded, subject, failures)],
-            "command": [lambda: separate(loaded, subject, failures), lambda: lessons(path, failures),
+            "command": [lambda: separate(loaded, subject, failures), lambda: taken_away(loaded, subject, failures), lambda: lessons(path, failures),
                         lambda: refusals(path, failures), lambda: dials(path, failures), lambda: interrupted(path, failures),
-                        lambda: outputs(folder, path, failures), lambda: replays(loaded, subject, path, failures)],
+                        lambda: unplayed(folder, path, failures), lambda: terminated(folder, path, failures, "seed", "mode seed"),
+                        lambda: terminated(folder, path, failures, "leech", "mode leech\nfresh"),
+                        lambda: again(folder, path, failures), lambda: outputs(folder, path, failures), lambda: replays(loaded, subject, path, failures),
+                        lambda: tapped(folder, path, failures), lambda: writes_known(folder, path, failures)],
+            "times": [lambda: waits(folder, path, failures), lambda: silent_floods(folder, path, failures),
+                      lambda: hangs(folder, path, failures), lambda: crowds(folder, path, failures), lambda: several(folder, path, failures),
+                      lambda: deaths_of_several(folder, path, failures), lambda: seen_by_pid(folder, path, failures),
+                      lambda: seen_by_child(folder, path, failures), lambda: bounded(loaded, subject, failures),
+                      lambda: one_by_one(loaded, subject, failures)],
             "ours": [lambda: ours(path, failures)],
+            "whole": [lambda: whole(path, failures)],
         }
         # What plays against a client in this process has it for itself: its answers have a time.
-        for names in (("ours", "command", "stated"), ("right",), ("mutants",)):
-            at_once([part for name in names if name in wanted for part in parts[name]], 8)
+        for names in (("ours", "command", "stated"), ("times",), ("right",), ("mutants",), ("whole",)):
+            at_once([part for name in names if name in wanted for part in parts[name]], 10)
     said = "ok" if not failures.count else "%d failed" % failures.count
     print("peertest: %s: %d cases, %d mutants" % (said, len(loaded), len(MUTANTS)))
     if time.monotonic() - begin > 60:

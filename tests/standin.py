@@ -11,6 +11,7 @@ keep it.
 import hashlib
 import os
 import re
+import select
 import socket
 import struct
 import sys
@@ -294,7 +295,7 @@ class Connection:
     def on_interest(self, number, fields):
         if self.counted("interest") > 100 and not self.keeps("interest may change"):
             raise Close
-        if number == 2 and self.mode == "seed" and self.choking:
+        if number == 2 and self.mode == "seed" and self.choking and self.keeps("an interested peer is unchoked"):
             self.choking = False
             self.send(message(1))
 
@@ -593,7 +594,7 @@ class Client:
     def __init__(self, torrent, mode, broken=None, address=("127.0.0.1", 0)):
         self.torrent, self.mode, self.broken = torrent, mode, broken
         self.pieces, self.metadata = set(), b"" if mode == "magnet" else torrent.info
-        self.count, self.ends, self.sources, self.dead = 0, [], [], False
+        self.count, self.ends, self.sources, self.dead, self.left = 0, [], [], False, 0
         self.door = socket.socket(socket.AF_INET6 if ":" in address[0] else socket.AF_INET)
         self.door.setsockopt(socket.SOL_SOCKET, socket.SO_REUSEADDR, 1)
         self.door.bind(address)
@@ -617,6 +618,8 @@ class Client:
     def accept(self):
         while True:
             try:
+                if not self.keeps("connections are taken at once"):
+                    self.wait_for_second()
                 end, source = self.door.accept()
             except OSError:
                 return
@@ -630,6 +633,13 @@ class Client:
                 continue
             threading.Thread(target=self.talk, args=(end,), daemon=True).start()
 
+    def wait_for_second(self):
+        """Waits so that three connections are taken when a second begins, and none before the next one."""
+        if self.left == 0 or not select.select([self.door], [], [], 0)[0]:
+            time.sleep(1 - time.monotonic() % 1)
+            self.left = 3
+        self.left -= 1
+
     @staticmethod
     def shut(end):
         try:
@@ -639,6 +649,9 @@ class Client:
         end.close()
 
     def talk(self, end):
+        # (the first two are the suite's first look and its gate)
+        if len(self.sources) > 3 and not self.keeps("later connections are answered"):
+            return
         try:
             end.setsockopt(socket.IPPROTO_TCP, socket.TCP_NODELAY, 1)
             Connection(self, end).run()

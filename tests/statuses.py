@@ -7,7 +7,10 @@ PROGRAM is the built program, or else the script `bt_tool` at the top of the rep
 docs/RULES.md and docs/COMMANDS.md. The texts of help, usage and of mistakes aren't fixed: a row has TEXT where some text has to be, and Parts
 where a text has to have some parts.
 """
+import bz2
+import gzip
 import hashlib
+import lzma
 import os
 import re
 import subprocess
@@ -40,6 +43,11 @@ class Hint:
 # Input that can't be read, and output that can't be written.
 FOLDER, FULL = object(), object()
 
+# Why a file can't be read, as the system says it.
+NO_FILE = b"fault: read: No such file or directory (os error 2)\n"
+NO_SUCH = b"none: " + NO_FILE
+IS_FOLDER = b"fault: read: it is a directory\n"
+NO_CAPTURE = b"a: fault: capture: neither a pcap nor a pcapng file\n"
 HASH = "a9993e364706816aba3e25717850c26c9cd0d89d"
 PEER = b"-XX0001-000000000000"
 HAND = b"\x13BitTorrent protocol" + bytes.fromhex("0000000000100005") + bytes.fromhex(HASH) + PEER
@@ -51,6 +59,12 @@ REQUEST = b"d8:msg_typei0e5:piecei0ee"
 # A piece message of which much comes after the first read.
 LONG = bytes.fromhex("00030d49 07 00000001 00000000") + bytes(200000)
 MISTAKE = Parts(b"error: ", b"Usage: bt_tool ")
+
+
+def by(program, reader):
+    """The line on a capture that a program has compressed, and on the command that reads it."""
+    return b"capture: compressed by %s; this reads it: %s -c FILE | bt_tool capture\n" % (program.encode(), reader.encode())
+
 
 NUMBER = "a number from 0 to 4294967295"
 # The file with the digits of the digest over the sources, which `--version` prints.
@@ -147,7 +161,7 @@ ROWS = [
     ("fetch %s --peers -" % HASH, b"#" * 16777216, b"", b"not fetched in 0 s tried=0 silent=0 unreachable=0 refused=0\n", 1),
     ("fetch %s --peers -" % HASH, b"#" * 16777217, b"", Parts(b"error: '-', the file of '--peers', has more than 16777216 bytes"), 2),
     ("fetch %s --peers -" % HASH, FOLDER, b"", b"fault: read\n", 3),
-    ("fetch %s --peers none" % HASH, b"", b"", b"none: fault: read\n", 3),
+    ("fetch %s --peers none" % HASH, b"", b"", NO_SUCH, 3),
     ("fetch " + HASH + " 127.0.0.1:9 --limit 32767", b"", b"", MISTAKE, 2),
     ("fetch " + HASH + " 127.0.0.1:9 --limit 1048577", b"", b"", MISTAKE, 2),
     ("fetch " + HASH + " 127.0.0.1:9 --window 0", b"", b"", MISTAKE, 2),
@@ -417,7 +431,7 @@ COMMANDS = {
     "unpack": ("bt_tool unpack [OPTIONS] [FILE]", RECEIVER, ["--torrent", "--hints no"]),
     "pack": ("bt_tool pack [OPTIONS] [FILE]", RECEIVER, ["--window 1", "--info-hash 00"]),
     "link": ("bt_tool link [FILE]", "", ["--limit 32768", "--hints always", "a b"]),
-    "capture": ("bt_tool capture [OPTIONS] [FILE]", "pieces torrent limit show stream json",
+    "capture": ("bt_tool capture [OPTIONS] [FILE]", "pieces torrent limit show stream json strict-status",
                 ["--rules bep", "--json a b", "--pieces", "--pieces x", "--pieces 4294967296", "--pieces 1 --torrent a b", "--torrent",
                  "--torrent a --torrent a b", "--torrent -", "--torrent - -", "--limit 0", "--limit 1048577", "--limit x", "--show=1", "--stream",
                  "--stream 0", "--stream 0-", "--stream -A", "--stream 0-C", "--stream 0-a", "--stream 0-A-A", "--stream x-A",
@@ -667,9 +681,9 @@ FILES = [
     ("check a b a", {"a": HAND, "b": b"\x13Bit"}, b"",
      b"a: ok messages=0 bytes=68\nb: refused message=0 at=4 EndInside\na: ok messages=0 bytes=68\n", b"", 1),
     ("check a none . b", {"a": HAND, "b": b""}, b"", b"a: ok messages=0 bytes=68\nb: refused message=0 at=0 EndInside\n",
-     b"none: fault: read\n.: fault: read\n", 3),
+     NO_SUCH + b".: " + IS_FOLDER, 3),
     (["check", "a", "", "b"], {"a": HAND, "b": HAND}, b"", b"a: ok messages=0 bytes=68\nb: ok messages=0 bytes=68\n",
-     b": fault: read\n", 3),
+     b": " + NO_FILE, 3),
     ("check a b", {"a": HAND, "b": HAND}, b"", FULL, b"fault: write\n", 3),
     ("pack -", {}, LINE, HAND, b"", 0),
     ("show - --metadata-id 3 --reserved=0000000000000000", {}, HAND + HAVE_ALL, shown(*NOT_NEGOTIATED), b"", 1),
@@ -686,13 +700,14 @@ FILES = [
     ("-- show", {}, HAND, b"", lacks("--"), 2),
     ("-", {}, HAND, b"", lacks("-"), 2),
     ("a", {"a": HAND}, b"", b"", Parts(b"error: ", b"'a'", b"Usage: bt_tool [COMMAND] [OPTIONS] [FILE]\n"), 2),
-    ("show none", {}, HAND, b"", b"none: fault: read\n", 3),
-    ("show .", {}, HAND, b"", b".: fault: read\n", 3),
-    ("check .", {}, HAND, b"", b".: fault: read\n", 3),
-    ("unpack none", {}, HAND, b"", b"none: fault: read\n", 3),
-    ("pack .", {}, LINE, b"", b".: fault: read\n", 3),
-    ("link none", {}, TWO, b"", b"none: fault: read\n", 3),
-    ("capture none", {}, b"", b"", b"none: fault: read\n", 3),
+    ("show none", {}, HAND, b"", NO_SUCH, 3),
+    ("show .", {}, HAND, b"", b".: " + IS_FOLDER, 3),
+    ("check .", {}, HAND, b"", b".: " + IS_FOLDER, 3),
+    ("unpack none", {}, HAND, b"", NO_SUCH, 3),
+    ("pack .", {}, LINE, b"", b".: " + IS_FOLDER, 3),
+    ("link none", {}, TWO, b"", NO_SUCH, 3),
+    ("capture none", {}, b"", b"", NO_SUCH, 3),
+    ("capture a/b", {"a": REFUSED}, b"", b"", b"a/b: fault: read: Not a directory (os error 20)\n", 3),
     ("capture a", {"a": REFUSED[:10]}, b"", b"", CUT_IN_PACKET + b"no BitTorrent connection in 0 packets; 0 of them aren't TCP\n", 3),
     ("capture -", {}, REFUSED[:24], b"", b"no BitTorrent connection in 0 packets; 0 of them aren't TCP\n", 3),
     ("capture", {}, REFUSED[:900], TEXT, CUT_IN_PACKET, 0),
@@ -701,7 +716,15 @@ FILES = [
     ("capture --pieces=39", {}, REFUSED, TEXT, b"", 0),
     ("capture --json --pieces 38 a", {"a": REFUSED}, b"", REPORT_38, b"", 1),
     ("capture --json", {}, REFUSED[:24], b"", b"no BitTorrent connection in 0 packets; 0 of them aren't TCP\n", 3),
-    ("capture a", {"a": HAND}, b"", b"", b"a: fault: capture: neither a pcap nor a pcapng file\n", 3),
+    ("capture a", {"a": HAND}, b"", b"", NO_CAPTURE, 3),
+    # compressed captures
+    ("capture a", {"a": gzip.compress(REFUSED)}, b"", b"", NO_CAPTURE + by("gzip", "gunzip"), 3),
+    ("capture a", {"a": bz2.compress(REFUSED)}, b"", b"", NO_CAPTURE + by("bzip2", "bunzip2"), 3),
+    ("capture a", {"a": lzma.compress(REFUSED)}, b"", b"", NO_CAPTURE + by("xz", "unxz"), 3),
+    ("capture a", {"a": bytes.fromhex("28b52ffd0458") + REFUSED}, b"", b"", NO_CAPTURE + by("zstd", "unzstd"), 3),
+    ("capture a", {"a": bytes.fromhex("04224d186440") + REFUSED}, b"", b"", NO_CAPTURE + by("lz4", "unlz4"), 3),
+    ("capture", {}, gzip.compress(REFUSED), b"", NO_CAPTURE[3:] + by("gzip", "gunzip"), 3),
+    ("capture a", {"a": gzip.compress(REFUSED)[:1]}, b"", b"", NO_CAPTURE, 3),
     # a .torrent: its connections have its piece count, and others none
     ("capture --json --torrent t a", {"t": TORRENT_38, "a": of(TORRENT_38)}, b"",
      REPORT_38.replace(HASH.encode(), hash_of(TORRENT_38).hex().encode()), b"", 1),
@@ -711,8 +734,8 @@ FILES = [
     # more than 52,428 pieces
     ("capture --torrent t a", {"t": TORRENT_52429, "a": of(TORRENT_52429)}, b"", TEXT, b"", 0),
     # files that are none
-    ("capture --torrent none a", {"a": REFUSED}, b"", b"", b"none: fault: read\n", 3),
-    ("capture --torrent . a", {"a": REFUSED}, b"", b"", b".: fault: read\n", 3),
+    ("capture --torrent none a", {"a": REFUSED}, b"", b"", NO_SUCH, 3),
+    ("capture --torrent . a", {"a": REFUSED}, b"", b"", b".: " + IS_FOLDER, 3),
     ("capture --torrent t a", {"t": b"", "a": REFUSED}, b"", b"", NO_DICTIONARY, 3),
     ("capture --torrent t a", {"t": TORRENT_38[:-1], "a": REFUSED}, b"", b"", NO_DICTIONARY, 3),
     ("capture --torrent t a", {"t": TORRENT_38 + b"\n", "a": REFUSED}, b"", b"", NO_DICTIONARY, 3),
@@ -728,7 +751,7 @@ FILES = [
     ("capture --stream 0-B -", {}, REFUSED[:900], streamed(6881), CUT_IN_PACKET, 0),
     ("capture --stream 1-A a", {"a": REFUSED}, b"", b"", b"no connection 1\n", 3),
     ("capture --stream 4294967295-B", {}, REFUSED, b"", b"no connection 4294967295\n", 3),
-    ("capture --stream 0-A a", {"a": HAND}, b"", b"", b"a: fault: capture: neither a pcap nor a pcapng file\n", 3),
+    ("capture --stream 0-A a", {"a": HAND}, b"", b"", NO_CAPTURE, 3),
     ("capture a", {"a": REFUSED + BAD_RECORD}, b"", TEXT, b"a: " + BAD_LENGTH, 3),
     ("capture", {}, REFUSED + BAD_RECORD, TEXT, BAD_LENGTH, 3),
     ("capture", {}, REFUSED[:24] + BAD_RECORD, b"", BAD_LENGTH, 3),
@@ -788,9 +811,9 @@ FILES = [
     ("check --other other a", {"other": b"BitTorrent protocol", "a": HAND}, b"", b"", NO_HANDSHAKE, 2),
     ("unpack --other other a", {"other": LINE, "a": HAND}, b"", b"", NO_HANDSHAKE, 2),
     ("pack --other other a", {"other": b"\x13BitTorrent protocoL" + bytes(48), "a": LINE}, b"", b"", NO_HANDSHAKE, 2),
-    ("show --other none a", {"a": HAND}, b"", b"", b"none: fault: read\n", 3),
-    ("show --other . a", {"a": HAND}, b"", b"", b".: fault: read\n", 3),
-    ("pack --other . a", {"a": LINE}, b"", b"", b".: fault: read\n", 3),
+    ("show --other none a", {"a": HAND}, b"", b"", NO_SUCH, 3),
+    ("show --other . a", {"a": HAND}, b"", b"", b".: " + IS_FOLDER, 3),
+    ("pack --other . a", {"a": LINE}, b"", b"", b".: " + IS_FOLDER, 3),
 ]
 
 # Words whose output nobody reads, and standard input.
@@ -1359,7 +1382,7 @@ def has_help(program, name):
     with_values = re.findall(r"^ +--(\S+) <[\w-]+> .* \[default: .+\]$", text, re.M)
     return (texts[1:] == [texts[0]] * 2 and texts[0][1:] == (b"", 0) and "\n\nUsage: %s\n" % usage in text
             and sections == ["Usage", "Options", "Example", "Exit status"] and sorted(lines) == sorted(options.split() + ["help"])
-            and set(lines) - set(with_values) <= {"help", "json", "show", "torrent"}
+            and set(lines) - set(with_values) <= {"help", "json", "show", "strict-status", "torrent"}
             and "\nExample:\n  bt_tool %s " % name in text and "\n  2    Usage error" in text)
 
 

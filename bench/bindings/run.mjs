@@ -1,15 +1,15 @@
 // Measures bt.mjs beside loops by hand (hand.mjs), in turn, and prints a line for each: NAME, SECONDS BY HAND, SECONDS OURS.
 //
-// usage: node --experimental-wasm-memory64 bench/bindings/run.mjs FOLDER
+// usage: node bench/bindings/run.mjs FOLDER
 //
-// FOLDER has the streams small.bin, blocks.bin and ext.bin. Each time is the best of TIMES runs, 15 if it isn't given. BT_WASM is the
-// library, if it isn't dist/bt.wasm.
+// FOLDER has the streams small.bin, blocks.bin and ext.bin. Each time is the best of TIMES runs, 15 if it isn't given. With BT_WASM it
+// measures that WebAssembly, for which Node 20 and 22 need --experimental-wasm-memory64.
 import fs from 'node:fs';
 import { load } from '../../bindings/js/bt.mjs';
 import * as hand from './hand.mjs';
 
-const [folder] = process.argv.slice(2), TIMES = Number(process.env.TIMES ?? 15), PASSES = 5, CHUNK = 65536;
-const bt = await load(process.env.BT_WASM);
+const [folder] = process.argv.slice(2), TIMES = Number(process.env.TIMES ?? 15), PASSES = 5, CHUNK = 65536, SHORT = 40;
+const bt = await load(process.env.BT_WASM || undefined);
 const [small, blocks, ext] = ['small', 'blocks', 'ext'].map(name => new Uint8Array(fs.readFileSync(`${folder}/${name}.bin`)));
 
 // Each job is a function of its own, so that the engine specializes it for its kind of item.
@@ -17,9 +17,9 @@ const job = (source, body) => new Function('source', `return stream => { let sum
 const START = 'sum += item.start', FIELDS = 'sum += item.start + item.id + item.index', BODY = 'sum += item.id === 7 ? item.body.length : 1';
 const pair = (name, stream, body, one, two) => [name, stream, job(one, body), job(two, body)];
 
-function* fed(stream) {
+function* fed(stream, size = CHUNK) {
   const feed = bt.feed();
-  for (let at = 0; at < stream.length; at += CHUNK) yield* feed.push(stream.subarray(at, at + CHUNK));
+  for (let at = 0; at < stream.length; at += size) yield* feed.push(stream.subarray(at, at + size));
   yield* feed.finish();
 }
 
@@ -34,8 +34,10 @@ function summed(stream) {
 const read = stream => bt.read(stream), fedByHand = stream => hand.feed(stream, CHUNK);
 const ROWS = [
   pair('read small, start', small, START, hand.read, read), pair('read small, start id index', small, FIELDS, hand.read, read),
-  pair('feed small', small, FIELDS, fedByHand, fed), ['columns small', small, job(hand.read, FIELDS), summed],
-  pair('read blocks', blocks, BODY, hand.read, read), pair('read ext', ext, START, hand.read, read),
+  pair('feed small', small, FIELDS, fedByHand, fed),
+  pair('feed small, 40 bytes', small, FIELDS, stream => hand.feed(stream, SHORT), stream => fed(stream, SHORT)),
+  ['columns small', small, job(hand.read, FIELDS), summed],
+  pair('read blocks', blocks, BODY, hand.read, read), pair('feed blocks', blocks, BODY, fedByHand, fed), pair('read ext', ext, START, hand.read, read),
 ];
 
 function seconds(run, stream) {

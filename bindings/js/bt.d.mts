@@ -27,7 +27,25 @@ export class Refused extends Error {
   readonly at: number;
   readonly reason: Reason;
   readonly number: number;
+  toJSON(): RefusedVerdict;
+  jsonLine(): string;
 }
+
+/** The verdict on a stream, as `bt_tool show --json` prints it. */
+export interface AcceptedVerdict {
+  readonly verdict: 'ok';
+  /** How many messages follow the handshake. */
+  readonly messages: number;
+  readonly bytes: number;
+}
+export interface RefusedVerdict {
+  readonly verdict: 'refused';
+  /** The number of the message; 0 is the handshake. */
+  readonly message: number;
+  readonly offset: number;
+  readonly reason: Reason;
+}
+export type Verdict = AcceptedVerdict | RefusedVerdict;
 
 /** The handshake or a message. A field that this kind of item doesn't have is null. */
 export class Item {
@@ -54,7 +72,9 @@ export class Item {
   readonly utMetadata: number | null;
   readonly rest: Uint8Array | null;
   toObject(): Record<string, unknown>;
-  toJSON(): Record<string, unknown>;
+  /** The members that `bt_tool show --json` has. */
+  toJSON(): { readonly offset: number; readonly item: string } & Record<string, unknown>;
+  jsonLine(): string;
 }
 
 /** A row an item, and 0 for what an item doesn't have. `body` are sizes. */
@@ -116,7 +136,10 @@ export interface Writer {
 export interface Wire {
   read(bytes: Bytes, own?: Own): IterableIterator<Item>;
   columns(bytes: Bytes, own?: Own): Columns;
+  /** How many messages follow the handshake. Throws Refused. */
   check(bytes: Bytes, own?: Own): number;
+  /** The same, and what `check` throws. */
+  verdict(bytes: Bytes, own?: Own): Verdict;
   feed(own?: Own): Feed;
   handshake(infoHash: Bytes, peerId: Bytes, reserved?: bigint | number): Uint8Array;
   writer(own: Own | undefined, reserved: bigint | number): Writer;

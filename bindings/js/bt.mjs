@@ -1,49 +1,56 @@
-// The BitTorrent peer wire (BEP 3, 5, 6, 9 and 10) for Node and browsers, over the proved library dist/bt.wasm.
+// The BitTorrent peer wire (BEP 3, 5, 6, 9 and 10) for Node and browsers, over the proved library: bt.node in Node, else bt.wasm.
 //
-//   const bt = await load();                                // or of a path, a URL, bytes or a module
+//   const bt = await load();
 //   for (const item of bt.read(bytes)) console.log(item.start, item.name);
 //
 // end.mjs has an end of a connection, for Node. Nothing of this file is proved. A library is used by one thread.
-import { END, inNode, ITEM, ITEM_SIZE, Library, MORE, OWN_SIZE, READER_SIZE, REFUSED } from './library.mjs';
-import { batchOf, completed, content, DHT, EXTENSIONS, FAST, fill, Id, Item, Items, KEPT, Kind, kindOf, number, Refused } from './values.mjs';
+import { END, inNode, ITEM, Library, MORE, packOwn, REFUSED } from './library.mjs';
+import { appended, completed, content, DHT, EXTENSIONS, FAST, Id, Item, Items, KEPT, Kind, kindOf, number, Refused } from './values.mjs';
+import { Wasm } from './wasm.mjs';
 
 export { DHT, EXTENSIONS, FAST, Id, Item, Kind, Refused };
 
 const HEAD = 17, DICT = 160;    // what a message has besides its body, and a dictionary that the library writes
-const ROOM = 2048, WINDOW = 65536;
+const NOTHING = new Uint8Array();
 
 /**
  * Loads the library, and returns its calls.
- * @param {string | URL | BufferSource | WebAssembly.Module} [source] A path (in Node) or URL of bt.wasm, or its bytes, or the module. If
- *  it is left out, bt.wasm beside this file, or in Node that of the repository.
+ * @param {string | URL | BufferSource | WebAssembly.Module} [source] A path (in Node) or URL of bt.wasm, or its bytes, or the module; or the
+ *  path or file URL of bt.node. If it is left out, in Node the addon if it is there, and otherwise bt.wasm: that beside this file, or that
+ *  of the repository. BT_ADDON of the environment may name the addon.
  */
 export async function load(source) {
-  source ??= await usual();
-  if (typeof source === 'string' || source instanceof URL) source = await fetched(source);
-  return new Wire(await Library.make(source));
+  if (source === undefined) return new Wire(inNode() ? await usualInNode() : await wasmOf(new URL('bt.wasm', import.meta.url)));
+  return new Wire(isAddon(source) ? await addonOf(source) : await wasmOf(source));
 }
 
-async function usual() {
-  const beside = new URL('bt.wasm', import.meta.url);
-  if (!inNode() || (await import('node:fs')).existsSync(beside)) return beside;
-  return new URL('../../dist/bt.wasm', import.meta.url);
+const isAddon = source => (typeof source === 'string' || source instanceof URL) && /\.node$/.test(String(source));
+
+async function addonOf(source) {
+  const { Addon, addonAt } = await import('./addon.mjs');
+  return new Addon(addonAt(source));
+}
+
+async function wasmOf(source) {
+  return new Wasm(await Library.make(typeof source === 'string' || source instanceof URL ? await fetched(source) : source));
+}
+
+/** The addon if Node can load it, and otherwise bt.wasm. If neither can be, the error says why. */
+async function usualInNode() {
+  const { Addon, usualAddon } = await import('./addon.mjs');
+  try {
+    return new Addon(usualAddon());
+  } catch (why) {
+    const beside = new URL('bt.wasm', import.meta.url), isThere = (await import('node:fs')).existsSync(beside);
+    return wasmOf(isThere ? beside : new URL('../../dist/bt.wasm', import.meta.url)).catch(error => {
+      throw new Error(`${why.message} ${error.message}`, { cause: why });
+    });
+  }
 }
 
 async function fetched(source) {
   if (inNode() && !/^https?:/.test(String(source))) return (await import('node:fs/promises')).readFile(source);
   return (await fetch(source)).arrayBuffer();
-}
-
-/** Writes the bt_item of a message, of numbers that fit, and returns its address. */
-function putItem({ view, bytes, item }, { index = 0, begin = 0, length = 0, port = 0, id, extendedId = 0 }) {
-  bytes.fill(0, item, item + ITEM_SIZE);
-  view.setUint32(item + 32, Number(number(index, 32, 'index')), true);
-  view.setUint32(item + 36, Number(number(begin, 32, 'begin')), true);
-  view.setUint32(item + 40, Number(number(length, 32, 'length')), true);
-  view.setUint16(item + 44, Number(number(port, 16, 'port')), true);
-  view.setUint16(item + 46, Number(number(id, 16, 'id')), true);
-  view.setUint8(item + 48, Number(number(extendedId, 8, 'extendedId')));
-  return item;
 }
 
 /** The fields of a message, none of which may be left out. */
@@ -55,18 +62,14 @@ function given(fields) {
 
 /** The calls of a loaded library. Each receiver is {reserved, infoHash, pieces, metadataId, donthaveId, strict, limit}; what is left out is usual. */
 class Wire {
-  /** @param {Library} library */
+  /** @param {import('./addon.mjs').Addon | Wasm} library */
   constructor(library) {
     this.library = library;
-    this.items = library.take((ROOM + 1) * ITEM_SIZE);
-    this.area = library.take(WINDOW);
-    this.room = WINDOW;
-    this.names = [];
   }
 
   /** Returns an iterator over the items of a whole stream. It throws Refused. */
   read(bytes, own) {
-    const feed = new Feed(this, own);
+    const feed = new Feed(this.library, own);
     feed.bytes = content(bytes, 'bytes');
     return feed.items(true);
   }
@@ -76,16 +79,16 @@ class Wire {
    * of its item. A stream that breaks a rule isn't thrown: `refused` says it, and the rows are those before.
    */
   columns(bytes, own) {
-    const reader = new Reader(this, own), whole = content(bytes, 'bytes');
+    const reader = new Reader(this.library, own), whole = content(bytes, 'bytes');
     let columns = grown(null, 0, 0), rows = 0, refused = null;
     try {
       for (let at = 0; ;) {
         const { count, used } = reader.next(whole, at, true);
         if (!count) break;
-        at += used;
         // as many as there are if the rest is alike
-        if (rows + count > columns.id.length) columns = grown(columns, rows, Math.ceil(1.1 * (rows + count) * whole.length / at));
-        fill(columns, rows, this.words(count), count);
+        if (rows + count > columns.id.length) columns = grown(columns, rows, Math.ceil(1.1 * (rows + count) * whole.length / (at + used)));
+        this.library.fill(columns, rows, whole.subarray(at), at);
+        at += used;
         rows += count;
       }
     } catch (error) {
@@ -96,66 +99,44 @@ class Wire {
     return { ...columns, refused };
   }
 
-  /** Judges a whole stream, and returns how many messages it has. Throws Refused. */
+  /** Judges a whole stream, and returns how many messages follow its handshake. Throws Refused. */
   check(bytes, own) {
-    const { library } = this, { calls, small } = library;
-    library.putOwn(library.own, completed(own));
-    const n = this.put(content(bytes, 'bytes'));
-    const answer = calls.bt_check(BigInt(library.own), BigInt(this.area), n, BigInt(small));
-    const { message, at, reason } = library.verdict(small);
-    if (answer !== END) throw new Refused(at, reason, message);
-    return message;
+    return this.judged(bytes, own).message;
+  }
+
+  /** Judges a whole stream, and returns the verdict, as `bt_tool show --json` prints it. It doesn't throw Refused. */
+  verdict(bytes, own) {
+    try {
+      const { message, at } = this.judged(bytes, own);
+      return { verdict: 'ok', messages: message, bytes: at };
+    } catch (error) {
+      if (!(error instanceof Refused)) throw error;
+      return error.toJSON();
+    }
+  }
+
+  judged(bytes, own) {
+    const { library } = this, found = library.check(completed(own), content(bytes, 'bytes'));
+    if (found.status !== END) throw new Refused(found.at, library.reasonName(found.reason), found.message);
+    return found;
   }
 
   /** Returns a feed: it reads a stream that comes in chunks of any size. */
   feed(own) {
-    return new Feed(this, own);
+    return new Feed(this.library, own);
   }
 
   /** Returns the 68 bytes of a handshake. */
   handshake(infoHash, peerId, reserved = FAST | DHT | EXTENSIONS) {
-    const { library } = this;
-    library.view.setBigUint64(library.small, BigInt(number(reserved, 64, 'reserved')), true);
-    library.bytes.set(content(infoHash, 'infoHash', 20), library.small + 8);
-    library.bytes.set(content(peerId, 'peerId', 20), library.small + 28);
-    library.calls.bt_write_handshake(BigInt(library.small), BigInt(library.item), 68n);
-    return library.bytes.slice(library.item, library.item + 68);
+    return this.library.handshake(BigInt(number(reserved, 64, 'reserved')), content(infoHash, 'infoHash', 20), content(peerId, 'peerId', 20));
   }
 
   /** Returns a writer, of your own values and the reserved bits of the peer's handshake. */
   writer(own, reserved) {
-    return new Writer(this, own, reserved);
-  }
-
-  /** Copies bytes into the library's memory, with room for more after them, and returns how many, as a BigInt. */
-  put(bytes, more = 0) {
-    const wanted = bytes.length + more;
-    if (wanted > this.room) {
-      this.room = Math.max(wanted, 2 * this.room);
-      this.area = this.library.take(this.room);
-    }
-    this.library.bytes.set(bytes, this.area);
-    return BigInt(bytes.length);
-  }
-
-  /** The words of the items that were read last, while they are in the library's memory. */
-  words(count) {
-    return new Uint32Array(this.library.bytes.buffer, this.items, count * WORDS);
-  }
-
-  /** The name of an item, by its id and the kind of an extended message. */
-  name(id, kind) {
-    return this.names[1024 * kind + id] ??= this.asked(id, kind);
-  }
-
-  asked(id, kind) {
-    const at = putItem(this.library, { id });
-    this.library.view.setUint8(at + 84, kind);
-    return this.library.itemName(at);
+    return new Writer(this.library, own, reserved);
   }
 }
 
-const WORDS = ITEM_SIZE / 4;
 const COLUMNS = {
   start: Float64Array, size: Uint32Array, id: Uint16Array, kind: Uint8Array, index: Uint32Array, begin: Uint32Array, length: Uint32Array,
   body: Uint32Array,
@@ -170,63 +151,44 @@ function grown(columns, rows, room) {
   }));
 }
 
-/** How far a stream is read. Its bt_reader is in the library's memory only during a call. */
+/** How far a stream is read, as a bt_reader. */
 class Reader {
-  constructor(wire, own) {
-    this.wire = wire;
+  constructor(library, own) {
+    this.library = library;
     this.count = 0;
-    this.window = WINDOW;
-    wire.library.begin(completed(own));
-    this.save();
+    /** Where the next item starts on the stream. */
+    this.start = 0;
+    /** Whether more bytes are needed for an item. */
+    this.isDry = false;
+    this.state = library.begin(completed(own));
   }
 
-  save() {
-    const { bytes, reader } = this.wire.library;
-    this.state = bytes.slice(reader, reader + READER_SIZE);
-  }
-
-  get start() {
-    return Number(new DataView(this.state.buffer).getBigUint64(READER_SIZE - 8, true));
-  }
-
-  /**
-   * Reads some items from `at` on, into the library's memory. Returns how many, 0 if no item is whole, and how many bytes they have.
-   * Throws Refused if the stream is refused there.
-   */
+  /** Reads some items from `at` on: none if no item is whole. Throws Refused if the stream is refused there. */
   next(bytes, at, ended) {
-    const { wire } = this, { library } = wire;
-    for (;;) {
-      const n = Math.min(bytes.length - at, this.window);
-      wire.put(bytes.subarray(at, at + n));
-      library.bytes.set(this.state, library.reader);
-      const { answer, count, used } = library.batch(wire.area, n, wire.items, ROOM);
-      if (!count && answer === MORE && n < bytes.length - at) {
-        this.window *= 2;
-        continue;
-      }
-      const last = !count && answer === MORE && ended ? library.finish(wire.area, n, wire.items) : answer;
-      if (!count && last === REFUSED) {
-        const refusal = library.refusal(wire.items);
-        throw new Refused(refusal.at, refusal.reason, this.count);
-      }
-      this.save();
-      this.count += count;
-      return { count, used };
-    }
+    const { library } = this, { status, count, used, place, reason } = library.batch(this.state, bytes, at, ended);
+    if (!count && status === REFUSED) throw new Refused(place, library.reasonName(reason), this.count);
+    if (!count && status === MORE && bytes.length - at >= MOST) throw new RangeError('a message has 4 GiB or more');
+    this.count += count;
+    this.start += used;
+    this.isDry = status === MORE;
+    return { count, used };
   }
 }
+
+// No item may have as many bytes.
+const MOST = 2 ** 32 - 1;
 
 /**
  * Reads a stream that comes in chunks of any size. What isn't taken from an iterator isn't lost: the next one begins with it.
  * A refusal is thrown again in each later iterator.
  */
 class Feed {
-  constructor(wire, own) {
-    this.reader = new Reader(wire, own);
+  constructor(library, own) {
+    this.reader = new Reader(library, own);
     /** What isn't read yet. */
     this.bytes = new Uint8Array();
     // The items that are read, the first word of the first that isn't taken, and the end of the words.
-    this.batch = batchOf(wire, new Uint32Array(), this.bytes, 0);
+    this.batch = { names: library.names, words: new Uint32Array(), extended: null, bytes: this.bytes, base: 0 };
     this.w = 0;
     this.end = 0;
   }
@@ -238,10 +200,8 @@ class Feed {
 
   /** Takes all bytes of the chunk, and returns an iterator over the items that are whole. It throws Refused. */
   push(chunk) {
-    const more = content(chunk, 'chunk'), bytes = new Uint8Array(this.bytes.length + more.length);
-    bytes.set(this.bytes);
-    bytes.set(more, this.bytes.length);
-    this.bytes = bytes;
+    this.bytes = appended(this.bytes, content(chunk, 'chunk'));
+    this.reader.isDry = false;
     return this.items(false);
   }
 
@@ -257,12 +217,15 @@ class Feed {
 
   /** Reads more items, and returns whether there are any. */
   fill(ended) {
-    const { reader, bytes, reader: { wire } } = this, base = reader.start, { count, used } = reader.next(bytes, 0, ended);
-    this.batch = batchOf(wire, wire.words(count), bytes, base);
+    const { reader, bytes } = this, base = reader.start;
+    if (reader.isDry && !ended) return false;
+    const { count, used } = reader.next(bytes, 0, ended);
+    if (!count) return false;
+    this.batch = reader.library.kept(bytes, base);
     this.w = 0;
-    this.end = this.batch.words.length;
+    this.end = count * KEPT;
     this.bytes = bytes.subarray(used);
-    return count > 0;
+    return true;
   }
 
   items(ended) {
@@ -299,20 +262,14 @@ class FeedItems extends Items {
  * message. It throws Refused if the peer would refuse it, and RangeError for what doesn't fit; then nothing has changed.
  */
 class Writer {
-  constructor(wire, own, reserved) {
-    this.wire = wire;
+  constructor(library, own, reserved) {
+    this.library = library;
     this.count = 1;
-    const { library } = wire, complete = completed(own);
-    library.putOwn(library.own, complete);
-    library.calls.bt_writer_init(BigInt(library.reader), BigInt(library.own), BigInt(number(reserved, 64, 'reserved')));
-    this.save();
+    const complete = completed(own);
+    // what the peer is taken to be, as a bt_reader
+    this.state = library.writer(complete, BigInt(number(reserved, 64, 'reserved')));
     const judged = new DataView(this.state.buffer);
     this.known = { ...complete, reserved: judged.getBigUint64(0, true), metadataId: judged.getUint8(18) };
-  }
-
-  save() {
-    const { bytes, reader } = this.wire.library;
-    this.state = bytes.slice(reader, reader + READER_SIZE);
   }
 
   /** What the peer is taken to be: it has announced neither its limit nor its rules, so these are yours. Set it if you know better. */
@@ -321,10 +278,8 @@ class Writer {
   }
 
   set peer(own) {
-    const { library } = this.wire;
     this.known = completed(own);
-    library.putOwn(library.own, this.known);
-    this.state.set(library.bytes.subarray(library.own, library.own + OWN_SIZE));
+    packOwn(new DataView(this.state.buffer), this.state, 0, this.known);
   }
 
   /** Takes the id for ut_metadata if the peer's item announces one. */
@@ -333,27 +288,18 @@ class Writer {
     if (item.utMetadata !== null) this.peer = { ...this.known, metadataId: item.utMetadata };
   }
 
-  /** Makes a call that writes, with a body, and returns what it wrote. `before` are its arguments. */
-  written(call, before, body, room, why) {
-    const { wire, wire: { library } } = this, n = wire.put(body, room), out = wire.area + body.length;
-    library.bytes.set(this.state, library.reader);
-    const source = call === 'bt_write_extended_handshake' ? [] : [BigInt(wire.area), n];
-    const answer = library.calls[call](BigInt(library.reader), ...before, ...source, BigInt(out), BigInt(room), BigInt(library.written));
-    if (answer === REFUSED) {
-      const refusal = library.refusal(library.written);
-      throw new Refused(refusal.at, refusal.reason, this.count);
-    }
-    if (answer !== ITEM) throw new RangeError(why);
-    this.save();
+  /** Returns what a call wrote. */
+  sent({ status, bytes, place, reason }, why) {
+    if (status === REFUSED) throw new Refused(place, this.library.reasonName(reason), this.count);
+    if (status !== ITEM) throw new RangeError(why);
     this.count += 1;
-    return library.bytes.slice(out, out + Number(library.view.getBigUint64(library.written + 8, true)));
+    return bytes;
   }
 
   /** Writes a message by its id, the numbers that the id has, and its bitfield, block or payload. */
-  message(id, { index = 0, begin = 0, length = 0, port = 0, extendedId = 0, body = new Uint8Array() } = {}) {
-    const item = putItem(this.wire.library, { index, begin, length, port, id, extendedId });
-    content(body, 'body');
-    return this.written('bt_write', [BigInt(item)], body, HEAD + body.length, `no message has the id ${id}`);
+  message(id, { index = 0, begin = 0, length = 0, port = 0, extendedId = 0, body = NOTHING } = {}) {
+    const written = this.library.write(this.state, { index, begin, length, port, id, extendedId }, content(body, 'body'), HEAD + body.length);
+    return this.sent(written, `no message has the id ${id}`);
   }
 
   keepAlive() { return this.message(Id.KEEP_ALIVE); }
@@ -378,12 +324,12 @@ class Writer {
 
   /** Writes the extended handshake: your id for ut_metadata, if it isn't 0, and the size of the metadata that you serve. */
   extendedHandshake(metadataId = 0, size = null) {
-    const before = [number(metadataId, 8, 'metadataId'), size === null ? 0 : 1, BigInt(number(size ?? 0, 63, 'size'))];
-    return this.written('bt_write_extended_handshake', before, new Uint8Array(), HEAD + DICT, 'there is no room for it');
+    const id = Number(number(metadataId, 8, 'metadataId')), shown = BigInt(number(size ?? 0, 63, 'size'));
+    return this.sent(this.library.writeExtendedHandshake(this.state, id, size === null ? 0 : 1, shown, HEAD + DICT), 'there is no room for it');
   }
 
-  metadataRequest(piece) { return this.metadata(Kind.METADATA_REQUEST, piece, 0, new Uint8Array()); }
-  metadataReject(piece) { return this.metadata(Kind.METADATA_REJECT, piece, 0, new Uint8Array()); }
+  metadataRequest(piece) { return this.metadata(Kind.METADATA_REQUEST, piece, 0, NOTHING); }
+  metadataReject(piece) { return this.metadata(Kind.METADATA_REJECT, piece, 0, NOTHING); }
 
   /** Writes a block of the metadata. */
   metadataData(piece, totalSize, block) {
@@ -392,7 +338,7 @@ class Writer {
   }
 
   metadata(kind, piece, totalSize, block) {
-    const before = [kind, Number(number(piece, 32, 'piece')), BigInt(totalSize)];
-    return this.written('bt_write_metadata', before, block, HEAD + DICT + block.length, 'the peer announced no id for ut_metadata');
+    const room = HEAD + DICT + block.length, number32 = Number(number(piece, 32, 'piece'));
+    return this.sent(this.library.writeMetadata(this.state, kind, number32, BigInt(totalSize), block, room), 'the peer announced no id for ut_metadata');
   }
 }

@@ -4,12 +4,10 @@
 //
 // Nothing of this file is proved. An end opens no socket and reads no clock. It is used by the thread that made it.
 import { once } from 'node:events';
-import { existsSync } from 'node:fs';
-import { createRequire } from 'node:module';
 import net from 'node:net';
-import { fileURLToPath } from 'node:url';
+import { namesOf, usualAddon } from './addon.mjs';
 import { ITEM_SIZE, OWN_SIZE, packOwn, REFUSED } from './library.mjs';
-import { allKnown, batchOf, completed, content, DHT, EXTENSIONS, FAST, Id, Item, Items, Kind, number, OWN, Refused } from './values.mjs';
+import { allKnown, appended, batchOf, completed, content, DHT, EXTENSIONS, FAST, Id, Item, Items, Kind, number, OWN, Refused } from './values.mjs';
 
 export { DHT, EXTENSIONS, FAST, Id, Item, Kind, Refused };
 
@@ -19,42 +17,19 @@ export const Event = Object.freeze({
 });
 
 const OPTIONS = [...OWN, 'fetch', 'serve', 'most', 'window', 'peerId'], FETCH_OPTIONS = ['timeout', 'signal', 'most', 'limit'];
-const ABI = 2, CONFIG_SIZE = 80, HEARD_SIZE = 160, WATCH = 0, SERVE = 1, FETCH = 2, SAY_NONE = 2;
+const CONFIG_SIZE = 80, HEARD_SIZE = 160, WATCH = 0, SERVE = 1, FETCH = 2, SAY_NONE = 2;
 const DONE = 0, ITEM = 1, BUSY = 5;
 const WHY = {
   6: 'out of memory', 7: 'the end is closed', 8: "limit isn't 32,768 to 1,048,576", 9: 'infoHash is missing',
   10: "serve hasn't 1 to 67,108,864 bytes",
 };
 const WITH_PIECE = [Event.BLOCK, Event.REJECTED, Event.SERVED, Event.DECLINED];
+// The greatest size of metadata.
+const MOST = 67_108_864;
 // Clients of this kind answer one request at a time: a second one makes them stop.
 const ONE_AT_A_TIME = [0x2d, 0x6c, 0x74];
 
-const addon = loaded();
-
-/** The addon: BT_ADDON of the environment, or bt.node beside this file, or that of the repository. */
-function loaded() {
-  const places = ['./bt.node', '../../dist/x86_64-linux/bt.node'].map(name => fileURLToPath(new URL(name, import.meta.url)));
-  const path = process.env.BT_ADDON ?? places.find(existsSync);
-  if (path === undefined) throw new Error(`An end needs bt.node, which isn't at ${places.join(' or ')}; BT_ADDON may name it.`);
-  if (`${process.platform} ${process.arch}` !== 'linux x64') throw new Error('An end needs Linux on x86-64, for which bt.node is built.');
-  const found = createRequire(import.meta.url)(path);
-  if (found.abi() !== ABI) throw new Error(`${path} has another version of the library's structs.`);
-  return found;
-}
-
-const known = new Map();
-const names = {
-  name(id, kind) {
-    const key = 1024 * kind + id;
-    if (!known.has(key)) {
-      const item = new DataView(new ArrayBuffer(ITEM_SIZE));
-      item.setUint16(46, id, true);
-      item.setUint8(84, kind);
-      known.set(key, addon.itemName(new Uint8Array(item.buffer)));
-    }
-    return known.get(key);
-  },
-};
+const addon = usualAddon(), names = namesOf(addon);
 
 function done(status) {
   if (status !== DONE) throw new (status >= 8 ? RangeError : Error)(WHY[status] ?? `status ${status}`);
@@ -132,10 +107,7 @@ export class End {
    */
   receive(data) {
     this.#open();
-    const more = content(data, 'data'), rest = this.#bytes.subarray(this.#from), bytes = new Uint8Array(rest.length + more.length);
-    bytes.set(rest);
-    bytes.set(more, rest.length);
-    this.#bytes = bytes;
+    this.#bytes = appended(this.#bytes.subarray(this.#from), content(data, 'data'));
     this.#base += this.#from;
     this.#taken -= this.#from;
     this.#from = 0;
@@ -203,9 +175,12 @@ export class FetchError extends Error {
   }
 }
 
-/** Handles what the peer sent, and returns the metadata if that is there. */
-function handled(end, data) {
-  for (const { event, item } of end.receive(data)) {
+/** Handles what the peer sent, and returns the metadata if that is there, of at most so many bytes. */
+function handled(end, data, most) {
+  for (const { event, item, size } of end.receive(data)) {
+    if (event === Event.ANNOUNCED && size !== null && !(size > 0 && size <= most)) {
+      throw new FetchError(`the peer announced metadata of ${size} bytes, not of 1 to ${most}`);
+    }
     if (event === Event.OPENED && ONE_AT_A_TIME.every((byte, k) => item.peerId[k] === byte)) end.setWindow(1);
     if (event === Event.FETCHED) return end.metadata;
     if (event === Event.MISMATCHED) throw new FetchError('the peer sent other metadata');
@@ -222,8 +197,8 @@ async function send(socket, bytes, signal) {
  * Fetches the metadata of a torrent from the peer at this host and port. Its SHA-1 is the info hash.
  *
  * It ends within `timeout` milliseconds, or when `signal` is aborted, and rejects with that signal's reason, a DOMException by the name
- * TimeoutError if the time is over. It rejects with Refused if the peer breaks a rule, with FetchError if it doesn't give the metadata, and
- * with the socket's error if it isn't reached. `most` and `limit` are those of `End`.
+ * TimeoutError if the time is over. It rejects with Refused if the peer breaks a rule, with FetchError if it doesn't give the metadata or
+ * announces more than `most` bytes, and with the socket's error if it isn't reached. `most` and `limit` are those of `End`.
  */
 export async function fetch(host, port, infoHash, options = {}) {
   allKnown(options, FETCH_OPTIONS, 'options');
@@ -231,6 +206,7 @@ export async function fetch(host, port, infoHash, options = {}) {
   number(port, 16, 'port');
   number(timeout, 31, 'timeout');
   const end = new End({ infoHash: content(infoHash, 'infoHash', 20), fetch: true, most, limit }), stop = new AbortController();
+  const greatest = Math.min(Number(most ?? MOST), MOST);
   const timer = setTimeout(() => stop.abort(new DOMException("the peer didn't give the metadata in time", 'TimeoutError')), Number(timeout));
   const abort = () => stop.abort(signal.reason);
   if (signal?.aborted) abort();
@@ -240,7 +216,7 @@ export async function fetch(host, port, infoHash, options = {}) {
     // (it waits until the connection is there)
     socket.write(end.take());
     for await (const data of socket) {
-      const metadata = handled(end, data);
+      const metadata = handled(end, data, greatest);
       if (metadata) return metadata;
       await send(socket, end.take(), stop.signal);
     }

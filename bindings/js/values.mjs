@@ -1,4 +1,5 @@
 // The values of the wire that bt.mjs and end.mjs share: items, ids, refusals, and the checks of arguments. Nothing of it is proved.
+import { lineOf, membersOf, shown } from './json.mjs';
 import { ITEM_SIZE } from './library.mjs';
 
 export const FAST = 0x4n, DHT = 0x1n, EXTENSIONS = 0x100000n;
@@ -27,6 +28,11 @@ export class Refused extends Error {
     /** The number of the message; 0 is the handshake. */
     this.number = number;
   }
+
+  /** For JSON.stringify: the members that the verdict of `bt_tool show --json` has. */
+  toJSON() { return { verdict: 'refused', message: this.number, offset: this.at, reason: this.reason }; }
+  /** Returns the line that `bt_tool show --json` prints. */
+  jsonLine() { return lineOf(this.toJSON()); }
 }
 
 const flags = ids => ids.reduce((table, id) => { table[id] = 1; return table; }, new Uint8Array(512));
@@ -38,24 +44,32 @@ const FIELDS = ['start', 'size', 'id', 'name', 'index', 'begin', 'length', 'port
 // (what this file exports is slower to look up)
 const { PORT, EXTENDED, KEEP_ALIVE, HANDSHAKE } = Id, { EXT_HANDSHAKE, METADATA_DATA } = Kind, WORDS = ITEM_SIZE / 4;
 
-// The words of a bt_item, by their numbers.
-const idAt = (words, w) => words[w + 11] >>> 16;
-const kindAt = (words, w) => idAt(words, w) === EXTENDED ? words[w + 21] & 255 : 0;
-const startAt = (words, w) => words[w] + words[w + 1] * 4294967296;
 const bigAt = (words, w) => BigInt(words[w + 1]) << 32n | BigInt(words[w]);
 
-/** How many words an item keeps: where it starts in the batch's bytes, its size and index, and its id with flags and the kind above it. */
+/**
+ * How many words an item keeps: where it starts in the batch's bytes; its size; its index, or the number of its row of an extended message;
+ * and its id with flags and the kind above it. The addon writes them so, and `batchOf` does of structs.
+ */
 export const KEPT = 4;
+/** How many words a bt_extended has, and the first of a bt_item's that is one of them. */
+export const EXTENDED_WORDS = 8;
+const EXTENDED_AT = 14;
 const INDEX = 1 << 24, BEGIN = 1 << 25, LENGTH = 1 << 26;
 const WHAT = Uint32Array.from(WITH_INDEX, (has, id) => id | has * INDEX | WITH_BEGIN[id] * BEGIN | WITH_LENGTH[id] * LENGTH);
 // Where the body begins, or where a message without one ends.
 const BODY_AT = Uint8Array.from(WITH_INDEX, (has, id) => 5 + 4 * (has + WITH_BEGIN[id] + WITH_LENGTH[id]));
 [BODY_AT[PORT], BODY_AT[EXTENDED], BODY_AT[KEEP_ALIVE]] = [7, 6, 4];
-const u32At = (bytes, at) => (bytes[at] << 24 | bytes[at + 1] << 16 | bytes[at + 2] << 8 | bytes[at + 3]) >>> 0;
+export const u32At = (bytes, at) => (bytes[at] << 24 | bytes[at + 1] << 16 | bytes[at + 2] << 8 | bytes[at + 3]) >>> 0;
 
 /**
- * The batch of these bt_items, which lie in bytes that begin at the offset `base` on the stream. Whole structs are copied only if there
- * are extended messages, since to copy all takes as long as to read them.
+ * What items were read of: what each keeps, the bt_extended of extended messages, bytes of the stream, and the offset on the stream of the
+ * first of these.
+ * @typedef {{ names: { name(id: number, kind: number): string }, words: Uint32Array, extended: Uint32Array | null, bytes: Uint8Array,
+ *  base: number }} Batch
+ */
+
+/**
+ * The batch of these bt_items, which lie in bytes that begin at the offset `base` on the stream.
  * @param {Batch['names']} names
  * @param {Uint32Array} structs
  * @param {Uint8Array} bytes
@@ -64,7 +78,7 @@ const u32At = (bytes, at) => (bytes[at] << 24 | bytes[at + 1] << 16 | bytes[at +
  */
 export function batchOf(names, structs, bytes, base) {
   const words = new Uint32Array(structs.length / WORDS * KEPT), low = base % 4294967296;
-  let isExtended = false;
+  let extended = null, filled = 0;
   for (let from = 0, to = 0; to < words.length; from += WORDS, to += KEPT) {
     const id = structs[from + 11] >>> 16;
     words[to] = structs[from] - low;
@@ -72,23 +86,16 @@ export function batchOf(names, structs, bytes, base) {
     words[to + 2] = structs[from + 8];
     words[to + 3] = WHAT[id];
     if (id === EXTENDED) {
-      words[to + 3] |= (structs[from + 21] & 255) << 16;
-      isExtended = true;
+      words[to + 2] = filled / EXTENDED_WORDS;
+      words[to + 3] = id | (structs[from + 21] & 255) << 16;
+      extended ??= new Uint32Array((words.length - to) / KEPT * EXTENDED_WORDS);
+      for (let k = from + EXTENDED_AT; k < from + WORDS; k++) extended[filled++] = structs[k];
     }
   }
-  return { names, words, structs: isExtended ? structs.slice() : null, bytes, base };
+  return { names, words, extended: extended && extended.slice(0, filled), bytes, base };
 }
 
-const hex = bytes => Array.from(bytes, byte => byte.toString(16).padStart(2, '0')).join('');
-const inJson = value => value instanceof Uint8Array ? hex(value) : typeof value === 'bigint' ? String(value) : value;
 const wide = number => number <= Number.MAX_SAFE_INTEGER ? Number(number) : number;
-
-/**
- * What items were read of: what each keeps, the structs if there are extended messages, bytes of the stream, and the offset on the stream
- * of the first of these.
- * @typedef {{ names: { name(id: number, kind: number): string }, words: Uint32Array, structs: Uint32Array | null, bytes: Uint8Array,
- *  base: number }} Batch
- */
 
 /**
  * The handshake or a message. A field that this kind of item doesn't have is null. Each is read when it is asked for: an item keeps the
@@ -145,19 +152,19 @@ export class Item {
   get kind() { return this._words[this._w + 3] >>> 16 & 255 || null; }
   /** The id within the extension protocol. */
   get extendedId() { return this.kind && this._batch.bytes[this._words[this._w] + 5]; }
-  /** A word of its bt_item, of an extended message. */
-  _word(number) { return this._batch.structs[this._w / KEPT * WORDS + number]; }
-  _big(number) { return wide(bigAt(this._batch.structs, this._w / KEPT * WORDS + number)); }
+  /** A word of the bt_extended of an extended message. */
+  _word(number) { return this._batch.extended[this._words[this._w + 2] * EXTENDED_WORDS + number]; }
+  _big(number) { return wide(bigAt(this._batch.extended, this._words[this._w + 2] * EXTENDED_WORDS + number)); }
   /** The number of a metadata block, or the piece that the peer no longer has (lt_donthave). */
-  get piece() { return WITH_PIECE[this.kind] ? this._word(20) : null; }
+  get piece() { return WITH_PIECE[this.kind] ? this._word(6) : null; }
   /** How many bytes the metadata has, by a data message; a BigInt from 2^53 on. */
-  get totalSize() { return this.kind === METADATA_DATA ? this._big(14) : null; }
+  get totalSize() { return this.kind === METADATA_DATA ? this._big(0) : null; }
   /** How many bytes of the body are the dictionary of an extended message. */
-  get dictSize() { return this.kind && this._word(18); }
+  get dictSize() { return this.kind && this._word(4); }
   /** How many bytes the metadata has, by an extended handshake; a BigInt from 2^53 on. */
-  get metadataSize() { return this.kind === EXT_HANDSHAKE && this._word(21) >>> 16 & 255 ? this._big(16) : null; }
+  get metadataSize() { return this.kind === EXT_HANDSHAKE && this._word(7) >>> 16 & 255 ? this._big(2) : null; }
   /** The id for ut_metadata that an extended handshake announces. */
-  get utMetadata() { return this.kind === EXT_HANDSHAKE && this._word(21) >>> 24 ? this._word(21) >>> 8 & 255 : null; }
+  get utMetadata() { return this.kind === EXT_HANDSHAKE && this._word(7) >>> 24 ? this._word(7) >>> 8 & 255 : null; }
 
   /** What follows the dictionary of an extended message, as the block of a data message. */
   get rest() { return this.kind ? this.body.subarray(this.dictSize) : null; }
@@ -165,12 +172,28 @@ export class Item {
   /** Returns the fields that it has, as a plain object. */
   toObject() { return Object.fromEntries(FIELDS.map(name => [name, this[name]]).filter(([, value]) => value !== null)); }
 
-  /** For JSON.stringify: bytes in hex, and a BigInt in decimal digits. */
-  toJSON() {
-    return Object.fromEntries(Object.entries(this.toObject()).map(([name, value]) => [name, inJson(value)]));
-  }
+  /**
+   * For JSON.stringify: the members that `bt_tool show --json` has. A number from 2^53 on is exact if the engine has JSON.rawJSON, as Node
+   * has from version 22 on, and otherwise the nearest one.
+   */
+  toJSON() { return shown(membersOf(this)); }
+  /** Returns the line that `bt_tool show --json` prints, in which each number is exact. */
+  jsonLine() { return lineOf(membersOf(this)); }
 
   [Symbol.for('nodejs.util.inspect.custom')]() { return this.toObject(); }
+}
+
+/** The names of items, each asked for once. */
+export class Names {
+  constructor(ask) {
+    this.ask = ask;
+    this.known = [];
+  }
+
+  /** The name of an item, by its id and the kind of an extended message. */
+  name(id, kind) {
+    return this.known[1024 * kind + id] ??= this.ask(id, kind);
+  }
 }
 
 /**
@@ -202,18 +225,34 @@ export class Items {
 Object.setPrototypeOf(Items.prototype, Object.getPrototypeOf(Object.getPrototypeOf([][Symbol.iterator]())));
 
 /** Adds the items of a batch to columns of numbers, 0 for what an item doesn't have, from row `from` on. */
-export function fill(columns, from, words, count) {
+export function fill(columns, from, { words, bytes, base }) {
   const { start, size, id, kind, index, begin, length, body } = columns;
-  for (let row = from, w = 0; row < from + count; row++, w += WORDS) {
-    const number = idAt(words, w);
-    start[row] = startAt(words, w);
-    size[row] = words[w + 2];
+  for (let row = from, w = 0; w < words.length; row++, w += KEPT) {
+    const at = words[w], what = words[w + 3], number = what & 65535;
+    start[row] = base + at;
+    size[row] = words[w + 1];
     id[row] = number;
-    kind[row] = kindAt(words, w);
-    index[row] = WITH_INDEX[number] ? words[w + 8] : 0;
-    begin[row] = WITH_BEGIN[number] ? words[w + 9] : 0;
-    length[row] = WITH_LENGTH[number] ? words[w + 10] : 0;
-    body[row] = number === HANDSHAKE ? 0 : words[w + 4];
+    kind[row] = what >>> 16 & 255;
+    if (what & INDEX) index[row] = words[w + 2];
+    if (what & BEGIN) begin[row] = u32At(bytes, at + 9);
+    if (what & LENGTH) length[row] = u32At(bytes, at + 13);
+    if (number !== HANDSHAKE) body[row] = words[w + 1] - BODY_AT[number];
+  }
+}
+
+/** The same for bt_items. */
+export function fillOf(columns, from, structs) {
+  const { start, size, id, kind, index, begin, length, body } = columns;
+  for (let row = from, w = 0; w < structs.length; row++, w += WORDS) {
+    const number = structs[w + 11] >>> 16, what = WHAT[number];
+    start[row] = structs[w] + structs[w + 1] * 4294967296;
+    size[row] = structs[w + 2];
+    id[row] = number;
+    kind[row] = number === EXTENDED ? structs[w + 21] & 255 : 0;
+    if (what & INDEX) index[row] = structs[w + 8];
+    if (what & BEGIN) begin[row] = structs[w + 9];
+    if (what & LENGTH) length[row] = structs[w + 10];
+    if (number !== HANDSHAKE) body[row] = structs[w + 4];
   }
 }
 
@@ -225,6 +264,7 @@ export function kindOf(value) {
 
 /** A number of so many bits. */
 export function number(value, bits, what) {
+  if (typeof value === 'number' && bits <= 32 && value >= 0 && value < 2 ** bits && Number.isInteger(value)) return value;
   if (typeof value !== 'number' && typeof value !== 'bigint') throw new TypeError(`${what} is ${kindOf(value)}, not a number`);
   if (typeof value === 'number' && !Number.isSafeInteger(value) || value < 0 || BigInt(value) >> BigInt(bits)) {
     throw new RangeError(`${what} is ${value}, not an integer of ${bits} bits`);
@@ -232,12 +272,46 @@ export function number(value, bits, what) {
   return value;
 }
 
-/** The bytes of a Uint8Array or an ArrayBuffer. */
+const isShared = bytes => typeof SharedArrayBuffer !== 'undefined' && bytes.buffer instanceof SharedArrayBuffer;
+
+/** The bytes of a Uint8Array or an ArrayBuffer: a copy, if another thread may change them. */
 export function content(value, what, size = null) {
   const bytes = value instanceof ArrayBuffer ? new Uint8Array(value) : value;
   if (!(bytes instanceof Uint8Array)) throw new TypeError(`${what} is ${kindOf(value)}, not a Uint8Array`);
   if (size !== null && bytes.length !== size) throw new RangeError(`${what} has ${bytes.length} bytes, not ${size}`);
+  return isShared(bytes) ? new Uint8Array(bytes) : bytes;
+}
+
+/** How much memory short chunks share, and which are short. */
+const SHARED = 8192, SHORT = 1024;
+
+/**
+ * The bytes that are kept and some more, in memory that nothing else writes to. `kept` comes from an earlier call, or is empty: what is after
+ * it in its memory is free. There is room for as many again if many are kept, so that a long message in short chunks isn't copied for each of
+ * them; and short chunks share memory, since small arrays of their own cost more than what is read of them.
+ */
+export function appended(kept, more) {
+  const n = kept.length, size = n + more.length, to = kept.byteOffset + n, { buffer } = kept;
+  if (to + more.length <= buffer.byteLength) {
+    const bytes = new Uint8Array(buffer, kept.byteOffset, size);
+    bytes.set(more, n);
+    return bytes;
+  }
+  const room = n > more.length ? 2 * size : size, bytes = new Uint8Array(new ArrayBuffer(size <= SHORT ? SHARED : room), 0, size);
+  bytes.set(kept);
+  bytes.set(more, n);
   return bytes;
+}
+
+/** Writes the bt_item of a message at an address of some memory, of numbers that fit. */
+export function putItem(view, bytes, at, { index = 0, begin = 0, length = 0, port = 0, id, extendedId = 0 }) {
+  bytes.fill(0, at, at + ITEM_SIZE);
+  view.setUint32(at + 32, Number(number(index, 32, 'index')), true);
+  view.setUint32(at + 36, Number(number(begin, 32, 'begin')), true);
+  view.setUint32(at + 40, Number(number(length, 32, 'length')), true);
+  view.setUint16(at + 44, Number(number(port, 16, 'port')), true);
+  view.setUint16(at + 46, Number(number(id, 16, 'id')), true);
+  view.setUint8(at + 48, Number(number(extendedId, 8, 'extendedId')));
 }
 
 /** Throws TypeError for the first name that isn't among these. */

@@ -132,8 +132,9 @@ typedef struct bt_extended {
     uint8_t has_ut_metadata;
 } bt_extended;
 
-/* An item of a stream; or, after BT_REFUSED, start, size and reason. Fields that don't apply mean nothing: of a message they are
- * left unchanged, of a handshake and of a refusal they become 0. */
+/* An item of a stream; or, after BT_REFUSED, start, size and reason. Fields that don't apply mean nothing. Of a handshake and of a
+ * refusal they become 0. Of a message body becomes 0, and so do the fields of extended if it is an extended message; the others
+ * are left unchanged. */
 typedef struct bt_item {
     uint64_t start;     /* where the item starts on the stream */
     uint64_t size;      /* how many bytes it has; of a refusal the place, counted from start */
@@ -222,6 +223,16 @@ typedef struct bt_verdict {
 
 /* Judges the n bytes as a whole stream: BT_END if it is accepted, BT_REFUSED if it isn't. */
 uint32_t bt_check(const bt_own *own, const uint8_t *bytes, size_t n, bt_verdict *verdict);
+
+/* ---- a bencoded dictionary ---- */
+
+/* Judges the bencoded dictionary (BEP 3) that the n bytes begin with, as metadata, a .torrent or the payload of an extended handshake
+ * does. Its integers are from -2^63 to 2^63 - 1, its strings and keys have at most 1,048,576 bytes, and lists and dictionaries nest at
+ * most 32 deep. If the n bytes are one dictionary and no more, strings and keys may be longer. Keys may come in any order.
+ * BT_ITEM: there is one, and *size is how many bytes it has.
+ * BT_MORE: the n bytes begin one, and end before it does. *size is n.
+ * BT_REFUSED: no dictionary with such short strings goes on with the byte at *size. One may begin with those before it. */
+uint32_t bt_check_dictionary(const uint8_t *bytes, size_t n, uint64_t *size);
 
 /* ---- writing ---- */
 
@@ -426,7 +437,8 @@ typedef struct bt_heard {
  * wants the bytes after the first heard->used ones. What a status doesn't set stays as it was.
  * BT_ITEM: heard has the item and its event. The item's last item.body bytes (a bitfield, a block, a payload) are copied to
  * the start of out, if there is room for all of them; else nothing is written to out. own.limit bytes are always enough. Its
- * extended_id is set only for BT_EXT_RAW. Of a handshake event.peer_id has what isn't known before.
+ * extended_id is the message's id of BT_EXT_RAW, and 0 of every other extended message. Of a handshake event.peer_id has what
+ * isn't known before.
  * BT_MORE: all bytes were taken, and more are needed.
  * BT_REFUSED: heard->verdict says which message, where and why, now and in each later call until the end is reset.
  * BT_BUSY, BT_NO_MEMORY: the end holds an item that isn't handled. Call again with the bytes that are left, which may be

@@ -8,7 +8,7 @@ _bt_tool() {
     unpack) options='--reserved --pieces --metadata-id --donthave-id --info-hash --other --rules --limit --hints --help' ;;
     pack) options='--reserved --pieces --metadata-id --donthave-id --info-hash --other --rules --limit --hints --help' ;;
     link) options='--help' ;;
-    capture) options='--pieces --torrent --limit --show --stream --json --help' ;;
+    capture) options='--pieces --torrent --limit --show --stream --json --strict-status --help' ;;
     loop) options='--rules --limit --help' ;;
     fetch) options='--peers --at-once --rules --limit --timeout --window --max-size --torrent --json --help' ;;
     serve) options='--listen --rules --limit --timeout --exit-after --max-connections --help' ;;

@@ -267,6 +267,20 @@ static void write_one(uint8_t *in, uint8_t *to) {
     CHECK(room < 68 || (out[0] == 19 && !memcmp(out + BT_PEER_ID, handshake.peer_id, 20)));
 }
 
+/* Fewer bytes than a dictionary has begin it, and so do those before a fault. */
+static void dictionary_one(uint8_t *in) {
+    static const char some[] = "dddllii1112::::aaeeee0-";
+    size_t n = below(2) ? below(12) : below(60);
+    uint8_t *bytes = place(in, n);
+    for (size_t i = 0; i < n; i++)
+        bytes[i] = (uint8_t)(i == 0 && below(8) ? 'd' : some[below(sizeof some - 1)]);
+    uint64_t size = rnd(), other = rnd();
+    uint32_t answer = bt_check_dictionary(bytes, n, &size);
+    CHECK(answer == BT_MORE ? size == n : answer == BT_REFUSED ? size < n : answer == BT_ITEM && size >= 2 && size <= n);
+    size_t part = below(size + (answer != BT_ITEM));
+    CHECK(bt_check_dictionary(bytes, part, &other) == BT_MORE && other == part);
+}
+
 static void name_one(uint8_t *to) {
     size_t room = below(30);
     char *text = (char *)place(to, room);
@@ -293,6 +307,7 @@ int main(int argc, char **argv) {
             huge_one(in, held);
         feed_one(in, held);
         write_one(in, held);
+        dictionary_one(in);
         name_one(held);
     }
     for (size_t i = 0; i < count_of_streams; i++)

@@ -48,6 +48,35 @@ static void fields(void) {
     CHECK(has_only(&item, 0, 0, 0, 0) && item.body == 0 && item.id == 0);
 }
 
+/* Of an extended message each field of `extended` is set, of another message none; the reader knows each id. */
+static void extended_fields(void) {
+    const uint8_t hello[] = {0, 0, 0, 18, 20, 0, 'd', '1', ':', 'm', 'd', '1', ':', 'a', 'i', '9', 'e', 'e', 'e', 0, 0, 0},
+        raw[] = {0, 0, 0, 3, 20, 9, 0xaa}, gone[] = {0, 0, 0, 6, 20, 5, 1, 2, 3, 4};
+    bt_own own = {0};
+    own.reserved = BT_EXTENSIONS;
+    own.limit = 262144;
+    own.donthave_id = 5;
+    bt_reader reader;
+    bt_item item;
+    uint8_t bytes[68];
+    bt_handshake handshake = {BT_EXTENSIONS, {0}, {0}};
+    bt_reader_init(&reader, &own);
+    CHECK(bt_write_handshake(&handshake, bytes, sizeof bytes) == 68 && bt_reader_next(&reader, bytes, 68, &item) == BT_ITEM);
+
+    memset(&item, 0xee, sizeof item);
+    CHECK(bt_reader_next(&reader, hello, 19 + 3, &item) == BT_ITEM && item.extended_id == 0 && item.body == 16);
+    CHECK(item.extended.kind == BT_EXT_HANDSHAKE && item.extended.dict == 13 && item.index == 0xeeeeeeee);
+    CHECK(item.extended.piece == 0 && item.extended.total_size == 0 && item.extended.metadata_size == 0 && item.extended.ut_metadata == 0);
+
+    memset(&item, 0xee, sizeof item);
+    CHECK(bt_reader_next(&reader, raw, sizeof raw, &item) == BT_ITEM && item.extended_id == 9 && item.body == 1);
+    CHECK(item.extended.kind == BT_EXT_RAW && item.extended.dict == 0 && item.extended.piece == 0 && item.extended.has_ut_metadata == 0);
+
+    memset(&item, 0xee, sizeof item);
+    CHECK(bt_reader_next(&reader, gone, sizeof gone, &item) == BT_ITEM && item.extended_id == 5 && item.body == 4);
+    CHECK(item.extended.kind == BT_DONTHAVE && item.extended.piece == 0x01020304 && item.extended.total_size == 0 && item.port == 0xeeee);
+}
+
 /* ---- ends ---- */
 
 #define SIZE 40000 /* three blocks */
@@ -143,8 +172,70 @@ static void hopeless(void) {
     bt_end_free(&end);
 }
 
+/* What the end hears of the n bytes, in a struct that had other numbers before. */
+static bt_item heard(bt_end *end, size_t n) {
+    bt_heard heard;
+    memset(&heard, 0xee, sizeof heard);
+    bt_end_sent(end, SIZE_MAX);
+    CHECK(bt_end_next(end, bytes, n, &heard, NULL, 0) == BT_ITEM && heard.used == n);
+    return heard.item;
+}
+
+/* An end tells the id of a raw extended message only: of the others extended_id is 0, and of what isn't one it is left unchanged. */
+static void extended_ids(void) {
+    bt_end end = BT_NO_END;
+    make(&end, BT_EXTENSIONS, 7, 0);
+    bt_item item = heard(&end, hello(BT_EXTENSIONS));
+    CHECK(item.id == BT_HANDSHAKE && item.extended_id == 0 && item.port == 0);
+    item = heard(&end, extended(0, "d1:md11:ut_metadatai3ee13:metadata_sizei40000ee", 0));
+    CHECK(item.extended.kind == BT_EXT_HANDSHAKE && item.extended_id == 0 && item.extended.piece == 0 && item.port == 0xeeee);
+    item = heard(&end, extended(7, "d8:msg_typei0e5:piecei2ee", 0));
+    CHECK(item.extended.kind == BT_METADATA_REQUEST && item.extended_id == 0 && item.extended.piece == 2 && item.index == 0xeeeeeeee);
+    item = heard(&end, extended(9, "abc", 0));
+    CHECK(item.extended.kind == BT_EXT_RAW && item.extended_id == 9 && item.body == 3 && item.port == 0xeeee);
+    memcpy(bytes, "\0\0\0\x05\x04\0\0\0\x08", 9);
+    item = heard(&end, 9);
+    CHECK(item.id == BT_HAVE && item.index == 8 && item.body == 0 && item.extended_id == 0xee && item.extended.kind == 0xee);
+    bt_end_free(&end);
+}
+
+/* Whether the judgement of these n bytes is this. */
+static bool is_judged(const void *bytes, size_t n, uint32_t wanted, uint64_t at) {
+    uint64_t size = 12345;
+    return bt_check_dictionary(bytes, n, &size) == wanted && size == at;
+}
+
+/* The dictionary that bytes begin with, by BEP 3. */
+static void dictionaries(void) {
+    const struct { const char *text; uint32_t answer; uint64_t at; } rows[] = {
+        {"de", BT_ITEM, 2}, {"dee", BT_ITEM, 2}, {"d1:bi1e1:ali2e0:eeblock", BT_ITEM, 18}, {"", BT_MORE, 0}, {"d", BT_MORE, 1},
+        {"d1:ai3e", BT_MORE, 7}, {"d1:a5:abc", BT_MORE, 9}, {"i3e", BT_REFUSED, 0}, {"d1:ai03ee", BT_REFUSED, 6}, {"d1:ai-0ee", BT_REFUSED, 6},
+        {"d01:ai3ee", BT_REFUSED, 2}, {"di3ei4ee", BT_REFUSED, 1}, {"d1:ae", BT_REFUSED, 4}, {"d1:ai9223372036854775807ee", BT_ITEM, 26},
+        {"d1:ai9223372036854775808ee", BT_REFUSED, 23}, {"d1:ai-9223372036854775808ee", BT_ITEM, 27}};
+    for (size_t i = 0; i < sizeof rows / sizeof *rows; i++)
+        CHECK(is_judged(rows[i].text, strlen(rows[i].text), rows[i].answer, rows[i].at));
+    CHECK(is_judged(NULL, 0, BT_MORE, 0));
+    /* 32 deep, and 33 */
+    char deep[80] = "d1:a";
+    memset(deep + 4, 'l', 31);
+    memset(deep + 35, 'e', 32);
+    CHECK(is_judged(deep, 67, BT_ITEM, 67));
+    memset(deep + 4, 'l', 32);
+    memset(deep + 36, 'e', 33);
+    CHECK(is_judged(deep, 69, BT_REFUSED, 35));
+    /* a string of one byte more than a message's, in all of the bytes, and with one more after it: no length goes on so */
+    static char longer[12 + 1048577 + 2] = "d1:a1048577:";
+    longer[12 + 1048577] = 'e';
+    CHECK(is_judged(longer, 12 + 1048577 + 1, BT_ITEM, 12 + 1048577 + 1));
+    CHECK(is_judged(longer, 12 + 1048577 + 2, BT_REFUSED, 10));
+    CHECK(is_judged(longer, 12 + 1048577, BT_REFUSED, 10));
+}
+
 int main(void) {
     fields();
+    dictionaries();
+    extended_fields();
+    extended_ids();
     begins();
     hopeless();
     return 0;

@@ -1,4 +1,4 @@
-"""How the toolchain's prover is called on a crate over libraries that are built. tests/wrong_bodies and tools/dist call it."""
+"""How the toolchain's prover is called on a crate over libraries that are built. tools/packages/judging.py and tools/dist call it."""
 import pathlib
 import subprocess
 

@@ -50,6 +50,15 @@ class Case:
         return case
 
     @property
+    def asks_unchoke(self):
+        """Whether it waits until the client unchokes this end."""
+        return any(word == "unchoked" for word, _ in self.steps)
+
+    @property
+    def has_crowd(self):
+        return any(word == "crowd" for word, _ in self.steps)
+
+    @property
     def wants_close(self):
         """Whether the first verdict that passes is a close, and nothing else passes."""
         passes = [conditions for verdict, conditions in self.verdicts if verdict == "pass"]

@@ -11,6 +11,7 @@ from . import heard, proved, wire
 RESULTS = ("pass", "note", "info", "fail", "skip", "error")
 REACH = {"must": ("must",), "should": ("must", "should"), "all": ("must", "should", "may", "own")}
 QUIET = ("(asked)", "keep-alive", "have ", "allowed-fast ", "ext-handshake")
+ENDS = {"died": "kept until the client's death,"}
 STATES = {"alive": "kept, answers", "silent": "kept, answers nothing", "open": "kept"}
 
 
@@ -55,7 +56,7 @@ def came(words):
 
 def said(play, words):
     link = play.link
-    end = "%s after %d bytes of ours" % (link.end, len(link.sent)) if play.state == "closed" else STATES[play.state]
+    end = "%s after %d bytes of ours" % (ENDS.get(link.end, link.end), len(link.sent)) if play.state == "closed" else STATES[play.state]
     told = came(words) + [end] + ["%d %s" % (count, name) for name, count in play.counts.items()]
     if play.crowd is not None:
         told.append("%d of the other connections got a handshake" % play.crowd)
@@ -119,6 +120,9 @@ def stated(play):
 def kept_word(play):
     """Whether the stream that was sent is what the case says, as far as the client took it."""
     link = play.link
+    # (what answers requests isn't sent to a client that has none)
+    if 0 in play.counts.values():
+        return True
     if play.link.both != play.link.reserved & (wire.FAST | wire.EXTENSIONS) or not link.heard.um or link.end or play.stalled:
         return True
     found = verdict_of_stream(link.sent, link.torrent, link.heard.theirs, link.heard.um)

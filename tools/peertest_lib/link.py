@@ -1,14 +1,19 @@
 """The connection to the client, and one that only writes down what would be sent."""
+import itertools
 import os
 import random
 import select
+import signal
 import socket
 import subprocess
 import time
 
 from . import wire
+from .client import PROCESSES, send
 from .heard import Heard
 
+# So often a connection looks whether the client lives.
+LOOK = 0.2
 LETTERS = b"0123456789abcdefghijklmnopqrstuvwxyz"
 
 
@@ -21,6 +26,9 @@ class Link:
 
     dry = False
 
+    # Says whether nothing more can come, also if something keeps the connection open.
+    ended_by = staticmethod(lambda: False)
+
     def __init__(self, torrent, end):
         self.torrent, self.socket = torrent, end
         end.setsockopt(socket.IPPROTO_TCP, socket.TCP_NODELAY, 1)
@@ -29,7 +37,7 @@ class Link:
         self.sent, self.out, self.end, self.ended = bytearray(), b"", None, None
         self.peer_id, self.reserved = drawn_peer_id(), 0
         self.heard, self.begin = Heard(torrent, 0, self.sent), time.monotonic()
-        self.extended = self.first = False
+        self.extended, self.first, self.looked, self.moved = False, False, self.begin, self.begin
 
     def agree(self, reserved):
         """Takes the own reserved bits, by which the client's bytes are judged."""
@@ -40,6 +48,10 @@ class Link:
     def both(self):
         """The bits that both ends set."""
         return (self.heard.theirs or 0) & self.reserved
+
+    def idle(self):
+        """The seconds since something was read or written."""
+        return time.monotonic() - self.moved
 
     def clock(self):
         return time.monotonic() - self.begin
@@ -64,12 +76,14 @@ class Link:
 
     def write_some(self):
         size = self.socket.send(self.out[:65536])
+        self.moved = time.monotonic()
         self.sent += self.out[:size]
         self.out = self.out[size:]
 
     def read_some(self):
         data = self.socket.recv(262144)
         if data:
+            self.moved = time.monotonic()
             self.heard.push(data, self.clock())
         else:
             self.ends("closed")
@@ -85,8 +99,16 @@ class Link:
             left = limit - time.monotonic()
             if self.end or left <= 0:
                 return holds()
-            self.step(min(left, 0.5))
+            self.step(min(left, LOOK))
+            self.look()
         return True
+
+    def look(self):
+        """Ends the connection if the client has died, which is seen by its process."""
+        if time.monotonic() >= self.looked + LOOK:
+            self.looked = time.monotonic()
+            if not self.end and self.ended_by():
+                self.ends("died")
 
     def send(self, data, seconds=20):
         """Says whether all was taken by the system."""
@@ -98,7 +120,10 @@ class Link:
 
     def sleep(self, seconds):
         """Reads nothing meanwhile."""
-        time.sleep(seconds)
+        limit = time.monotonic() + seconds
+        while not self.end and time.monotonic() < limit:
+            time.sleep(min(LOOK, max(0, limit - time.monotonic())))
+            self.look()
 
     def fin(self):
         try:
@@ -110,11 +135,29 @@ class Link:
         self.socket.close()
 
 
+def greet_all(links, quiet):
+    """Reads and writes on all of them, until each has the other's handshake or ended, or none has got one for some seconds."""
+    limit, before = time.monotonic() + quiet, None
+    while time.monotonic() < limit:
+        waiting = {link.socket.fileno(): link for link in links if not link.end and link.heard.theirs is None}
+        if len(waiting) != before:
+            before, limit = len(waiting), time.monotonic() + quiet
+        if not waiting:
+            return
+        poll = select.poll()
+        for number, link in waiting.items():
+            poll.register(number, select.POLLIN | (select.POLLOUT if link.out else 0))
+        for number, _ in poll.poll(LOOK * 1000):
+            waiting[number].step(0)
+        for link in waiting.values():
+            link.look()
+
+
 class Dialler:
     """Connects to the client, from another address of this machine each time."""
 
     def __init__(self, torrent, address):
-        self.torrent, self.address, self.count, self.second = torrent, address, 0, 20 + random.randrange(200)
+        self.torrent, self.address, self.counts, self.second = torrent, address, itertools.count(1), 20 + random.randrange(200)
 
     def to(self, address):
         """The same for another client."""
@@ -122,8 +165,8 @@ class Dialler:
 
     def source(self):
         """127.x.y.z, so that no ban and no count of one address holds for the next case."""
-        self.count += 1
-        return "127.%d.%d.%d" % (self.second, self.count // 250 % 250 + 1, self.count % 250 + 2)
+        count = next(self.counts)
+        return "127.%d.%d.%d" % (self.second, count // 250 % 250 + 1, count % 250 + 2)
 
     def link(self):
         family = socket.AF_INET6 if ":" in self.address[0] else socket.AF_INET
@@ -152,8 +195,9 @@ class DialledLink(Link):
             _, errors = self.process.communicate(timeout=3)
             self.status = self.process.returncode
         except subprocess.TimeoutExpired:
-            self.process.kill()
+            send(self.process, signal.SIGKILL)
             _, errors = self.process.communicate()
+        PROCESSES.ended(self.process)
         self.said = errors.decode("utf8", "replace").strip()
 
     def written(self):
@@ -168,11 +212,10 @@ class Waiter:
     """Starts the client once for each case, and waits until it connects."""
 
     def __init__(self, torrent, command, folder, seconds=10):
-        self.torrent, self.command, self.folder, self.seconds, self.count = torrent, command, folder, seconds, 0
+        self.torrent, self.command, self.folder, self.seconds, self.counts = torrent, command, folder, seconds, itertools.count(1)
 
     def link(self):
-        self.count += 1
-        output = os.path.join(self.folder, "out-%d" % self.count)
+        output = os.path.join(self.folder, "out-%d" % next(self.counts))
         with socket.socket() as door:
             door.bind(("127.0.0.1", 0))
             door.listen(4)
@@ -181,13 +224,13 @@ class Waiter:
             words = self.command
             for name, value in known.items():
                 words = words.replace(name, value)
-            process = subprocess.Popen(["sh", "-c", words], stdin=subprocess.DEVNULL, stdout=subprocess.DEVNULL,
-                                       stderr=subprocess.PIPE, start_new_session=True)
+            process = PROCESSES.start(words, subprocess.DEVNULL, subprocess.PIPE)
             try:
                 end, _ = door.accept()
             except OSError:
-                process.kill()
+                send(process, signal.SIGKILL)
                 process.communicate()
+                PROCESSES.ended(process)
                 raise
         return DialledLink(self.torrent, end, process, output)
 
@@ -212,6 +255,9 @@ class DryLink:
     @property
     def both(self):
         return self.heard.theirs & self.reserved
+
+    def idle(self):
+        return 0.0
 
     def until(self, holds, seconds):
         return holds()

@@ -1,5 +1,15 @@
 """Plays a case: the opening, its steps, and a question that is legal after them."""
+import time
+
 from . import faults, wire
+from .link import greet_all
+
+# So many seconds a connection that waits for the client's handshake keeps others from being opened.
+OPENING = 2.0
+# Once nothing has come for so many seconds, the next case that runs by itself may begin.
+QUIET = 2.0
+# Of a crowd's handshakes one comes in so many seconds, or no more do.
+CROWD = 2.0
 
 
 class Skip(Exception):
@@ -15,15 +25,21 @@ class Play:
     def __init__(self, case, link, mode, options):
         self.case, self.link, self.mode, self.options = case, link, mode, options
         self.state, self.start, self.stalled, self.crowd, self.marks = None, 0, False, None, []
-        self.kind, self.segment, self.counts = "auto", None, {}
+        self.kind, self.segment, self.counts, self.again = "auto", None, {}, False
 
     def fill(self, text):
         return wire.filled(text, {**wire.values(self.link.torrent, self.link), **self.case.values})
 
-    def run(self, others):
-        """Plays the case; `others()` opens a further connection. Raises Skip."""
-        self.others = others
+    def run(self, others, greeted=lambda: None, waits=lambda: None):
+        """Plays the case. Raises Skip.
+
+        `others()` opens a further connection; `greeted()` is called once the client has answered the handshake, or takes long;
+        `waits()` once only an answer is waited for.
+        """
+        self.others, self.greeted, self.waits = others, greeted, waits
         self.opening()
+        if self.is_mute():
+            return
         self.needs()
         self.start = 0 if self.counts_all else len(self.link.heard.events)
         for word, text in self.case.steps:
@@ -49,15 +65,38 @@ class Play:
         link.agree(int(open_.get("reserved", "0000000000100004"), 16))
         if open_.get("handshake") == "no":
             link.first = open_.get("first") == "sent"
+            self.greeted()
             return
         link.send(wire.handshake(link.reserved, link.torrent.hash, link.peer_id))
-        if not link.until(lambda: link.heard.theirs is not None, 2 * self.options.patience):
+        if not self.is_greeted():
             return
         if open_.get("ext") != "no" and link.both & wire.EXTENSIONS:
             self.extended_handshake()
         self.first(open_.get("first", "none" if self.mode == "seed" else "all"))
         if link.both & wire.EXTENSIONS:
             link.until(lambda: link.heard.opened, self.options.patience)
+
+    def is_greeted(self):
+        """Waits for the client's handshake, and says whether it came."""
+        link, hung = self.link, self.options.hung
+        seconds = self.options.patience * (1 if hung else 2)
+        first = 0 if hung else min(OPENING, seconds)
+        if hung:
+            self.waits()
+        came = link.until(lambda: link.heard.theirs is not None, first)
+        self.greeted()
+        came = came or link.until(lambda: link.heard.theirs is not None, seconds - first)
+        if not link.end:
+            self.options.greeted(came)
+        return came
+
+    def is_mute(self):
+        """Whether the case ends, since this handshake got no answer and those before it got none."""
+        if self.case.open.get("handshake") == "no" or self.link.heard.theirs is not None or self.link.end or not self.options.hung:
+            return False
+        kinds = [text for word, text in self.case.steps if word == "ping"]
+        self.state = "open" if kinds else "silent"
+        return True
 
     def extended_handshake(self):
         pairs = {b"m": {b"ut_metadata": wire.METADATA_ID, b"lt_donthave": wire.DONTHAVE_ID}, b"reqq": 250, b"v": b"peertest"}
@@ -150,29 +189,33 @@ class Play:
 
     def step_unchoked(self, _):
         self.link.send(wire.message(2))
-        seconds = self.options.unchoke_wait()
-        if not self.link.until(lambda: self.link.heard.unchoked, seconds) and not self.link.end and not self.link.dry:
+        if not self.is_unchoked() and not self.link.end and not self.link.dry:
             self.options.unchoked(False)
-            raise Skip("the client didn't unchoke in %g s" % seconds)
+            raise Skip("the client didn't unchoke in %g s" % self.options.unchoke_wait())
         self.options.unchoked(True)
         self.start = len(self.link.heard.events)
+
+    def is_unchoked(self):
+        """Waits for the client's unchoke; not so long any more once others have waited in vain."""
+        begin, heard = time.monotonic(), self.link.heard
+        self.link.until(lambda: heard.unchoked or time.monotonic() - begin >= self.options.unchoke_wait(), self.options.unchoke)
+        return heard.unchoked
 
     def step_noread(self, text):
         self.link.sleep(float(text))
 
     def step_crowd(self, text):
         """So many more connections, each with a handshake, which stay open until the case ends."""
-        self.crowd, missed = 0, 0
-        for _ in range(0 if self.link.dry else int(text)):
-            try:
-                other = self.others()
-                other.agree(0)
-                other.send(wire.handshake(0, other.torrent.hash, other.peer_id))
-                # (a client that is full answers none of those that come then)
-                answered = other.until(lambda: other.heard.theirs is not None, 1.5 if missed < 3 else 0.02)
-                self.crowd, missed = self.crowd + answered, 0 if answered else missed + 1
-            except OSError:
-                return
+        crowd = []
+        try:
+            for _ in range(0 if self.link.dry else int(text)):
+                crowd.append(self.others())
+                crowd[-1].agree(0)
+                crowd[-1].send(wire.handshake(0, self.link.torrent.hash, crowd[-1].peer_id))
+        except OSError:
+            pass
+        greet_all(crowd, CROWD)
+        self.crowd = sum(other.heard.theirs is not None for other in crowd)
 
     def step_fin(self, _):
         self.link.fin()
@@ -205,6 +248,7 @@ class Play:
             link.until(lambda: link.heard.opened, 1)
         asked = False
         for question in (self.ask_metadata, self.ask_block, self.ask_unchoked):
+            self.again = asked
             answer = question()
             if answer or link.end:
                 return "closed" if link.end and not answer else "alive"
@@ -216,13 +260,26 @@ class Play:
         events = self.link.heard.events
         # After a flood the client may still be reading.
         seconds = self.options.at_most(5 * self.options.patience) if self.case.alone else self.options.patience
-        if not self.link.until(lambda: self.link.heard.count(patterns, start) > 0, seconds):
+        seconds = self.options.later_wait(seconds) if self.again else seconds
+        came = self.comes(lambda: self.link.heard.count(patterns, start) > 0, seconds)
+        if self.again and not self.link.end:
+            self.options.later_answered(came)
+        if not came:
             return False
         for at in range(start, len(events)):
             if self.link.heard.fits(patterns, events[at][1]):
                 events[at] = (events[at][0], "(asked) " + events[at][1])
                 break
         return True
+
+    def comes(self, holds, seconds):
+        """Waits until it holds. The next case may begin when nothing comes any more, unless this one has a crowd."""
+        limit = time.monotonic() + seconds
+        if self.crowd is None and self.case.alone:
+            self.link.until(lambda: holds() or self.link.idle() >= QUIET, seconds)
+            if not holds() and not self.link.end:
+                self.waits()
+        return self.link.until(holds, limit - time.monotonic())
 
     def ask_metadata(self):
         """A client with the Extension Protocol answers a metadata request by data or a reject (BEP 9)."""
@@ -252,7 +309,7 @@ class Play:
         if self.mode != "seed" or link.both & wire.FAST:
             return None
         link.send(wire.message(2))
-        if not link.until(lambda: link.heard.unchoked, self.options.unchoke_wait()) and not link.dry:
+        if not self.is_unchoked() and not link.dry:
             self.options.unchoked(False)
             return None
         block, start = "%d 1024 512" % (link.torrent.pieces - 1), len(link.heard.events)

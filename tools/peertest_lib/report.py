@@ -2,10 +2,14 @@
 import collections
 import json
 import os
+import re
 import sys
 from xml.sax.saxutils import escape, quoteattr
 
 from . import judge
+
+# What XML can't have, as the colours of a client's message.
+NO_TEXT = re.compile("[^\t\n\r\x20-\ud7ff\ue000-\ufffd\U00010000-\U0010ffff]")
 
 
 def line(result):
@@ -14,6 +18,11 @@ def line(result):
     if result["result"] == "fail":
         text += '\n      %s, "%s" (%s, paraphrased): %s' % (result["bep"], result["section"], result["level"], result["text"])
     return text
+
+
+def one_line(text):
+    """The text without what a line can't have."""
+    return NO_TEXT.sub("?", " ".join(text.split()))
 
 
 def counter(total):
@@ -48,32 +57,36 @@ def summary(name, mode, results, seconds, died):
     return text + ("; THE CLIENT DIED in " + ", ".join(died) if died else "")
 
 
-def write_json(path, suite, results, seconds):
+def write_json(path, suite, results, seconds, better=()):
     content = {"suite": "peertest", "mode": suite.mode, "peer_id": suite.peer_id, "seconds": round(seconds, 1),
-               "counts": counts(results), "died": suite.died, "sentences": "paraphrased", "cases": results}
+               "counts": counts(results), "died": suite.died, "no_longer_fails": [name for name, _ in better],
+               "sentences": "paraphrased", "cases": results}
     with open(path, "w", encoding="utf8") as file:
         json.dump(content, file, indent=1)
         file.write("\n")
 
 
-def junit_case(result):
-    said = "; ".join(result["said"])
+def junit_case(result, again):
+    """The element of a case; of a failure with the sentence, and a line that runs it again."""
+    said = NO_TEXT.sub("?", "; ".join(result["said"]))
     family = quoteattr("peertest." + result["id"].split(".")[0])
     head = ' <testcase classname=%s name=%s time="%.3f">' % (family, quoteattr(result["id"]), result["seconds"])
     sentence = '%s, "%s" (%s, paraphrased): %s' % (result["bep"], result["section"], result["level"], result["text"])
     passed = "<system-out>%s</system-out>" % escape("%s: %s" % (result["result"], said))
-    inner = {"fail": "<failure message=%s>%s</failure>" % (quoteattr(said), escape(sentence)),
+    failed = "%s\nagain: %s" % (sentence, again(result["id"]))
+    inner = {"fail": "<failure message=%s>%s</failure>" % (quoteattr(said), escape(failed)),
              "error": "<error message=%s/>" % quoteattr(said), "skip": "<skipped message=%s/>" % quoteattr(said)}
     return head + inner.get(result["result"], passed) + "</testcase>\n"
 
 
-def write_junit(path, suite, results, seconds):
+def write_junit(path, suite, results, seconds, again):
+    """Writes the results for CI. `again` gives the line that runs a case once more."""
     found = counts(results)
     with open(path, "w", encoding="utf8") as file:
         head = '<testsuite name=%s tests="%d" failures="%d" errors="%d" skipped="%d" time="%.1f">\n'
         file.write('<?xml version="1.0" encoding="UTF-8"?>\n')
         file.write(head % (quoteattr("peertest " + suite.mode), len(results), found["fail"], found["error"], found["skip"], seconds))
-        file.writelines(junit_case(result) for result in results)
+        file.writelines(junit_case(result, again) for result in results)
         file.write("</testsuite>\n")
 
 
@@ -84,19 +97,3 @@ def write_streams(folder, results):
         for end, content in (("sent", result.sent), ("got", result.got)):
             with open(os.path.join(folder, "%s.%s" % (result["id"].replace("/", "~"), end)), "wb") as file:
                 file.write(content)
-
-
-def read_known(path):
-    """The ids that may fail, one a line, with a reason after it."""
-    with open(path, encoding="utf8") as file:
-        lines = [line.split("#", 1)[0].split() for line in file]
-    return [words[0] for words in lines if words]
-
-
-def forgive(results, known):
-    """Failures that are known become notes; returns the known ids that passed."""
-    for result in results:
-        if result["id"] in known and result["result"] == "fail" and result.get("state") != "died":
-            result["result"], result["said"] = "note", ["known"] + result["said"]
-            result["known"] = True
-    return [result["id"] for result in results if result["id"] in known and result["result"] in ("pass", "info")]

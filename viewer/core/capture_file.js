@@ -9,6 +9,8 @@ const SECTION = 0x0a0d0d0a;
 const PCAP = { 0xd4c3b2a1: [true, 1e6], 0xa1b2c3d4: [false, 1e6], 0x4d3cb2a1: [true, 1e9], 0xa1b23c4d: [false, 1e9] };
 const HEADERS = 4096;           // link, IP and TCP headers lie within the first bytes of a packet
 const MOST_OPTIONS = 65536;
+const TIMESTAMP_RESOLUTION = 9, TIMESTAMP_OFFSET = 14;    // the options if_tsresol and if_tsoffset
+const LATEST = (2 ** 64 - 1) / 1e9;     // the last time in seconds whose nanoseconds 64 bits hold
 
 /**
  * A packet: `view` shows its first `seen` bytes at `at`; its `captured` bytes start at `offset` of the file, and on the wire it had
@@ -77,7 +79,7 @@ class PcapngReader {
     this.take = take;
     this.packet = emptyPacket();
     this.little = true;
-    /** @type {[number, number][]} link type and ticks in a second of each interface of the section */
+    /** @type {Face[]} the interfaces of the section */
     this.faces = [];
   }
 
@@ -108,13 +110,14 @@ class PcapngReader {
     if (kind === 1 && size >= 8) {
       const shown = Math.min(size, MOST_OPTIONS);
       window.show(body, shown);
-      this.faces.push([window.view.getUint16(window.base, little),
-        timeUnit(window.view, window.base + 8, window.base + shown, little)]);
+      this.faces.push(faceOf(window.view, window.base, window.base + shown, little));
     } else if ((kind === 2 || kind === 6) && size >= 20) this.readPacket(kind, body, size);
     else if (kind === 3 && size >= 4 && this.faces.length) {
       window.show(body, 4);
       const wire = window.view.getUint32(window.base, little);
-      this.give(this.faces[0][0], 0, body + 4, Math.min(wire, size - 4), wire);
+      const [{ link, snap }] = this.faces;
+      // what follows the snap length is padding; 0 is none
+      this.give(link, 0, body + 4, Math.min(wire, snap || wire, size - 4), wire);
     }
   }
 
@@ -127,7 +130,8 @@ class PcapngReader {
     if (!face) { this.packet.number++; return; }
     const ticks = view.getUint32(base + 4, little) * 4294967296 + view.getUint32(base + 8, little);
     const captured = Math.min(view.getUint32(base + 12, little), size - 20);
-    this.give(face[0], ticks / face[1], body + 20, captured, view.getUint32(base + 16, little));
+    const seconds = Math.min(Math.max(ticks / face.unit + face.offset, 0), LATEST);
+    this.give(face.link, seconds, body + 20, captured, view.getUint32(base + 16, little));
   }
 
   /** @param {number} link @param {number} seconds @param {number} offset @param {number} captured @param {number} wire */
@@ -138,18 +142,37 @@ class PcapngReader {
 }
 
 /**
- * The time stamps in a second, by the option if_tsresol (9) of an interface.
- * @param {DataView} view @param {number} at @param {number} end @param {boolean} little
+ * An interface as its packets need it: link type, snap length, time stamps in a second, and the seconds added to each.
+ * @typedef {{ link: number, snap: number, unit: number, offset: number }} Face
  */
-function timeUnit(view, at, end, little) {
+
+/**
+ * Reads an interface description.
+ * @param {DataView} view @param {number} at @param {number} end @param {boolean} little
+ * @returns {Face}
+ */
+function faceOf(view, at, end, little) {
+  const resolution = optionAt(view, at + 8, end, little, TIMESTAMP_RESOLUTION, 1);
+  const value = resolution < 0 ? 6 : view.getUint8(resolution);
+  const offset = optionAt(view, at + 8, end, little, TIMESTAMP_OFFSET, 8);
+  return {
+    link: view.getUint16(at, little),
+    snap: view.getUint32(at + 4, little),
+    unit: value & 128 ? 2 ** (value & 127) : 10 ** value,
+    offset: offset < 0 ? 0 : Number(view.getBigInt64(offset, little)),
+  };
+}
+
+/**
+ * Where the value of the first option is that has this code and a value of this length; -1 if there is none.
+ * @param {DataView} view @param {number} at @param {number} end @param {boolean} little @param {number} wanted @param {number} long
+ */
+function optionAt(view, at, end, little, wanted, long) {
   while (at + 4 <= end) {
     const code = view.getUint16(at, little), size = view.getUint16(at + 2, little);
-    if (code === 9 && size === 1 && at + 4 < end) {
-      const value = view.getUint8(at + 4);
-      return value & 128 ? 2 ** (value & 127) : 10 ** value;
-    }
+    if (code === wanted && size === long && at + 4 + long <= end) return at + 4;
     if (code === 0) break;
     at += 4 + size + (-size & 3);
   }
-  return 1e6;
+  return -1;
 }

@@ -17,7 +17,7 @@ typedef struct {
     uint64_t lower, upper;
 } napi_type_tag;
 
-enum { napi_ok = 0, napi_uint8_array = 1 };
+enum { napi_ok = 0, napi_uint8_array = 1, napi_uint32_array = 6 };
 
 napi_status napi_get_cb_info(napi_env, napi_callback_info, size_t *, napi_value *, napi_value *, void **);
 napi_status napi_is_exception_pending(napi_env, _Bool *);
@@ -33,6 +33,7 @@ napi_status napi_is_typedarray(napi_env, napi_value, _Bool *);
 napi_status napi_is_arraybuffer(napi_env, napi_value, _Bool *);
 napi_status napi_get_typedarray_info(napi_env, napi_value, napi_typedarray_type *, size_t *, void **, napi_value *, size_t *);
 napi_status napi_get_value_int64(napi_env, napi_value, int64_t *);
+napi_status napi_get_value_bigint_uint64(napi_env, napi_value, uint64_t *, _Bool *);
 napi_status napi_wrap(napi_env, napi_value, void *, napi_finalize, void *, napi_ref *);
 napi_status napi_unwrap(napi_env, napi_value, void **);
 napi_status napi_type_tag_object(napi_env, napi_value, const napi_type_tag *);
@@ -42,5 +43,6 @@ napi_status napi_adjust_external_memory(napi_env, int64_t, int64_t *);
 void *calloc(size_t, size_t);
 void free(void *);
 void *memcpy(void *, const void *, size_t);
+void *memset(void *, int, size_t);
 
 #endif

@@ -1,14 +1,14 @@
 // Prints the items of a stream as `bt_tool show` does.
 //
-// usage: node --experimental-wasm-memory64 bindings/js/examples/show.mjs [FILE..], or <STREAM
+// usage: node bindings/js/examples/show.mjs [FILE..], or <STREAM
 //
-// The flag is for Node 20 and 22; later ones need none. The options of `show` are read from the environment: RULES=free or bep, LIMIT,
-// PIECES, INFO_HASH in hex. PIECE is how many bytes are fed at once, and BT_WASM the library, if it isn't dist/bt.wasm.
+// The options of `show` are read from the environment: RULES=free or bep, LIMIT, PIECES, INFO_HASH in hex. PIECE is how many bytes are fed
+// at once. With BT_WASM it reads through that WebAssembly, for which Node 20 and 22 need --experimental-wasm-memory64.
 import fs from 'node:fs';
 import { Id, Kind, load, Refused } from '../bt.mjs';
 
 const { RULES, LIMIT, PIECES, INFO_HASH, PIECE, BT_WASM } = process.env;
-const bt = await load(BT_WASM ?? new URL('../../../dist/bt.wasm', import.meta.url));
+const bt = await load(BT_WASM);
 const hex = bytes => Buffer.from(bytes).toString('hex');
 
 /** The words of an item after its name. */

@@ -1,9 +1,9 @@
 // Tests end.mjs: two ends, fetches over loopback, arguments that don't fit, the addon with random arguments, memory.
 //
-// usage: [ROUNDS=20000] [ENDS=3000] [MEBIBYTES=40] node --experimental-wasm-memory64 --expose-gc bindings/js/tests/ends.mjs [LIBRARY]
+// usage: [ROUNDS=20000] [ENDS=3000] [MEBIBYTES=40] node --expose-gc bindings/js/tests/ends.mjs
 //
-// LIBRARY is dist/bt.wasm if it isn't given, and BT_ADDON the addon, if it isn't dist's. ROUNDS are calls of the addon with random
-// arguments, ENDS are ends that are dropped, and MEBIBYTES is how much memory these may leave.
+// BT_ADDON is the addon, if it isn't dist's. ROUNDS are calls of the addon with random arguments, ENDS are ends that are dropped, and
+// MEBIBYTES is how much memory these may leave.
 import assert from 'node:assert/strict';
 import crypto from 'node:crypto';
 import { once } from 'node:events';
@@ -13,7 +13,7 @@ import { Worker } from 'node:worker_threads';
 import { load } from '../bt.mjs';
 import { End, Event, EXTENSIONS, FAST, fetch, Id, Item, Refused } from '../end.mjs';
 
-const bt = await load(process.argv[2]);
+const bt = await load();
 const { ROUNDS = 20000, ENDS = 3000, MEBIBYTES = 40, BT_ADDON = '../../../dist/x86_64-linux/bt.node' } = process.env;
 const addon = createRequire(import.meta.url)(BT_ADDON);
 const METADATA = Uint8Array.from({ length: 40000 }, (_, k) => k * k >> 3), infoHash = crypto.createHash('sha1').update(METADATA).digest();
@@ -164,7 +164,15 @@ const TESTS = {
     setTimeout(() => stop.abort(), 100);
     await assert.rejects(fetched(await peer(socket => setTimeout(() => socket.destroy(), 2000)), { signal: stop.signal }), { name: 'AbortError' });
     await assert.rejects(fetched(await peer(() => {}), { signal: AbortSignal.abort(), timeout: 1000 }), { name: 'AbortError' });
-    await assert.rejects(fetched(await byEnd({ serve: METADATA }), { most: 39999, timeout: 1000 }), Error);
+    for (const most of [39999, 39999n]) {
+      await assert.rejects(fetched(await byEnd({ serve: METADATA }), { most }), { name: 'FetchError', message: /of 40000 bytes, not of 1 to 39999$/ });
+    }
+    for (const size of ['0', '67108865', '9223372036854775807']) {
+      const announced = Buffer.from(`\0d1:md11:ut_metadatai9ee13:metadata_sizei${size}ee`), head = Buffer.from([0, 0, 0, announced.length + 1, 20]);
+      const told = bt.handshake(infoHash, PEER, EXTENSIONS);
+      await assert.rejects(fetched(await peer(socket => socket.write(joined([told, head, announced])))), { name: 'FetchError', message: /not of 1 to 67108864$/ });
+    }
+    assert.deepEqual(await fetched(await byEnd({ serve: METADATA }), { most: 40000 }), METADATA);
     const closed = await peer(() => {}), { port } = closed.address();
     closed.close();
     await assert.rejects(fetch('127.0.0.1', port, infoHash), { code: 'ECONNREFUSED' });
@@ -193,6 +201,19 @@ const TESTS = {
     const fixed = [undefined, null, true, 0, -1, 1.5, NaN, Infinity, 2 ** 53, 10n, '', 'end', Symbol('end'), {}, [], frozen, () => 0, NOTHING, moved, shared,
       new Uint8Array(88), new Uint8Array(160), new Uint8Array(161).subarray(1), new Uint32Array(40), new Float64Array(20), new DataView(config.buffer),
       config.buffer, config, config, config, hello(), new Proxy({}, {}), new Proxy(config, {})];
+    // Arguments of the right kinds, of which some are parts of one buffer that overlap.
+    const area = new Uint8Array(400), part = size => random(4) ? new Uint8Array(size) : area.subarray(random(40)).subarray(0, size);
+    const noise = size => part(size).map(() => random(3) ? 0 : random(256)), wide = () => BigInt.asUintN(64, BigInt(random(2 ** 32)) ** 2n);
+    const stream = () => [hello(), new Uint8Array(random(300)), joined([hello(), noise(random(100))]), area, moved, NOTHING][random(6)];
+    const out = () => new Uint32Array([20, 19, 500, 25000][random(4)]), write = () => [noise(64), part([0, 4, 30, 300][random(4)]), part(88)];
+    const RIGHT = {
+      readerInit: () => [part(64), noise(48)], readerBatch: () => [noise(64), stream(), random(90), random(2), out()],
+      check: () => [noise(48), stream(), part(24)], writeHandshake: () => [noise(48), part(68)], writerInit: () => [part(64), noise(48), wide()],
+      write: () => [...write(), noise(88), stream()], writeMetadata: () => [...write(), random(5), random(2 ** 32), wide(), stream()],
+      writeExtendedHandshake: () => [...write(), random(256), random(2), wide()], itemName: () => [noise(88)], reasonName: () => [random(300)],
+    };
+    assert.deepEqual(Object.keys(addon).filter(name => !/^end|^abi$/.test(name)).sort(), Object.keys(RIGHT).sort());
+    const right = new Map(Object.entries(RIGHT).map(([name, make]) => [addon[name], make]));
     const ends = [], any = () => random(3) ? fixed[random(fixed.length)] : ends.length ? ends[random(ends.length)] : 7;
     let returned = 0;
     for (let round = 0; round < Number(ROUNDS); round++) {
@@ -202,7 +223,7 @@ const TESTS = {
       if (random(4) === 0) config[17] = 1;
       try {
         // half of the calls have arguments of the right kinds
-        const found = random(2) ? call(...given) : call === addon.endNew ? call(config, fixed[random(2) ? 17 : 20]) : call(ends[random(ends.length + 1)],
+        const found = random(2) ? call(...given) : right.has(call) ? call(...right.get(call)()) : call === addon.endNew ? call(config, fixed[random(2) ? 17 : 20]) : call(ends[random(ends.length + 1)],
           [hello(), new Uint8Array(random(300)), 3][random(3)], random(70), new Uint8Array(160));
         returned += 1;
         if (call === addon.endNew && typeof found === 'object') ends[random(2) ? random(ends.length + 1) : ends.length % 50] = found;

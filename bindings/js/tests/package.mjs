@@ -1,7 +1,7 @@
 // Tests the package: `npm install` of its folder and of what `npm pack` makes, without a network, and its types by `tsc` on right and wrong
 // uses. What isn't installed is left out, and that is said.
 //
-// usage: node --experimental-wasm-memory64 bindings/js/tests/package.mjs
+// usage: node bindings/js/tests/package.mjs
 import assert from 'node:assert/strict';
 import { execFileSync } from 'node:child_process';
 import fs from 'node:fs';
@@ -19,7 +19,7 @@ const USE = `
   import { End } from 'bt-peer-wire/end';
   const bt = await load();
   console.log(bt.check(bt.handshake(new Uint8Array(20), new Uint8Array(20))), new End({ infoHash: new Uint8Array(20) }).take().length);`;
-const FLAGS = ['--experimental-wasm-memory64', '--no-warnings', '--input-type=module'];
+const FLAGS = ['--input-type=module'];
 
 function run(words, cwd) {
   try {
@@ -52,7 +52,7 @@ const TESTS = {
     const made = run(['npm', 'pack', '--silent', '--cache', path.join(room, 'cache')], copy).trim().split('\n').at(-1);
     const folder = installed('pack', path.join(copy, made)), there = path.join(folder, 'node_modules/bt-peer-wire');
     assert.ok(!fs.lstatSync(there).isSymbolicLink());
-    assert.deepEqual(fs.readdirSync(there).filter(name => !/\.m?js$|\.mts$/.test(name)).sort(), ['bt.node', 'bt.wasm', 'package.json']);
+    assert.deepEqual(fs.readdirSync(there).filter(name => !/\.m?js$|\.mts$/.test(name)).sort(), ['README.md', 'bt.node', 'bt.wasm', 'package.json']);
     fs.rmSync(path.join(room, 'clone'), { recursive: true });
     assert.equal(run([process.execPath, ...FLAGS, '-e', USE], folder), '0 68\n');
   },

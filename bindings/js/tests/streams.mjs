@@ -1,6 +1,6 @@
 // Tests bt.mjs: values that don't fit, chunks, refusals, messages written.
 //
-// usage: node --experimental-wasm-memory64 bindings/js/tests/streams.mjs [LIBRARY]. LIBRARY is dist/bt.wasm if it isn't given.
+// usage: node bindings/js/tests/streams.mjs [LIBRARY]. LIBRARY is what `load` takes: bt.node or bt.wasm.
 //
 // The messages' bytes are those of BEP 3, BEP 5, BEP 6, BEP 9 and BEP 10.
 import assert from 'node:assert/strict';
@@ -8,11 +8,12 @@ import fs from 'node:fs';
 import { inspect } from 'node:util';
 import { EXTENSIONS, FAST, Id, Item, Kind, load, Refused } from '../bt.mjs';
 
-const bt = await load(process.argv[2] ?? new URL('../../../dist/bt.wasm', import.meta.url));
+const bt = await load(process.argv[2]);
 const example = name => new Uint8Array(fs.readFileSync(new URL(`../../../examples/${name}.bin`, import.meta.url)));
 const bytesOf = text => new Uint8Array(Buffer.from(text.replaceAll(' ', ''), 'hex')), hexOf = text => Buffer.from(text).toString('hex');
 const joined = parts => new Uint8Array(Buffer.concat(parts));
-const HASH = Uint8Array.from({ length: 20 }, (_, k) => k), PEER = new Uint8Array(Buffer.from('-XX0001-000000000000'));
+const HASH = Uint8Array.from({ length: 20 }, (_, k) => k), PEER_TEXT = '-XX0001-000000000000';
+const PEER = new Uint8Array(Buffer.from(PEER_TEXT));
 const HELLO = bt.handshake(HASH, PEER), STRICT = { pieces: 8, strict: true };
 const EXAMPLES = ['first', 'fetching', 'serving', 'downloading'];
 
@@ -89,11 +90,45 @@ const TESTS = {
       start: 68, size: 9, id: Id.HAVE, name: 'have', index: 9, body: new Uint8Array(), data: bytesOf('00000005 04 00000009'),
     });
     assert.match(inspect(have), /name: 'have',\n {2}index: 9,\n/);
-    assert.equal(JSON.stringify(have), '{"start":68,"size":9,"id":4,"name":"have","index":9,"body":"","data":"000000050400000009"}');
-    assert.match(JSON.stringify([...bt.read(stream)][0]), /"reserved":"1048581","infoHash":"000102/);
     // what was read of one batch stays while others are read
     for (const _ of bt.read(example('downloading')));
     assert.deepEqual([have.start, have.name, have.index, have.begin], [68, 'have', 9, null]);
+  },
+
+  // (the members are those of docs/COMMANDS.md; tests/bindings.py compares many with `bt_tool show --json`)
+  json() {
+    const message = (id, ...parts) => {
+      const body = Buffer.concat(parts.map(part => Buffer.from(part, 'latin1'))), head = Buffer.alloc(5, id);
+      head.writeUInt32BE(1 + body.length);
+      return Buffer.concat([head, body]);
+    };
+    const rows = [
+      [HELLO, `"handshake","reserved":"0000000000100005","info_hash":"${hexOf(HASH)}","peer_id":"${hexOf(PEER)}","peer_id_text":"${PEER_TEXT}"`],
+      [bytesOf('00000000'), '"keep-alive"'], [bytesOf('00000005 04 00000009'), '"have","index":9'],
+      [bytesOf('0000000d 06 00000007 00004000 00000001'), '"request","index":7,"begin":16384,"length":1'],
+      [bytesOf('0000000b 07 00000001 00000002 6162'), '"piece","index":1,"begin":2,"bytes":2'], [bytesOf('00000003 09 1ae1'), '"port","port":6881'],
+      [bytesOf('00000003 63 0102'), '"unknown","id":99,"bytes":2'], [bytesOf('00000005 14 09 010203'), '"extended","id":9,"bytes":3'],
+      [message(20, '\0', 'd1:ad1:vi3ee1:md11:ut_metadatai7ee13:metadata_sizei9223372036854775807e1:v4:a\xc2\xb5"e'),
+        '"ext-handshake","dictionary":81,"rest":0,"metadata_size":9223372036854775807,"ut_metadata":7,"client":"aµ\\""'],
+      [message(20, '\0', 'd1:v1:\xffe'), '"ext-handshake","dictionary":8,"rest":0,"metadata_size":null,"ut_metadata":null,"client":null'],
+      [message(20, '\0', 'd1:vi7e1:v1:xe'), '"ext-handshake","dictionary":14,"rest":0,"metadata_size":null,"ut_metadata":null,"client":null'],
+      [message(20, '\x03', 'd8:msg_typei0e5:piecei4ee'), '"metadata-request","piece":4'],
+      [message(20, '\x03', 'd8:msg_typei1e5:piecei0e10:total_sizei2eehi'), '"metadata-data","piece":0,"total_size":2,"bytes":2'],
+      [message(20, '\x03', 'de?'), '"metadata-malformed","dictionary":2,"rest":1'], [message(20, '\x07', '\0\0\0\x2a'), '"donthave","index":42'],
+    ];
+    let at = 0;
+    const stream = joined(rows.map(([bytes]) => bytes)), items = [...bt.read(stream, { donthaveId: 7 })];
+    assert.equal(items.length, rows.length);
+    for (const [k, [bytes, wanted]] of rows.entries()) {
+      assert.equal(items[k].jsonLine(), `{"offset":${at},"item":${wanted}}`);
+      const shown = JSON.stringify(items[k]), isExact = JSON.rawJSON || !wanted.includes('9223372036854775807');
+      assert.equal(shown, isExact ? items[k].jsonLine() : items[k].jsonLine().replace('9223372036854775807', '9223372036854776000'));
+      at += bytes.length;
+    }
+    assert.equal(JSON.stringify(bt.verdict(stream, { donthaveId: 7 })), `{"verdict":"ok","messages":${rows.length - 1},"bytes":${stream.length}}`);
+    const refusal = '{"verdict":"refused","message":2,"offset":76,"reason":"Missing"}';
+    assert.throws(() => [...bt.read(example('first'), STRICT)], refused => JSON.stringify(refused) === refusal && refused.jsonLine() === refusal);
+    assert.equal(JSON.stringify(bt.verdict(example('first'), STRICT)), refusal);
   },
 
   iterators() {
@@ -123,6 +158,8 @@ const TESTS = {
     assert.throws(() => [...bt.read(example('first'), STRICT)], { name: 'Refused', at: 76, number: 2, reason: 'Missing' });
     assert.throws(() => bt.check(example('first'), STRICT), { message: 'message 2 refused at byte 76: Missing' });
     assert.equal(bt.check(example('downloading')), 80);
+    assert.deepEqual([bt.check(example('first')), bt.verdict(example('first'))], [2, { verdict: 'ok', messages: 2, bytes: 81 }]);
+    assert.deepEqual(bt.verdict(example('first'), { strict: true }), { verdict: 'refused', message: 2, offset: 76, reason: 'Missing' });
     assert.throws(() => [...bt.read(new Uint8Array())], { at: 0, number: 0, reason: 'EndInside' });
     const writer = openWriter(STRICT);
     assert.throws(() => writer.have(8), { name: 'Refused', at: 78, number: 2, reason: 'BadIndex' });
@@ -185,6 +222,62 @@ const TESTS = {
     assert.deepEqual([piece.index, piece.begin, piece.body.length, last.name], [1, 2, block.length, 'keep-alive']);
     assert.equal(Buffer.compare(piece.body, block), 0);
     assert.throws(() => [...bt.read(stream)], { reason: 'TooLong', at: 68 });
+  },
+
+  // (in WebAssembly only the heads of long blocks are copied, in several windows)
+  longBlocksAmongOthers() {
+    const own = { limit: 3 << 20, pieces: 4000 }, parts = [HELLO, bytesOf('00000001 0f')], sizes = [];
+    for (let k = 0; k < 700; k++) {
+      const size = [0, 1, 498, 499, 500, 501, 16384, 16384, 16384, 70000][k % 10] + (k === 350 ? 2 << 20 : 0), message = new Uint8Array(13 + size).fill(k);
+      new DataView(message.buffer).setUint32(0, 9 + size);
+      new DataView(message.buffer).setUint32(5, k);
+      message[4] = Id.PIECE;
+      parts.push(message, ...Array.from({ length: k % 90 === 0 ? 100 : 2 }, () => bytesOf('00000005 04 00000009')));
+      sizes.push(size);
+    }
+    const stream = joined(parts), haves = 8 * 100 + 692 * 2;
+    const blocks = [...bt.read(stream, own)].filter(item => item.id === Id.PIECE);
+    assert.deepEqual(blocks.map(item => [item.index, item.body.length, item.body.every(byte => byte === item.index % 256)]), sizes.map((size, k) => [k, size, true]));
+    assert.equal(bt.check(stream, own), 1 + 700 + haves);
+    const feed = bt.feed(own), fed = [];
+    for (let at = 0; at < stream.length; at += 9999) for (const item of feed.push(stream.subarray(at, at + 9999))) fed.push(item.start);
+    assert.deepEqual(fed, [...bt.read(stream, own)].map(item => item.start));
+    // a message that is refused after blocks is refused there
+    const wrong = joined([stream, bytesOf('00000005 04 00000fa0')]);
+    assert.throws(() => [...bt.read(wrong, own)], { at: stream.length + 5, reason: 'BadIndex', number: 1 + 700 + haves + 1 });
+  },
+
+  // A long message in short chunks: its bytes are copied a few times, and not once for each chunk.
+  shortChunksOfALongMessage() {
+    const size = 8 << 20, own = { limit: 9 << 20 }, feed = bt.feed(own), stream = joined([HELLO, bt.writer(own, 0).piece(1, 2, new Uint8Array(size).fill(7))]);
+    const buffers = new Set(), items = [];
+    for (let at = 0; at < stream.length; at += 4000) {
+      items.push(...feed.push(stream.subarray(at, at + 4000)));
+      buffers.add(feed.bytes.buffer);
+    }
+    assert.deepEqual(items.map(item => item.start), [0, 68]);
+    assert.ok(items[1].body.every(byte => byte === 7) && items[1].body.length === size);
+    assert.ok(buffers.size < 30, `${buffers.size} buffers`);
+  },
+
+  shortChunksShareMemory() {
+    const feed = bt.feed(), items = [...feed.push(HELLO)];
+    for (let k = 0; k < 2000; k++) {
+      const have = bytesOf('00000005 04 00000000');
+      new DataView(have.buffer).setUint32(5, k);
+      items.push(...feed.push(have.subarray(0, k % 9)), ...feed.push(have.subarray(k % 9)));
+    }
+    assert.deepEqual(items.slice(1).map(item => [item.start, item.index, hexOf(item.data)]),
+      Array.from({ length: 2000 }, (_, k) => [68 + 9 * k, k, '0000000504' + k.toString(16).padStart(8, '0')]));
+    assert.ok(new Set(items.map(item => item.data.buffer)).size < 10);
+  },
+
+  bytesThatAreShared() {
+    const stream = example('downloading'), shared = new Uint8Array(new SharedArrayBuffer(stream.length));
+    shared.set(stream);
+    const items = [...bt.read(shared)];
+    shared.fill(0);
+    assert.deepEqual(items.map(item => item.toObject()), [...bt.read(stream)].map(item => item.toObject()));
   },
 
   eachMessage() {

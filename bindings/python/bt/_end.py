@@ -73,7 +73,10 @@ class End:
         with bt.End(bt.Own(info_hash=info_hash), fetch=True) as end:
             while end.metadata is None:
                 sock.sendall(end.take())
-                for heard in end.receive(sock.recv(65536)):
+                data = sock.recv(65536)
+                if not data:
+                    raise EOFError("the peer closed the connection")
+                for heard in end.receive(data):
                     print(heard.event.name, heard.item.name)
 
     It opens no socket and reads no clock. It is used by the thread that made it.
@@ -192,10 +195,14 @@ class End:
         self._from, self._source = start, (bytes(self._kept), start)
         self._ends = start + len(self._kept)
 
+    def _waiting(self) -> int:
+        """How many bytes wait to be sent."""
+        return int(lib.bt.bt_end_waiting(self._c))
+
     def outgoing(self, most: int = 65536) -> bytes:
         """Returns the first bytes that wait to be sent, at most this many. They still wait."""
         self._open()
-        out = C.create_string_buffer(min(lib.number(most, 63, "most"), lib.bt.bt_end_waiting(self._c)))
+        out = C.create_string_buffer(min(lib.number(most, 63, "most"), self._waiting()))
         n = lib.bt.bt_end_outgoing(self._c, out, len(out))
         return out.raw[:n]
 
@@ -206,7 +213,7 @@ class End:
 
     def take(self) -> bytes:
         """Returns all bytes that wait to be sent, which then wait no more."""
-        found = self.outgoing(lib.bt.bt_end_waiting(self._c))
+        found = self.outgoing(self._waiting())
         self.sent(len(found))
         return found
 

@@ -101,6 +101,7 @@ def _calls() -> Dict[str, Tuple[Any, List[Any]]]:
         "bt_reader_init": (None, [to(Reader), to(Own)]),
         "bt_reader_finish": (status, [to(Reader), at, n, to(Item)]),
         "bt_reader_batch": (status, [to(Reader), at, n, to(Item), n, to(Batch)]),
+        "bt_check_dictionary": (status, [at, n, to(C.c_uint64)]),
         "bt_check": (status, [to(Own), at, n, to(Verdict)]),
         "bt_write_handshake": (n, [to(Handshake), at, n]),
         "bt_writer_init": (None, [to(Reader), to(Own), C.c_uint64]),
@@ -126,6 +127,10 @@ def _calls() -> Dict[str, Tuple[Any, List[Any]]]:
     }
 
 
+# The calls that a library with this ABI may lack, since they came later.
+_LATER = ("bt_check_dictionary",)
+
+
 def _load() -> Any:
     place = _place()
     try:
@@ -133,7 +138,9 @@ def _load() -> Any:
         if library.bt_abi() != ABI:
             raise ImportError("%s has other structs: BT_ABI %d, not %d" % (place, library.bt_abi(), ABI))
         for name, (result, parameters) in _calls().items():
-            call = getattr(library, name)
+            call = getattr(library, name, None) if name in _LATER else getattr(library, name)
+            if call is None:
+                continue
             call.restype, call.argtypes = result, parameters
     except (OSError, AttributeError) as error:
         raise ImportError("%s isn't the library: %s" % (place, error)) from error

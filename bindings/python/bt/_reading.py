@@ -1,6 +1,7 @@
 """Streams read: whole, or in chunks."""
 from __future__ import annotations
 
+import threading
 from collections import deque
 from functools import partial
 from itertools import chain
@@ -13,6 +14,7 @@ if TYPE_CHECKING:
     import asyncio
 
 _ROOM = 256
+_ONE = "a feed is used by one thread at a time"
 
 
 class _Reader:
@@ -62,13 +64,20 @@ class Feed:
     """Reads a stream that comes in chunks of any size.
 
     `push` and `finish` return iterators over the items that are whole by then. What isn't taken from an iterator isn't
-    lost: the next one begins with it. Both raise Refused, and each later call does so again.
+    lost: the next one begins with it. Both raise Refused, and each later call does so again. A call raises RuntimeError if
+    another thread uses the feed at the time.
     """
 
     def __init__(self, own: Optional[Own] = None) -> None:
         self._reader = _Reader(own)
         self._data, self._at = bytearray(), 0
         self._ready: Deque[Item] = deque()
+        # (the library reads the data while other threads run, so they may not change them)
+        self._used = threading.Lock()
+
+    def _use(self) -> None:
+        if not self._used.acquire(False):
+            raise RuntimeError(_ONE)
 
     @property
     def start(self) -> int:
@@ -77,9 +86,14 @@ class Feed:
 
     def push(self, chunk: lib.Bytes) -> Iterator[Item]:
         """Takes all bytes of the chunk, and returns an iterator over the items that are whole."""
-        del self._data[:self._at]
-        self._at = 0
-        self._data += lib.content(chunk, "chunk")
+        chunk = lib.content(chunk, "chunk")
+        self._use()
+        try:
+            del self._data[:self._at]
+            self._at = 0
+            self._data += chunk
+        finally:
+            self._used.release()
         return self._items(False)
 
     def finish(self) -> Iterator[Item]:
@@ -92,19 +106,28 @@ class Feed:
         return self._items(True)
 
     def _read(self, ended: bool) -> None:
-        base = self._reader.state.start
-        used = self._reader.next(self._data, self._at, ended)
-        if used:
-            with memoryview(self._data) as view:
-                self._ready.extend(self._reader.shown(bytes(view[self._at:self._at + used]), base))
-        self._at += used
+        self._use()
+        try:
+            base = self._reader.state.start
+            used = self._reader.next(self._data, self._at, ended)
+            if used:
+                with memoryview(self._data) as view:
+                    self._ready.extend(self._reader.shown(bytes(view[self._at:self._at + used]), base))
+            self._at += used
+        finally:
+            self._used.release()
 
     def _items(self, ended: bool) -> Iterator[Item]:
+        ready = self._ready
         while True:
-            while self._ready:
-                yield self._ready.popleft()
+            while ready:
+                try:
+                    found = ready.popleft()
+                except IndexError:  # (another thread took the last one)
+                    raise RuntimeError(_ONE) from None
+                yield found
             self._read(ended)
-            if not self._ready:
+            if not ready:
                 return
 
 

@@ -6,9 +6,10 @@ import struct
 import sys
 from dataclasses import dataclass
 from operator import attrgetter
-from typing import Any, Dict, List, Optional, Tuple
+from typing import Any, Callable, Dict, List, Optional, Tuple
 
 from . import _library as lib
+from ._bencode import Decoder
 from ._names import DHT, EXTENSIONS, FAST, Id, Kind, Reason
 
 def _table(others: Any, given: Dict[Id, Any]) -> Tuple[Any, ...]:
@@ -252,6 +253,12 @@ class Item:
         found = {name: getattr(self, name) for name in _SHOWN if name != "data"}
         return {name: value for name, value in found.items() if value is not None}
 
+    def as_json(self) -> Dict[str, Any]:
+        """Returns the members of the object that `bt_tool show --json` prints of it, in order. `json.dumps` takes it."""
+        found: Dict[str, Any] = {"offset": self._start, "item": self.name}
+        found.update((name, _MEMBERS[name](self)) for name in _MEMBERS_OF.get(self.name, ()))
+        return found
+
     def _all(self) -> Tuple[Any, ...]:
         return tuple(getattr(self, name) for name in _SHOWN)
 
@@ -320,6 +327,37 @@ def items(structs: memoryview, source: Tuple[bytes, int]) -> List[Item]:
 
 _SHOWN = ("start", "size", "id", "name", "data", "index", "begin", "length", "port", "body", "reserved", "info_hash", "peer_id",
           "extended_id", "kind", "piece", "total_size", "dict_size", "metadata_size", "ut_metadata")
+
+
+def _text(data: Any) -> Optional[str]:
+    """The text in UTF-8, if it is one."""
+    try:
+        return data.decode() if isinstance(data, bytes) else None
+    except UnicodeDecodeError:
+        return None
+
+
+def _client(shown: Item) -> Optional[str]:
+    """The name of the client in an extended handshake (BEP 10)."""
+    return _text(Decoder(shown.body or b"").dictionary().get(b"v"))
+
+
+# What `bt_tool show --json` has of an item besides `offset` and `item`, by the item's name.
+_MEMBERS: Dict[str, Callable[[Any], Any]] = {
+    "reserved": lambda it: "%016x" % it.reserved, "info_hash": lambda it: it.info_hash.hex(), "peer_id": lambda it: it.peer_id.hex(),
+    "peer_id_text": lambda it: _text(it.peer_id), "index": lambda it: it.piece if it.index is None else it.index,
+    "begin": attrgetter("begin"), "length": attrgetter("length"), "port": attrgetter("port"), "piece": attrgetter("piece"),
+    "id": lambda it: it.id if it.extended_id is None else it.extended_id, "dictionary": attrgetter("dict_size"),
+    "rest": lambda it: len(it.rest), "metadata_size": attrgetter("metadata_size"), "ut_metadata": attrgetter("ut_metadata"),
+    "client": _client, "total_size": attrgetter("total_size"), "bytes": lambda it: len(it.rest if it.piece is not None else it.body)}
+_BLOCK, _PAYLOAD = ("index", "begin", "length"), ("id", "bytes")
+_MEMBERS_OF: Dict[str, Tuple[str, ...]] = {
+    "handshake": ("reserved", "info_hash", "peer_id", "peer_id_text"), "have": ("index",), "suggest": ("index",), "allowed-fast": ("index",),
+    "donthave": ("index",), "request": _BLOCK, "cancel": _BLOCK, "reject": _BLOCK, "bitfield": ("bytes",), "piece": ("index", "begin", "bytes"),
+    "port": ("port",), "unknown": _PAYLOAD, "extended": _PAYLOAD,
+    "ext-handshake": ("dictionary", "rest", "metadata_size", "ut_metadata", "client"), "metadata-request": ("piece",),
+    "metadata-data": ("piece", "total_size", "bytes"), "metadata-reject": ("piece",), "metadata-other": ("dictionary", "rest"),
+    "metadata-malformed": ("dictionary", "rest")}
 
 
 class _Names(Dict[int, str]):

@@ -133,7 +133,8 @@ class Peer:
 FAILS = {
     "it closes at once": (OSError, "closed"), "no BitTorrent": (bt.Refused, "BadProtocol"), "another info hash": (bt.Refused, "WrongInfoHash"),
     "no extensions": (bt.FetchError, "no metadata"), "no extended handshake": (TimeoutError, "in time"), "no bencoding": (bt.Refused, "BadBencode"),
-    "a false length": (bt.Refused, "TooLong"), "a huge size": (OSError, ""), "a size above most": (OSError, ""), "a size of 0": (OSError, ""),
+    "a false length": (bt.Refused, "TooLong"), "a huge size": (bt.FetchError, "of 1099511627776 bytes, not of 1 to 50000"),
+    "a size above most": (bt.FetchError, "of 50001 bytes, not of 1 to 50000"), "a size of 0": (bt.FetchError, "of 0 bytes, not of 1 to 50000"),
     "no answer": (TimeoutError, "in time"), "it closes in a block": (OSError, "closed"), "it rejects": (bt.FetchError, "rejected"),
     "another metadata": (bt.FetchError, "other metadata"), "another id": (OSError, ""), "a short block": ((OSError, bt.Refused), ""),
     "another total size": ((OSError, bt.Refused), ""),
@@ -209,6 +210,51 @@ class Fetches(unittest.TestCase):
         for call in (lambda: bt.fetch("127.0.0.1:70000", INFO_HASH), lambda: bt.fetch("127.0.0.1:6881", b"short"),
                      lambda: bt.fetch("127.0.0.1", INFO_HASH), lambda: bt.fetch("127.0.0.1:1", INFO_HASH, most=0)):
             self.assertRaises(ValueError, call)
+
+
+class Sizes(unittest.TestCase):
+    """A size that isn't taken ends the fetch at once, also without a bound of its own, and with one of the size it doesn't."""
+
+    def test_sizes(self):
+        for most, broken, why in ((10, "", "of 40000 bytes, not of 1 to 10"), (39999, "", "not of 1 to 39999"),
+                                  (None, "a huge size", "not of 1 to 67108864"), (1 << 40, "a huge size", "not of 1 to 67108864")):
+            with self.subTest(most), Peer(broken) as address:
+                self.assertRaisesRegex(bt.FetchError, why, bt.fetch, address, INFO_HASH, most=most)
+        with Peer() as address:
+            self.assertEqual(bt.fetch(address, INFO_HASH, most=40000), METADATA)
+
+
+class Example(unittest.TestCase):
+    """The example in the help of End ends, also if the peer closes the connection."""
+
+    CODE = "\n".join(line[8:] for line in bt.End.__doc__.split("\n\n")[1].splitlines())
+
+    def run_on(self, sock):
+        names = {"bt": bt, "sock": sock, "info_hash": INFO_HASH, "print": lambda *words: self.said.append(words)}
+        self.said = []
+        exec(self.CODE, names)
+        return names["end"]
+
+    def test_it_fetches(self):
+        with Peer() as address:
+            host, port = address.split(":")
+            with socket.create_connection((host, int(port)), 20) as sock:
+                self.run_on(sock)
+        self.assertEqual(self.said[-1], ("FETCHED", "metadata-data"))
+
+    def test_the_peer_closes(self):
+        class Closed:
+            calls = 0
+
+            def sendall(self, data):
+                pass
+
+            def recv(self, size):
+                self.calls += 1
+                assert self.calls < 10, "it goes on for ever"
+                return b""
+
+        self.assertRaisesRegex(EOFError, "closed the connection", self.run_on, Closed())
 
 
 class AsyncFetches(Fetches):

@@ -16,6 +16,7 @@ import random
 import socket
 import subprocess
 import sys
+import threading
 import time
 import unittest
 
@@ -40,6 +41,37 @@ def open_writer(own=bt.Own(), metadata_id=7):
     writer.peer = dataclasses.replace(writer.peer, metadata_id=metadata_id)
     writer.have_none()
     return writer
+
+
+class Json(unittest.TestCase):
+    """The members of docs/COMMANDS.md, of items whose bytes are those of the BEPs."""
+
+    def seen(self, messages):
+        return [list(item.as_json().items()) for item in bt.read(HELLO + messages, bt.Own(donthave_id=9))]
+
+    def test_members(self):
+        hello, *found = self.seen(bytes.fromhex(
+            "00000000 00000005 04 00000007 0000000d 06 00000001 00000002 00000003 0000000b 07 00000001 00000002 6162 00000003 09 1ae1"
+            "00000003 63 6162 00000004 14 63 6162 00000006 14 09 00000011"))
+        self.assertEqual(hello, [("offset", 0), ("item", "handshake"), ("reserved", "0000000000100005"), ("info_hash", HASH.hex()),
+                                 ("peer_id", PEER.hex()), ("peer_id_text", PEER.decode())])
+        self.assertEqual(found, [
+            [("offset", 68), ("item", "keep-alive")], [("offset", 72), ("item", "have"), ("index", 7)],
+            [("offset", 81), ("item", "request"), ("index", 1), ("begin", 2), ("length", 3)],
+            [("offset", 98), ("item", "piece"), ("index", 1), ("begin", 2), ("bytes", 2)], [("offset", 113), ("item", "port"), ("port", 6881)],
+            [("offset", 120), ("item", "unknown"), ("id", 99), ("bytes", 2)], [("offset", 127), ("item", "extended"), ("id", 99), ("bytes", 2)],
+            [("offset", 135), ("item", "donthave"), ("index", 17)]])
+
+    def test_extended_messages(self):
+        def message(number, payload):
+            return (len(payload) + 2).to_bytes(4, "big") + bytes([20, number]) + payload
+        for told, client in ((b"1:v4:a\xc3\xa9b", "a\xe9b"), (b"1:v1:\xff", None), (b"1:vi1e", None), (b"", None), (b"1:v1:a1:v1:b", "a")):
+            _, found = self.seen(message(0, b"d1:md11:ut_metadatai3ee13:metadata_sizei100e%se" % told + b"xyz"))
+            self.assertEqual(found, [("offset", 68), ("item", "ext-handshake"), ("dictionary", 45 + len(told)), ("rest", 3),
+                                     ("metadata_size", 100), ("ut_metadata", 3), ("client", client)])
+        _, *found = self.seen(message(3, b"d8:msg_typei1e5:piecei0e10:total_sizei2eehi") + message(3, b"d8:msg_typei0e5:piecei1ee"))
+        self.assertEqual(found, [[("offset", 68), ("item", "metadata-data"), ("piece", 0), ("total_size", 2), ("bytes", 2)],
+                                 [("offset", 117), ("item", "metadata-request"), ("piece", 1)]])
 
 
 class Values(unittest.TestCase):
@@ -197,6 +229,76 @@ def judged(stream, own):
         return bt.check(stream, own)
     except bt.Refused as refused:
         return repr(refused)
+
+
+class Threads(unittest.TestCase):
+    """A feed that two threads use at once: an error in Python, and not the end of the process."""
+
+    def test_a_call_during_another(self):
+        feed, said = bt.Feed(), []
+        kept, read = feed.push(b""), feed._reader.next
+
+        def other():
+            for call in (lambda: feed.push(b"x"), feed.finish, lambda: list(kept)):
+                try:
+                    call()
+                    said.append("nothing")
+                except RuntimeError as error:
+                    said.append(str(error))
+
+        def slow(*words):
+            feed._reader.next = read
+            thread = threading.Thread(target=other)
+            thread.start()
+            thread.join()
+            return read(*words)
+
+        feed._reader.next = slow
+        found = list(feed.push(example("first")))
+        self.assertEqual(said, ["a feed is used by one thread at a time"] * 3)
+        self.assertEqual(found, list(bt.read(example("first"))))
+        self.assertEqual(list(feed.push(bytes(4)))[0].start, 81)
+
+    def test_another_thread_afterwards(self):
+        feed, found = bt.Feed(), []
+        thread = threading.Thread(target=lambda: found.extend(feed.push(example("first"))))
+        thread.start()
+        thread.join()
+        self.assertEqual(found + list(feed.finish()), list(bt.read(example("first"))))
+
+    def test_threads_at_once(self):
+        done = subprocess.run([sys.executable, "-B", "-c", AT_ONCE, PACKAGE], capture_output=True, text=True)
+        self.assertEqual((done.returncode, done.stderr), (0, ""))
+        refused, read = map(int, done.stdout.split())
+        self.assertGreater(refused, 0)
+        self.assertGreater(read, 0)
+
+
+# Pushes to one feed from four threads, which also read; keep-alives are right in any order.
+AT_ONCE = """
+import sys, threading, time
+sys.path.insert(0, sys.argv[1])
+sys.setswitchinterval(1e-6)
+import bt
+feed, ends, chunks, count = bt.Feed(), time.monotonic() + 2, [bytes(4 * n) for n in (1, 1000, 70000)], [0, 0]
+list(feed.push(bt.handshake(bytes(20), bytes(20))))
+def use():
+    turn = 0
+    while time.monotonic() < ends:
+        turn += 1
+        try:
+            for item in feed.push(chunks[turn % 3]):
+                count[1] += 1
+        except RuntimeError as error:
+            assert str(error) == "a feed is used by one thread at a time"
+            count[0] += 1
+threads = [threading.Thread(target=use) for _ in range(4)]
+for thread in threads:
+    thread.start()
+for thread in threads:
+    thread.join()
+print(*count)
+"""
 
 
 class Refusals(unittest.TestCase):

@@ -42,6 +42,16 @@ def talk(end: bt.End, data: bytes) -> bytes:
     for heard in end.receive(data):
         if heard.event == bt.Event.FETCHED:
             return end.metadata or b""
+    try:
+        return bt.fetch("localhost:6881", bytes(20), peers=[("localhost", 6882)], failed=lambda peer, why: print(peer, why))
+    except bt.FetchError as error:
+        for peer, why in error.failures:
+            print(peer, why)
+    try:
+        name: bytes = bt.bdecode(b"de", strict=True)[b"name"]
+    except bt.BencodeError as fault:
+        name = b"%d" % fault.at
+    print(name)
     return bt.fetch("localhost:6881", bytes(20), timeout=2.5)
 """
 WRONG = """import bt
@@ -53,6 +63,8 @@ next(bt.read(b"")).index + 1
 bt.fetch("localhost:6881", "00" * 20)
 bt.columns(b"", fields=[1])
 bt.Writer(bt.Own(), 0).have("1")
+bt.fetch(None, bytes(20), peers=[5])
+bt.bdecode("de")
 """
 
 

@@ -9,6 +9,9 @@ use std::io::{self, ErrorKind, Read, Write};
 use std::net::{TcpStream, ToSocketAddrs};
 use std::time::{Duration, Instant};
 
+/// The greatest size of metadata.
+const MOST: u64 = 67_108_864;
+
 /// Why a peer didn't give the metadata.
 #[derive(Debug)]
 #[non_exhaustive]
@@ -25,6 +28,8 @@ pub enum FetchError {
     Closed,
     /// The peer has no metadata, or rejected a block of it.
     NoMetadata,
+    /// The peer announced metadata of so many bytes, which aren't 1 to `most`.
+    BadSize(u64),
     /// The peer sent other metadata.
     OtherMetadata,
 }
@@ -38,6 +43,7 @@ impl fmt::Display for FetchError {
             FetchError::TimedOut => "the peer didn't give the metadata in time",
             FetchError::Closed => "the peer closed the connection",
             FetchError::NoMetadata => "the peer has no metadata, or rejected a block of it",
+            FetchError::BadSize(size) => return write!(to, "the peer announced metadata of {size} bytes, which isn't taken"),
             FetchError::OtherMetadata => "the peer sent other metadata",
         })
     }
@@ -74,6 +80,7 @@ pub fn fetch(peer: impl ToSocketAddrs, info_hash: [u8; 20], most: Option<u64>, t
     let ends = Instant::now() + timeout;
     let own = Own { reserved: FAST | EXTENSIONS, info_hash: Some(info_hash), ..Own::default() };
     let mut end = End::new(&Config { own, role: Role::Fetch(most), ..Config::default() })?;
+    let most = most.map_or(MOST, |most| most.min(MOST));
     let (mut stream, mut buffer) = (connected(peer, ends)?, vec![0; 65_536]);
     loop {
         stream.set_read_timeout(Some(left(ends)))?;
@@ -85,7 +92,7 @@ pub fn fetch(peer: impl ToSocketAddrs, info_hash: [u8; 20], most: Option<u64>, t
         if n == 0 {
             return Err(FetchError::Closed);
         }
-        if let Some(metadata) = handle(&mut end, &buffer[..n])? {
+        if let Some(metadata) = handle(&mut end, &buffer[..n], most)? {
             return Ok(metadata);
         }
         if end.is_hopeless() {
@@ -112,11 +119,12 @@ fn connected(peer: impl ToSocketAddrs, ends: Instant) -> io::Result<TcpStream> {
 }
 
 /// Handles what was received, and returns the metadata once it is there.
-fn handle(end: &mut End, mut bytes: &[u8]) -> Result<Option<Vec<u8>>, FetchError> {
+fn handle(end: &mut End, mut bytes: &[u8], most: u64) -> Result<Option<Vec<u8>>, FetchError> {
     while let Some(heard) = end.next(&mut bytes)? {
         match (heard.event, heard.item.message) {
             // (clients of this kind answer one request at a time: a second one makes them stop)
             (Event::Opened, Message::Handshake { peer_id, .. }) if peer_id.starts_with(b"-lt") => end.set_window(1),
+            (Event::Announced { size: Some(size), .. }, _) if size == 0 || size > most => return Err(FetchError::BadSize(size)),
             (Event::Fetched, _) => return Ok(end.metadata()),
             (Event::Mismatched, _) => return Err(FetchError::OtherMetadata),
             _ => {}

@@ -151,6 +151,9 @@ fn fetched() {
     let (peer, thread) = serving(b"abd", ABC, usize::MAX);
     assert!(matches!(bt::fetch(peer, ABC, None, second), Err(FetchError::OtherMetadata)));
     thread.join().unwrap();
+    let (peer, thread) = serving(b"abc", ABC, usize::MAX);
+    assert!(matches!(bt::fetch(peer, ABC, Some(2), second), Err(FetchError::BadSize(3))));
+    thread.join().unwrap();
     let (peer, thread) = serving(b"abc", MILLION, usize::MAX);
     assert!(matches!(bt::fetch(peer, ABC, None, second), Err(FetchError::Refused(_))));
     thread.join().unwrap();

@@ -1,91 +1,15 @@
-//! What is measured: an end that serves, one that fetches, two against each other, and many at once.
+//! What is measured: an end that serves, one that fetches, and two against each other.
 //!
 //! A function that owns an end makes it and passes it on, and does nothing more: the drops of an end on many ways out are what
 //! takes long to prove.
-ghost use Rattle.std.specs.Prelude.{◌<◌};
 
-use crate::moving::{Stopped, Tally, bring, bring_alone, deliver, empty};
+use crate::draft::Draft;
+use crate::moving::{Stopped, Tally, bring_draft, deliver, empty};
 use crate::peer::{blocks, greeting, requests};
-use crate::setting::{LIMIT, config, info_hash, metadata};
-use bt_end::{End, EndError, HIGH_WATER, Role};
+use crate::setting::{LIMIT, made, metadata};
+use bt_end::{End, Role};
 use sha1::Sha1;
 use std::alloc::{AllocError, Global};
-
-/// How far each of many ends is.
-#[derive(Clone, Copy)]
-pub enum State {
-    /// Nothing has come from the peer.
-    New,
-    /// The peer's handshake and extended handshake are handled, and nothing waits to be sent.
-    Open,
-    /// As `Open`, and it serves one block.
-    Serving,
-    /// So much waits to be sent that the end handles nothing more.
-    Busy,
-    /// As `Busy`, and then all was taken.
-    Drained,
-    /// Metadata of 64 MiB is fetched, of which nothing has come.
-    Fetching,
-}
-
-/// An end in this role.
-fn made(alloc: Global, hash: [u8; 20], limit: u32, role: Role) -> Result<End, Stopped> {
-    match End::new(alloc, config(hash, limit, role)) {
-        Ok(end) => Ok(end),
-        Err(EndError::Memory) => Err(Stopped::Memory),
-        Err(_) => Err(Stopped::Unmade),
-    }
-}
-
-/// What an end does with metadata in this state.
-fn role_in(alloc: Global, state: State, served: &[u8]) -> Result<Role, AllocError> {
-    match state {
-        State::New | State::Open => Ok(Role::Watch),
-        State::Serving | State::Busy | State::Drained => Ok(Role::Serve(served.to_vec(alloc)?)),
-        State::Fetching => Ok(Role::Fetch),
-    }
-}
-
-/// An end in the role that it has in this state.
-fn made_in(
-    alloc: Global,
-    hash: [u8; 20],
-    limit: u32,
-    state: State,
-    served: &[u8],
-) -> Result<End, Stopped> {
-    made(alloc, hash, limit, role_in(alloc, state, served)?)
-}
-
-/// Brings the bytes several times.
-fn bring_times(end: &mut End, bytes: &[u8], times: u32, tally: &mut Tally) -> Result<(), Stopped> {
-    'rounds: for _round in 0..times {
-        bring(end, bytes, tally)?;
-    }
-    Ok(())
-}
-
-/// Brings `rounds` requests, for `count` blocks in turn.
-fn ask(
-    alloc: Global,
-    end: &mut End,
-    count: u32,
-    rounds: u32,
-    tally: &mut Tally,
-) -> Result<(), Stopped>
-    requires { 0 < count }
-{
-    let all = requests(alloc, count)?;
-    bring_times(end, &all, rounds / count, tally)?;
-    let rest = requests(alloc, rounds % count)?;
-    bring(end, &rest, tally)
-}
-
-/// Brings the peer's greeting.
-fn greet(alloc: Global, end: &mut End, hash: [u8; 20], tally: &mut Tally) -> Result<(), Stopped> {
-    let greeting = greeting(alloc, hash, None)?;
-    bring(end, &greeting, tally)
-}
 
 /// Brings the peer's greeting and `rounds` requests to an end that serves metadata of `count` blocks.
 fn served_by(
@@ -94,12 +18,12 @@ fn served_by(
     hash: [u8; 20],
     count: u32,
     rounds: u32,
-) -> Result<Tally, Stopped>
-    requires { 0 < count }
-{
+) -> Result<Tally, Stopped> {
+    let count = count.max(1);
     let mut tally = Tally::default();
-    greet(alloc, end, hash, &mut tally)?;
-    ask(alloc, end, count, rounds, &mut tally)?;
+    bring_draft(end, &greeting(alloc, hash, None), 1, &mut tally)?;
+    bring_draft(end, &requests(alloc, count), rounds / count, &mut tally)?;
+    bring_draft(end, &requests(alloc, rounds % count), 1, &mut tally)?;
     empty(end, &mut tally);
     Ok(tally)
 }
@@ -108,11 +32,9 @@ fn served_by(
 ///
 /// # Errors
 /// `Stopped` if an end refuses or can't be made, or when out of memory.
-pub fn serve(alloc: Global, count: u32, rounds: u32) -> Result<Tally, Stopped>
-    requires { 0 < count }
-{
+pub fn serve(alloc: Global, count: u32, rounds: u32) -> Result<Tally, Stopped> {
     let served = metadata(alloc, count)?;
-    let hash = info_hash(&served);
+    let hash = Sha1::digest(&served);
     let mut end = made(alloc, hash, LIMIT, Role::Serve(served))?;
     served_by(alloc, &mut end, hash, count, rounds)
 }
@@ -143,10 +65,10 @@ impl Fetches {
 }
 
 /// Brings the peer's greeting and blocks to an end that fetches; returns how long the metadata is.
-fn fetched_from(end: &mut End, greeting: &[u8], data: &[u8]) -> Result<usize, Stopped> {
+fn fetched_from(end: &mut End, greeting: &Draft, data: &Draft) -> Result<usize, Stopped> {
     let mut tally = Tally::default();
-    bring(end, greeting, &mut tally)?;
-    bring(end, data, &mut tally)?;
+    bring_draft(end, greeting, 1, &mut tally)?;
+    bring_draft(end, data, 1, &mut tally)?;
     Ok(fetched(end))
 }
 
@@ -154,8 +76,8 @@ fn fetched_from(end: &mut End, greeting: &[u8], data: &[u8]) -> Result<usize, St
 fn fetch_once(
     alloc: Global,
     hash: [u8; 20],
-    greeting: &[u8],
-    data: &[u8],
+    greeting: &Draft,
+    data: &Draft,
 ) -> Result<usize, Stopped> {
     let mut end = made(alloc, hash, LIMIT, Role::Fetch)?;
     fetched_from(&mut end, greeting, data)
@@ -167,70 +89,96 @@ fn fetch_once(
 /// `Stopped` if an end refuses or can't be made, or when out of memory.
 pub fn fetch(alloc: Global, count: u32, rounds: u32) -> Result<Fetches, Stopped> {
     let served = metadata(alloc, count)?;
-    let hash = info_hash(&served);
-    let greeting = greeting(alloc, hash, Some(served.len() as u64))?;
-    let data = blocks(alloc, &served)?;
+    let hash = Sha1::digest(&served);
+    let size = count.saturating_mul(16_384);
+    let greeting = greeting(alloc, hash, Some(size));
+    let data = blocks(alloc, &served, size);
+    let bytes = data.whole()?.len() as u64;
     let mut fetches = Fetches::default();
-    'rounds: for _round in 0..rounds {
+    for _round in 0..rounds {
         let length = fetch_once(alloc, hash, &greeting, &data)?;
-        fetches.add(count, data.len() as u64, length);
+        fetches.add(count, bytes, length);
     }
     Ok(fetches)
 }
 
-/// More exchanges than a fetch of `count` blocks takes: each brings a block at least.
-fn most_exchanges(count: u32) -> u32 {
-    count.saturating_add(4)
+/// What two ends sent, and digests of what each sent, if it is hashed.
+#[derive(Drop)]
+struct Sent {
+    tally: Tally,
+    is_hashed: bool,
+    left: Sha1,
+    right: Sha1,
 }
 
-/// Brings what each of two ends sent to the other one.
-fn cross(left: &mut End, right: &mut End, tally: &mut Tally) -> Result<(), Stopped> {
-    deliver(left, right, tally)?;
-    deliver(right, left, tally)
+/// Adds what waits to be sent to a digest.
+fn update(digest: &mut Sha1, is_hashed: bool, end: &End) {
+    if is_hashed {
+        digest.update(end.outgoing());
+    }
 }
 
-/// Brings what each end sent to the other one, until the metadata is there.
-fn moved(left: &mut End, right: &mut End, count: u32) -> Result<Transfer, Stopped> {
-    let mut tally = Tally::default();
-    'exchanges: for _exchange in 0..most_exchanges(count) {
-        if fetched(right) > 0 {
+impl Sent {
+    fn new(is_hashed: bool) -> Sent {
+        Sent {
+            tally: Tally::default(),
+            is_hashed,
+            left: Sha1::new(),
+            right: Sha1::new(),
+        }
+    }
+
+    /// Brings what each of two ends sent to the other one.
+    fn cross(&mut self, left: &mut End, right: &mut End) -> Result<(), Stopped> {
+        update(&mut self.left, self.is_hashed, left);
+        deliver(left, right, &mut self.tally)?;
+        update(&mut self.right, self.is_hashed, right);
+        deliver(right, left, &mut self.tally)
+    }
+}
+
+/// Brings what each end sent to the other one until the metadata is there; returns its length.
+///
+/// A fetch of `count` blocks takes fewer than `count` + 4 exchanges: each brings a block at least. What is hashed is exchanged so
+/// often.
+fn cross_all(
+    left: &mut End,
+    right: &mut End,
+    count: u32,
+    sent: &mut Sent,
+) -> Result<usize, Stopped> {
+    for _exchange in 0..count.saturating_add(4) {
+        if !sent.is_hashed && fetched(right) > 0 {
             break;
         }
-        cross(left, right, &mut tally)?;
+        sent.cross(left, right)?;
     }
-    Ok(Transfer {
-        sent: tally.sent,
-        length: fetched(right),
-    })
+    Ok(fetched(right))
 }
 
-/// How many bytes two ends sent, and how long the metadata is that came.
-#[derive(Clone, Copy)]
-struct Transfer {
-    sent: u64,
-    length: usize,
-}
-
-/// Moves metadata of `count` blocks from an end to a new one.
+/// Moves metadata of `count` blocks from an end to a new one; returns its length.
 fn moved_from(
     alloc: Global,
     left: &mut End,
     hash: [u8; 20],
     count: u32,
-) -> Result<Transfer, Stopped> {
+    sent: &mut Sent,
+) -> Result<usize, Stopped> {
     let mut right = made(alloc, hash, LIMIT, Role::Fetch)?;
-    moved(left, &mut right, count)
+    cross_all(left, &mut right, count, sent)
 }
 
-/// Moves metadata of `count` blocks between two new ends.
-fn moved_once(
+/// Moves metadata of `count` blocks between two new ends; returns its length.
+fn moved(
     alloc: Global,
     served: &[u8],
     hash: [u8; 20],
     count: u32,
-) -> Result<Transfer, Stopped> {
-    let mut left = made_in(alloc, hash, LIMIT, State::Serving, served)?;
-    moved_from(alloc, &mut left, hash, count)
+    sent: &mut Sent,
+) -> Result<usize, Stopped> {
+    let role = Role::Serve(served.to_vec(alloc)?);
+    let mut left = made(alloc, hash, LIMIT, role)?;
+    moved_from(alloc, &mut left, hash, count, sent)
 }
 
 /// Moves metadata of `count` blocks by `rounds` pairs of ends in turn.
@@ -239,77 +187,14 @@ fn moved_once(
 /// `Stopped` if an end refuses or can't be made, or when out of memory.
 pub fn exchange(alloc: Global, count: u32, rounds: u32) -> Result<Fetches, Stopped> {
     let served = metadata(alloc, count)?;
-    let hash = info_hash(&served);
+    let hash = Sha1::digest(&served);
     let mut fetches = Fetches::default();
-    'rounds: for _round in 0..rounds {
-        let moved = moved_once(alloc, &served, hash, count)?;
-        fetches.add(count, moved.sent, moved.length);
+    for _round in 0..rounds {
+        let mut sent = Sent::new(false);
+        let length = moved(alloc, &served, hash, count, &mut sent)?;
+        fetches.add(count, sent.tally.sent, length);
     }
     Ok(fetches)
-}
-
-/// Adds what waits to be sent to a digest.
-fn update(digest: &mut Sha1, end: &End) {
-    digest.update(end.outgoing());
-}
-
-/// As `cross`, and adds what each sent to its digest.
-fn cross_digested(
-    left: &mut End,
-    right: &mut End,
-    hashers: &mut Hashers,
-    tally: &mut Tally,
-) -> Result<(), Stopped> {
-    update(&mut hashers.left, left);
-    deliver(left, right, tally)?;
-    update(&mut hashers.right, right);
-    deliver(right, left, tally)
-}
-
-/// The digests of what each of two ends sent so far.
-#[derive(Drop)]
-struct Hashers {
-    left: Sha1,
-    right: Sha1,
-}
-
-/// The SHA-1 of all that each of these ends sends.
-fn digests_of(
-    left: &mut End,
-    right: &mut End,
-    count: u32,
-) -> Result<([u8; 20], [u8; 20]), Stopped> {
-    let mut tally = Tally::default();
-    let mut hashers = Hashers {
-        left: Sha1::new(),
-        right: Sha1::new(),
-    };
-    'exchanges: for _exchange in 0..most_exchanges(count) {
-        cross_digested(left, right, &mut hashers, &mut tally)?;
-    }
-    let Hashers {
-        left: of_left,
-        right: of_right,
-    } = hashers;
-    Ok((of_left.finalize(), of_right.finalize()))
-}
-
-/// The SHA-1 of all that an end and a new one send.
-fn digests_from(
-    alloc: Global,
-    left: &mut End,
-    hash: [u8; 20],
-    count: u32,
-) -> Result<([u8; 20], [u8; 20]), Stopped> {
-    let mut right = made(alloc, hash, LIMIT, Role::Fetch)?;
-    digests_of(left, &mut right, count)
-}
-
-/// The SHA-1 of all that each of two ends sends, while this metadata goes over.
-fn digests_over(alloc: Global, served: &[u8], count: u32) -> Result<([u8; 20], [u8; 20]), Stopped> {
-    let hash = info_hash(served);
-    let mut left = made_in(alloc, hash, LIMIT, State::Serving, served)?;
-    digests_from(alloc, &mut left, hash, count)
 }
 
 /// Returns the SHA-1 of all that each of two ends sends.
@@ -320,7 +205,16 @@ fn digests_over(alloc: Global, served: &[u8], count: u32) -> Result<([u8; 20], [
 /// `Stopped` if an end refuses or can't be made, or when out of memory.
 pub fn digests(alloc: Global, count: u32) -> Result<([u8; 20], [u8; 20]), Stopped> {
     let served = metadata(alloc, count)?;
-    digests_over(alloc, &served, count)
+    let hash = Sha1::digest(&served);
+    let mut sent = Sent::new(true);
+    let _length = moved(alloc, &served, hash, count, &mut sent)?;
+    let Sent {
+        tally: _,
+        is_hashed: _,
+        left,
+        right,
+    } = sent;
+    Ok((left.finalize(), right.finalize()))
 }
 
 /// Returns the SHA-1 of metadata of `count` blocks, taken `rounds` + 1 times.
@@ -329,110 +223,9 @@ pub fn digests(alloc: Global, count: u32) -> Result<([u8; 20], [u8; 20]), Stoppe
 /// `AllocError` when out of memory.
 pub fn hash(alloc: Global, count: u32, rounds: u32) -> Result<[u8; 20], AllocError> {
     let served = metadata(alloc, count)?;
-    let mut digest = info_hash(&served);
-    'rounds: for _round in 0..rounds {
-        digest = info_hash(&served);
+    let mut digest = Sha1::digest(&served);
+    for _round in 0..rounds {
+        digest = Sha1::digest(&served);
     }
     Ok(digest)
-}
-
-/// How many bytes wait to be sent.
-fn waiting(end: &End) -> usize {
-    end.outgoing().len()
-}
-
-/// Brings requests, and takes nothing that the end sends, until it is busy.
-fn fill(end: &mut End, requests: &[u8]) -> Result<(), Stopped> {
-    let mut tally = Tally::default();
-    'requests: for _request in 0..HIGH_WATER {
-        if waiting(end) >= HIGH_WATER {
-            break;
-        }
-        bring_alone(end, requests, &mut tally)?;
-    }
-    Ok(())
-}
-
-/// How each of many ends is made, and what the peer says to it.
-#[derive(Drop)]
-struct Plan {
-    hash: [u8; 20],
-    limit: u32,
-    state: State,
-    greeting: Vec<u8>,
-    request: Vec<u8>,
-}
-
-impl Plan {
-    fn new(alloc: Global, hash: [u8; 20], limit: u32, state: State) -> Result<Plan, AllocError> {
-        let size = match state {
-            State::Fetching => Some(67_108_864),
-            _ => None,
-        };
-        let greeting = greeting(alloc, hash, size)?;
-        let request = requests(alloc, 1)?;
-        Ok(Plan {
-            hash,
-            limit,
-            state,
-            greeting,
-            request,
-        })
-    }
-
-    /// Brings an end the greeting, and takes what it sends.
-    fn greet(&self, end: &mut End) -> Result<(), Stopped> {
-        let mut tally = Tally::default();
-        bring(end, &self.greeting, &mut tally)?;
-        empty(end, &mut tally);
-        Ok(())
-    }
-
-    /// Brings an end into its state.
-    fn bring_to_state(&self, end: &mut End) -> Result<(), Stopped> {
-        match self.state {
-            State::New => return Ok(()),
-            _ => self.greet(end)?,
-        }
-        match self.state {
-            State::Busy => fill(end, &self.request),
-            State::Drained => {
-                fill(end, &self.request)?;
-                empty(end, &mut Tally::default());
-                Ok(())
-            }
-            _ => Ok(()),
-        }
-    }
-
-    /// An end in its state.
-    fn end(&self, alloc: Global, served: &[u8]) -> Result<End, Stopped> {
-        let mut end = made_in(alloc, self.hash, self.limit, self.state, served)?;
-        match self.bring_to_state(&mut end) {
-            Ok(()) => Ok(end),
-            Err(stopped) => Err(stopped),
-        }
-    }
-
-    /// Adds one more end.
-    fn add(&self, alloc: Global, served: &[u8], ends: &mut Vec<End>) -> Result<(), Stopped> {
-        match ends.push(self.end(alloc, served)?) {
-            Ok(()) => Ok(()),
-            Err(_) => Err(Stopped::Memory),
-        }
-    }
-}
-
-/// Makes `count` ends in this state, whose limit is `limit` bytes.
-///
-/// # Errors
-/// `Stopped` if an end refuses or can't be made, or when out of memory.
-pub fn ends(alloc: Global, count: u32, state: State, limit: u32) -> Result<Vec<End>, Stopped> {
-    let served = metadata(alloc, 1)?;
-    let plan = Plan::new(alloc, info_hash(&served), limit, state)?;
-    let mut ends = Vec::new(alloc);
-    'ends: for _end in 0..count {
-        plan.add(alloc, &served, &mut ends)?;
-    }
-    Ok(ends)
 }

@@ -1,25 +1,27 @@
 //! Moves bytes between memory and an end.
 ghost use Rattle.std.specs.Prelude.{◌<◌, ◌≤◌, length, IfOk};
 
+use crate::draft::Draft;
 use bt_end::{End, Turn, TurnError};
 use bt_feed::Memory;
-use std::alloc::{AllocError, Global};
-use thiserror::Error;
+use std::alloc::AllocError;
+use std::fmt;
 
 /// From how many waiting bytes on they are taken from an end.
-const PORTION: usize = 65_536;
+pub const PORTION: usize = 65_536;
 
 /// Why a job stops before its end.
-#[derive(Clone, Copy, Debug, Error)]
+#[derive(Clone, Copy)]
 pub enum Stopped {
-    #[error("an end refuses its peer's bytes")]
+    /// An end refuses its peer's bytes.
     Refused,
-    #[error("an end takes nothing more")]
+    /// An end takes nothing more.
     Stuck,
-    #[error("an end can't be made so")]
+    /// An end can't be made so.
     Unmade,
-    #[error("out of memory")]
     Memory,
+    /// The words are no command line.
+    Usage,
 }
 
 impl From<AllocError> for Stopped {
@@ -31,6 +33,18 @@ impl From<AllocError> for Stopped {
 impl From<Memory> for Stopped {
     fn from(_: Memory) -> Stopped {
         Stopped::Memory
+    }
+}
+
+impl fmt::Display for Stopped {
+    fn fmt<W: fmt::Write>(&self, f: &mut fmt::Formatter<W>) -> fmt::Result {
+        f.write_str(match self {
+            Stopped::Refused => "an end refuses its peer's bytes",
+            Stopped::Stuck => "an end takes nothing more",
+            Stopped::Unmade => "an end can't be made so",
+            Stopped::Memory => "out of memory",
+            Stopped::Usage => "no command line",
+        })
     }
 }
 
@@ -74,31 +88,40 @@ pub fn empty(end: &mut End, tally: &mut Tally) {
     tally.sent = tally.sent.saturating_add(waiting as u64);
 }
 
-/// Brings all the bytes to an end, and takes what it sends as it fills.
+/// Brings all the bytes to an end, and takes what it sends when so many bytes wait.
 ///
 /// # Errors
 /// `Stopped` if the end refuses them, or when out of memory.
-pub fn bring(end: &mut End, bytes: &[u8], tally: &mut Tally) -> Result<(), Stopped> {
+pub fn bring(
+    end: &mut End,
+    bytes: &[u8],
+    portion: usize,
+    tally: &mut Tally,
+) -> Result<(), Stopped> {
     let mut rest = bytes;
     'items: while !rest.is_empty() {
         let taken = step(end, rest, tally)?;
         rest = &rest[taken..];
-        if end.outgoing().len() >= PORTION {
+        if end.outgoing().len() >= portion {
             empty(end, tally);
         }
     }
     Ok(())
 }
 
-/// Brings the bytes to an end, which keeps what it sends.
+/// Brings a draft to an end several times, and takes what it sends as it fills.
 ///
 /// # Errors
-/// `Stopped` if the end refuses them, or when out of memory.
-pub fn bring_alone(end: &mut End, bytes: &[u8], tally: &mut Tally) -> Result<(), Stopped> {
-    let mut rest = bytes;
-    'items: while !rest.is_empty() {
-        let taken = step(end, rest, tally)?;
-        rest = &rest[taken..];
+/// As [`bring`].
+pub fn bring_draft(
+    end: &mut End,
+    draft: &Draft,
+    times: u32,
+    tally: &mut Tally,
+) -> Result<(), Stopped> {
+    let bytes = draft.whole()?;
+    for _round in 0..times {
+        bring(end, bytes, PORTION, tally)?;
     }
     Ok(())
 }
@@ -108,7 +131,7 @@ pub fn bring_alone(end: &mut End, bytes: &[u8], tally: &mut Tally) -> Result<(),
 /// # Errors
 /// `Stopped` if the other end refuses it, or when out of memory.
 pub fn deliver(from: &mut End, to: &mut End, tally: &mut Tally) -> Result<(), Stopped> {
-    bring_alone(to, from.outgoing(), tally)?;
+    bring(to, from.outgoing(), usize::MAX, tally)?;
     empty(from, tally);
     Ok(())
 }

@@ -14,7 +14,6 @@ use Rattle.bt_bencode.specs.Unique.{same_number, same_tree, same_string, regroup
 use Rattle.bt_bencode.proofs.Heads.{nonempty, head_of, integer_there, negative_there}
 use Rattle.bt_bencode.proofs.Nesting.{in_range, fits}
 use Rattle.bt_bencode.proofs.Payloads.{split_at}
-use Rattle.bt_bencode.specs.Payloads.{BeginsWithNone}
 use Rattle.bt_bencode.proofs.Rising.{none_of}
 use Rattle.bt_bencode.proofs.Walk.{list_at, dictionary_at}
 
@@ -213,10 +212,6 @@ begun_stops payload ps n left b stops = stops (dictionary ps) (drop n payload) (
 pub none_unsorted : (payload next : List ℕ) (ps : Pairs) (n : ℕ) → BeginsWith payload ps n → PassesValue 32 payload next → None ≡ unsorted (dictionary ps)
 none_unsorted payload next ps n b passes = sym (passed_over 32 payload next passes (dictionary ps) (drop n payload)
     (fits 32 (dictionary ps) b.spells.fits.in_range b.spells.fits.nested) (sym (split_at payload ps n b))).0
-
-pub none_begins : (payload : List ℕ) (left : ℕ) → StopsValue 32 payload left → (left ≡ 0) ⊎ ((left ≢ 0) × (length payload < left)) → BeginsWithNone payload
-none_begins payload left stops (inl zero) ps n b = let s = begun_stops payload ps n left b stops in omega (arith, s.3)
-none_begins payload left stops (inr large) ps n b = let s = begun_stops payload ps n left b stops in omega (arith, s.2)
 
 pub one_order : (payload : List ℕ) (left at : ℕ) → StopsValue 32 payload left → at ≡ length payload - left → (ps : Pairs) (n : ℕ) → BeginsWith payload ps n
     → unsorted (dictionary ps) ≡ Some at

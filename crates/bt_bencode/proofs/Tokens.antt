@@ -192,7 +192,7 @@ goes_text s k short = record { live = tt; forth = λ r h. go r h; back = λ r h.
     go : (r : List ℕ) → ValueThen (room_in s) (Rest s) (ben_string k ++ r) → Rest s r
     go r (u, rest, fit, is, then) = subst (Rest s) (sym (same_tree (string k) u r rest short (in_range (room_in s) u fit) is).1) then
 
-goes_whole_key : (s : Stack) (k : List ℕ) → length k ≤ longest_string
+pub goes_whole_key : (s : Stack) (k : List ℕ) → length k ≤ longest_string
     → Goes expect.Item (container.Dict ∷ s) (ben_string k) expect.Value (container.Dict ∷ s)
 goes_whole_key s k short = record { live = tt; forth = λ r h. go r h; back = λ r h. on r h }
   where

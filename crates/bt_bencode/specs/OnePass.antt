@@ -1,11 +1,14 @@
 -- What the pass that validates bytes and compares keys has passed. (For the contracts of functions that are not public.)
-use Rattle.std.specs.Prelude.{◌≡◌, ℕ, ℤ, ◌<◌, ◌+◌, List, ◌∷◌, ◌++◌, length, FitsSigned, Option, Some, None}
+use Rattle.std.specs.Prelude.{◌≡◌, ◌≢◌, ◌⊎◌, ℕ, ℤ, ◌<◌, ◌+◌, List, ◌∷◌, ◌++◌, length, FitsSigned, Option, Some, None}
 use Rattle.std.specs.Int.{w64}
 use Rattle.std.specs.Fmt.{signed_decimal}
 use Rattle.bt_bencode.specs.Trees.{Tree, Trees, Pairs}
 use Rattle.bt_bencode.specs.Bencoding.{ben, ben_all, ben_pairs}
 use Rattle.bt_bencode.specs.Keys.{IsSorted, AllAreSorted, PairsAreSorted, value_at, unsorted, unsorted_all, unsorted_pairs}
 use Rattle.bt_bencode.specs.Readable.{FindsValue}
+use Rattle.bt_bencode.specs.Scanner.{Goes}
+use Rattle.bt_bencode.specs.declared.scan.Container.{Container}
+use Rattle.bt_bencode.specs.declared.scan.Expect.TheVariants as expect
 use Rattle.bt_bencode.specs.Room.{FitsIn, AllFitIn, PairsFitIn}
 use Rattle.bt_bencode.specs.declared.noted.Noted.{Noted}
 
@@ -41,6 +44,16 @@ StopsItems room bytes left = (ts : Trees) (more : List ℕ) → AllFitIn room ts
 abbrev pub StopsPairs : ℕ → Option (List ℕ) → List ℕ → ℕ → Type 0
 StopsPairs room last bytes left =
     (ps : Pairs) (more : List ℕ) → PairsFitIn room ps → bytes ≡ ben_pairs ps ++ 101 ∷ more → StopsAt (unsorted_pairs last ps) bytes left
+
+-- Where the pass halted, `left` of the bytes are left, and `stack'` is open: just what may follow there is what may follow now.
+abbrev pub Halts : List Container → List ℕ → ℕ → List Container → Type 0
+Halts stack bytes left stack' =
+    (done : List ℕ) × (rest : List ℕ) × (bytes ≡ done ++ rest) × (length rest ≡ left) × Goes expect.Item stack done expect.Item stack'
+
+-- it halted inside the value that the bytes begin with, or nothing of it was passed
+abbrev pub HaltsValue : List Container → ℕ → List ℕ → ℕ → List Container → Type 0
+HaltsValue stack before bytes left stack' = ((left ≡ before) × (stack' ≡ stack)) ⊎ ((first : ℕ) × (done : List ℕ) × (rest : List ℕ) × (first ≢ 101)
+    × (bytes ≡ (first ∷ done) ++ rest) × (length rest ≡ left) × Goes expect.Value stack (first ∷ done) expect.Item stack')
 
 -- they are the pairs of an outermost dictionary, its end, and what is noted as following it, and so are the values of three keys
 pub record PassesNoted (one two three bytes : List ℕ) (x : Noted) : Type 0 where

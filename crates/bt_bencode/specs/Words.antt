@@ -1,4 +1,4 @@
--- Numbers by which eight bytes of two keys are compared at once. (For the contracts of functions that are not public.)
+-- Numbers by which some bytes of two keys are compared at once. (For the contracts of functions that are not public.)
 use Rattle.std.specs.Prelude.{◌≡◌, ℕ, ◌+◌, ◌*◌, ◌<◌, List, [], ◌∷◌, take, ⊤}
 
 -- the number that the bytes are in big-endian order, after those of n
@@ -11,7 +11,7 @@ abbrev pub AreBytes : List ℕ → Type 0
 AreBytes [] = ⊤
 AreBytes (x ∷ xs) = (x < 256) × AreBytes xs
 
--- the number of the first eight bytes
-pub record IsWord (bytes : List ℕ) (n : ℕ) : Type 0 where
-  pub value : n ≡ joined 0 (take 8 bytes)
-  pub fit : AreBytes (take 8 bytes)
+-- the number of the first k bytes
+pub record IsWord (k : ℕ) (bytes : List ℕ) (n : ℕ) : Type 0 where
+  pub value : n ≡ joined 0 (take k bytes)
+  pub fit : AreBytes (take k bytes)

@@ -1,7 +1,7 @@
 //! The pass over a dictionary whose keys are in order, which also finds the values of some keys, so that they need no second walk.
 //!
 //! It recurses as [`after_value`](crate::one_pass::after_value) does, and doesn't allocate.
-ghost use Rattle.std.specs.Prelude.{◌≡◌, Option, None, IfOk, IfErr, IfSome, option_map, option_and_then};
+ghost use Rattle.std.specs.Prelude.{◌≡◌, ◌-◌, ◌≤◌, [], ◌∷◌, length, take, Option, None, IfOk, IfErr, IfSome, option_map, option_and_then};
 ghost use Rattle.std.specs.Option.{option_or};
 ghost use Rattle.std.specs.Bool.{then_some};
 ghost use Rattle.bt_bencode.specs.Trees.{Tree, dictionary};
@@ -9,25 +9,24 @@ ghost use Rattle.bt_bencode.specs.Bencoding.{BeginsWith};
 ghost use Rattle.bt_bencode.specs.Keys.{unsorted, value_at};
 ghost use Rattle.bt_bencode.specs.LookUps.{integer_of, dictionary_of};
 ghost use Rattle.bt_bencode.specs.Readable.{FindsValue, HasValue};
-ghost use Rattle.bt_bencode.specs.OnePass.{PassesNoted, StopsValue, StopsPairs};
+ghost use Rattle.bt_bencode.specs.OnePass.{PassesNoted, StopsValue, StopsPairs, Halts};
+ghost use Rattle.bt_bencode.specs.Scanner.{HasRead};
 ghost use Rattle.bt_bencode.specs.Disorders.{RefusesSorted};
 
-use crate::MAX_NESTING;
 use crate::dict_ref::DictRef;
 use crate::one_pass::{after_value, text_in_front};
 use crate::pairs::{IntPairs, pairs_if_any};
 use crate::read::following;
+use crate::scan::{Bad, Container, Expect, Open, scan_on};
 use crate::skip::{int_if_any, int_in};
 use crate::sorted::is_above;
 
 /// Why a payload begins with no dictionary whose keys are in order.
 #[derive(Clone, Copy)]
 pub enum Disorder {
-    /// The payload begins with no dictionary within the limits.
-    Bytes,
-    /// If it begins with a dictionary, the first key out of order, at any depth, is at `at`.
-    ///
-    /// The bytes after that key weren't looked at.
+    /// The payload begins with no dictionary within the limits, and why: what [`check`](crate::check) returns.
+    Bytes(Bad),
+    /// It begins with one, and the first key out of order, at any depth, is at `at`.
     Order { at: usize },
 }
 
@@ -56,7 +55,8 @@ fn note<'a>(found: Option<&'a [u8]>, is_sought: bool, value: &'a [u8]) -> Option
 
 /// Returns what follows the outermost dictionary, whose pairs are in front, and what three keys have in it.
 ///
-/// If it returns `None`, `left` becomes how many bytes there were from the first key out of order on, or the bytes are wrong.
+/// If it returns `None`, there is none, or a key is out of order: `left` becomes how many bytes there were from the item on at
+/// which it stopped, and `stack` what is open there.
 // Inline, so that a literal key is compared by its length first, and mostly by nothing else.
 #[inline(always)]
 fn after_noted<'a>(
@@ -64,10 +64,13 @@ fn after_noted<'a>(
     one: &[u8],
     two: &[u8],
     three: &[u8],
+    stack: &mut Open,
     left: &mut usize,
 ) -> Option<Noted<'a>>
+    requires { stack.old ≡ Container.Dict ∷ [] }
     ensures passes { IfSome result (PassesNoted one.now two.now three.now bytes.now) }
     ensures stops { result ≡ None → StopsPairs 31 None bytes.now left.new }
+    ensures halts { result ≡ None → Halts stack.old bytes.now left.new stack.new }
 {
     let mut rest = bytes;
     let mut last: Option<&[u8]> = None;
@@ -84,32 +87,36 @@ fn after_noted<'a>(
                 third,
             });
         }
+        *left = rest.len();
         let (key, value) = text_in_front(rest)?;
         if !is_above(last, key) {
-            *left = rest.len();
             return None;
         }
         last = Some(key);
         first = note(first, key == one, value);
         second = note(second, key == two, value);
         third = note(third, key == three, value);
-        rest = after_value(value, MAX_NESTING - 1, left)?;
+        rest = after_value(value, stack, left)?;
     }
+    *left = 0;
     None
 }
 
-/// Returns why the pass stopped, of which `left` bytes were left at the first key out of order.
+/// Returns why the pass stopped, with `left` bytes left, inside what is open there.
+///
+/// The scanner goes on from there, so that no byte before is read again.
+#[cold]
 #[inline(never)]
-fn disorder_at(payload: &[u8], left: usize) -> Disorder
-    requires { StopsValue 32 payload.now left }
+fn disorder_at(payload: &[u8], left: usize, stack: Open) -> Disorder
+    requires within { left ≤ length payload.now }
+    requires stops { StopsValue 32 payload.now left }
+    requires read { HasRead (take (length payload.now - left) payload.now) Expect.Item stack }
     ensures { RefusesSorted payload.now result }
 {
-    if left == 0 || left > payload.len() {
-        Disorder::Bytes
-    } else {
-        Disorder::Order {
-            at: payload.len() - left,
-        }
+    let at = payload.len() - left;
+    match scan_on(payload, at, stack) {
+        Err(bad) => Disorder::Bytes(bad),
+        Ok(_) => Disorder::Order { at },
     }
 }
 
@@ -117,7 +124,7 @@ fn disorder_at(payload: &[u8], left: usize) -> Disorder
 /// three keys have in it too.
 ///
 /// # Errors
-/// `Bytes` if no dictionary is in front; `Order` if one, if it is there, has a key out of order.
+/// `Bytes` if no dictionary is in front; `Order` if one has a key out of order.
 #[inline(always)]
 fn check_noted<'a>(
     payload: &'a [u8],
@@ -132,16 +139,21 @@ fn check_noted<'a>(
     ensures third { IfOk result (λ x. FindsValue x.2.third (value_at three.now x.0.tree.0)) }
     ensures err { IfErr result (RefusesSorted payload.now) }
 {
-    if payload.len() == 0 || payload[0] != b'd' {
-        return Err(Disorder::Bytes);
+    if payload.len() == 0 {
+        return Err(Disorder::Bytes(Bad::Cut));
     }
+    if payload[0] != b'd' {
+        return Err(Disorder::Bytes(Bad::Impossible { at: 0 }));
+    }
+    let mut stack = Open::new();
+    stack.push(Container::Dict);
     let mut left = 0;
-    match after_noted(following(payload), one, two, three, &mut left) {
+    match after_noted(following(payload), one, two, three, &mut stack, &mut left) {
         Some(noted) => {
             let n = payload.len() - noted.rest.len();
             Ok((DictRef::of_spelled(&payload[..n]), n, noted))
         }
-        None => Err(disorder_at(payload, left)),
+        None => Err(disorder_at(payload, left, stack)),
     }
 }
 
@@ -152,8 +164,8 @@ fn check_noted<'a>(
 /// `key`, as [`DictRef::lookup_int`] does. `None`: no pair has the key. `Some(None)`: its value is of another kind.
 ///
 /// # Errors
-/// `Bytes` if the payload begins with no dictionary. `Order` with the offset of the first key that is out of order, if it
-/// begins with one: bytes after that key may be wrong.
+/// `Bytes` if the payload begins with no dictionary, and why. `Order` with the offset of the first key that is out of order, if
+/// it begins with one.
 #[inline(always)]
 pub fn check_sorted_pairs_and_int<'a>(
     payload: &'a [u8],

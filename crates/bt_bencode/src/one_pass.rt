@@ -1,18 +1,19 @@
 //! A pass that validates bytes and compares the keys at once.
 //!
-//! It costs about what the validation alone does. If it fails, it has noted how many bytes were left at the first key out of
-//! order, or that the bytes are wrong. It recurses by the nesting, at most 32 deep, and doesn't allocate.
-ghost use Rattle.std.specs.Prelude.{◌≡◌, ◌↔◌, IsTrue, ℕ, ◌<◌, ◌≤◌, ◌^◌, ◌+◌, ◌-◌, ◌*◌, ◌∷◌, ◌++◌, List, length, None, IfSome};
+//! It costs about what the validation alone does. If it fails, it has noted how many bytes were left at the item at which it
+//! did, and what was open there, so that the scanner can go on from there. It recurses by the nesting, at most 32 deep, and
+//! doesn't allocate.
+ghost use Rattle.std.specs.Prelude.{◌≡◌, ◌↔◌, IsTrue, ℕ, ◌<◌, ◌≤◌, ◌^◌, ◌+◌, ◌-◌, ◌*◌, ◌∷◌, ◌++◌, List, length, drop, Some, None, IfSome, slice_get};
 ghost use Rattle.std.specs.Fmt.{decimal};
 ghost use Rattle.bt_bencode.specs.Bencoding.{ben_string, longest_string};
-ghost use Rattle.bt_bencode.specs.OnePass.{PassesInteger, PassesValue, PassesItems, PassesPairs, StopsValue, StopsItems, StopsPairs};
+ghost use Rattle.bt_bencode.specs.OnePass.{PassesInteger, PassesValue, PassesItems, PassesPairs, StopsValue, StopsItems, StopsPairs, Halts, HaltsValue};
 ghost use Rattle.bt_bencode.specs.Readable.{HasInteger, HasString};
-ghost use Rattle.bt_bencode.specs.Scanner.{IsDigit};
+ghost use Rattle.bt_bencode.specs.Scanner.{IsDigit, room_in};
 
-use crate::MAX_STRING;
 use crate::read::following;
-use crate::scan::is_digit;
+use crate::scan::{Container, Open, is_digit};
 use crate::sorted::is_above;
+use crate::{MAX_NESTING, MAX_STRING};
 
 /// The greatest integer, 2^63 - 1.
 const MAX_INTEGER: u64 = (1 << 63) - 1;
@@ -101,16 +102,19 @@ fn after_integer(bytes: &[u8]) -> Option<&[u8]>
     Some(rest)
 }
 
-/// Returns what follows the value in front, in which `room` lists and dictionaries may nest.
+/// Returns what follows the value in front, inside the lists and dictionaries that are open.
 ///
-/// If it returns `None`, `left` becomes how many bytes there were from the first key out of order on, or the value is none.
+/// If it returns `None`, the value is none, or has a key out of order. If that is in a list or a dictionary of it, `left`
+/// becomes how many bytes there were from the item on that has it, and `stack` what is open there; otherwise both stay.
 /// Inline, so that an integer or a byte string costs no call.
 #[cycle(one_pass)]
 #[inline(always)]
-pub fn after_value<'a>(bytes: &'a [u8], room: usize, left: &mut usize) -> Option<&'a [u8]>
-    ensures passes { IfSome result (λ rest. PassesValue room bytes.now rest.now) }
+pub fn after_value<'a>(bytes: &'a [u8], stack: &mut Open, left: &mut usize) -> Option<&'a [u8]>
+    ensures passes { IfSome result (λ rest. PassesValue (room_in stack.old) bytes.now rest.now) }
     ensures shorter { IfSome result (λ rest. length rest.now < length bytes.now) }
-    ensures stops { result ≡ None → StopsValue room bytes.now left.new }
+    ensures closes { IfSome result (λ rest. stack.new ≡ stack.old) }
+    ensures stops { result ≡ None → StopsValue (room_in stack.old) bytes.now left.new }
+    ensures halts { result ≡ None → HaltsValue stack.old left.old bytes.now left.new stack.new }
 {
     if bytes.len() == 0 {
         return None;
@@ -118,12 +122,14 @@ pub fn after_value<'a>(bytes: &'a [u8], room: usize, left: &mut usize) -> Option
     match bytes[0] {
         b'i' => after_integer(following(bytes)),
         // By `?`, so that what follows a value is kept in registers.
-        b'l' if room > 0 => {
-            let rest = after_items(following(bytes), room - 1, left)?;
+        b'l' if stack.depth() < MAX_NESTING => {
+            stack.push(Container::List);
+            let rest = after_items(following(bytes), stack, left)?;
             Some(rest)
         }
-        b'd' if room > 0 => {
-            let rest = after_pairs(following(bytes), room - 1, left)?;
+        b'd' if stack.depth() < MAX_NESTING => {
+            stack.push(Container::Dict);
+            let rest = after_pairs(following(bytes), stack, left)?;
             Some(rest)
         }
         _ => {
@@ -133,43 +139,54 @@ pub fn after_value<'a>(bytes: &'a [u8], room: usize, left: &mut usize) -> Option
     }
 }
 
-/// Returns what follows the list whose further values are in front.
+/// Returns what follows the list whose further values are in front, and which is the innermost that is open.
 #[cycle(one_pass)]
-fn after_items<'a>(bytes: &'a [u8], room: usize, left: &mut usize) -> Option<&'a [u8]>
-    ensures passes { IfSome result (λ rest. PassesItems room bytes.now rest.now) }
+fn after_items<'a>(bytes: &'a [u8], stack: &mut Open, left: &mut usize) -> Option<&'a [u8]>
+    requires { slice_get stack.old 0 ≡ Some Container.List }
+    ensures passes { IfSome result (λ rest. PassesItems (room_in stack.old) bytes.now rest.now) }
     ensures shorter { IfSome result (λ rest. length rest.now < length bytes.now) }
-    ensures stops { result ≡ None → StopsItems room bytes.now left.new }
+    ensures closes { IfSome result (λ rest. stack.new ≡ drop 1 stack.old) }
+    ensures stops { result ≡ None → StopsItems (room_in stack.old) bytes.now left.new }
+    ensures halts { result ≡ None → Halts stack.old bytes.now left.new stack.new }
 {
     let mut rest = bytes;
     while rest.len() > 0 {
         if rest[0] == b'e' {
+            stack.pop();
             return Some(following(rest));
         }
-        rest = after_value(rest, room, left)?;
+        *left = rest.len();
+        rest = after_value(rest, stack, left)?;
     }
+    *left = 0;
     None
 }
 
-/// Returns what follows the dictionary whose pairs are in front.
+/// Returns what follows the dictionary whose pairs are in front, and which is the innermost that is open.
 #[cycle(one_pass)]
-fn after_pairs<'a>(bytes: &'a [u8], room: usize, left: &mut usize) -> Option<&'a [u8]>
-    ensures passes { IfSome result (λ rest. PassesPairs room None bytes.now rest.now) }
+fn after_pairs<'a>(bytes: &'a [u8], stack: &mut Open, left: &mut usize) -> Option<&'a [u8]>
+    requires { slice_get stack.old 0 ≡ Some Container.Dict }
+    ensures passes { IfSome result (λ rest. PassesPairs (room_in stack.old) None bytes.now rest.now) }
     ensures shorter { IfSome result (λ rest. length rest.now < length bytes.now) }
-    ensures stops { result ≡ None → StopsPairs room None bytes.now left.new }
+    ensures closes { IfSome result (λ rest. stack.new ≡ drop 1 stack.old) }
+    ensures stops { result ≡ None → StopsPairs (room_in stack.old) None bytes.now left.new }
+    ensures halts { result ≡ None → Halts stack.old bytes.now left.new stack.new }
 {
     let mut rest = bytes;
     let mut last: Option<&[u8]> = None;
     while rest.len() > 0 {
         if rest[0] == b'e' {
+            stack.pop();
             return Some(following(rest));
         }
+        *left = rest.len();
         let (key, value) = text_in_front(rest)?;
         if !is_above(last, key) {
-            *left = rest.len();
             return None;
         }
         last = Some(key);
-        rest = after_value(value, room, left)?;
+        rest = after_value(value, stack, left)?;
     }
+    *left = 0;
     None
 }

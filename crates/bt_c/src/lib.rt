@@ -6,6 +6,7 @@
 mod batch;
 mod check;
 mod config;
+mod dictionary;
 mod ends;
 mod event;
 mod extended;
@@ -25,6 +26,7 @@ mod writing;
 pub use batch::{BtBatch, bt_reader_batch};
 pub use check::{BtVerdict, bt_check};
 pub use config::BtEndConfig;
+pub use dictionary::bt_check_dictionary;
 pub use ends::{
     BtProgress, bt_end_begin, bt_end_free, bt_end_handle, bt_end_is_hopeless, bt_end_metadata,
     bt_end_mismatches, bt_end_new, bt_end_outgoing, bt_end_progress, bt_end_reset, bt_end_sent,

@@ -19,7 +19,8 @@ use Rattle.bt_capture.specs.declared.ending.Form.{Form}
 use Rattle.bt_capture.specs.Forms.{showing_by, showing_in, is_stream, side_of}
 use Rattle.bt_remarks.specs.declared.events.Side.{Side}
 use Rattle.bt_capture.specs.Tellings.{Part, OfReport, OfRows, OfBytes, report_of_part, report_by, part_text, AreTexts, text_by}
-use Rattle.bt_capture.specs.Tellings.{texts, count_torrents, is_one_refused, is_refused, is_told, Tells, IsStopped}
+use Rattle.bt_capture.specs.Tellings.{texts, count_torrents, is_one_partial, is_one_refused, is_refused, is_told, Tells, IsStopped}
+use Rattle.bt_told.specs.Findings.{is_partial}
 
 one : (p : Report → Bool) (x : Report) → length (filter p (x ∷ [])) ≡ (if p x then 1 else 0)
 one p x = elim (cases_Bool (p x)) [ inl e ↦ rw e refl | inr e ↦ rw e refl ]
@@ -45,6 +46,9 @@ one_any p x = elim (cases_Bool (p x)) [ inl e ↦ rw e refl | inr e ↦ rw e ref
 
 pub refused_more : (reports : List Report) (r : Report) → is_one_refused (reports ++ r ∷ []) ≡ (is_one_refused reports || is_refused r)
 refused_more reports r = list_any-append is_refused reports (r ∷ []) ∙ ap (λ (b : Bool). is_one_refused reports || b) (one_any is_refused r)
+
+pub partial_more : (reports : List Report) (r : Report) → is_one_partial (reports ++ r ∷ []) ≡ (is_one_partial reports || is_partial r)
+partial_more reports r = list_any-append is_partial reports (r ∷ []) ∙ ap (λ (b : Bool). is_one_partial reports || b) (one_any is_partial r)
 
 -- ---- the text of reports, and of rows between them
 
@@ -111,8 +115,9 @@ no_rows form rows e = one_bytes form (OfRows rows) e
 -- One more report is told.
 pub told_more : (start now : TargetSeen) (old new : Teller) (reports : List Report) (written : List ℕ) (r : Report)
     → new.text.items ≡ old.text.items ++ report_by old.form r → new.form ≡ old.form → new.torrents ≡ counted (is_told r) old.torrents
-    → new.is_refused ≡ (old.is_refused || is_refused r) → Tells start now old reports written → Tells start now new (reports ++ r ∷ []) written
-told_more start now old new reports written r text form torrents refused t =
+    → new.is_refused ≡ (old.is_refused || is_refused r) → new.is_partial ≡ (old.is_partial || is_partial r)
+    → Tells start now old reports written → Tells start now new (reports ++ r ∷ []) written
+told_more start now old new reports written r text form torrents refused partial t =
     let was : List ℕ = written ++ old.text.items in
     let more : List ℕ = report_by old.form r in
     record {
@@ -122,13 +127,14 @@ told_more start now old new reports written r text form torrents refused t =
       calm = t.calm;
       torrents = torrents ∙ ap (counted (is_told r)) t.torrents ∙ sym (count_more reports r);
       refused = refused ∙ ap (λ (b : Bool). b || is_refused r) t.refused ∙ sym (refused_more reports r);
+      partial = partial ∙ ap (λ (b : Bool). b || is_partial r) t.partial ∙ sym (partial_more reports r);
     }
 
 -- Rows are told, or bytes of a stream.
 part_told : (start now : TargetSeen) (old new : Teller) (reports : List Report) (written : List ℕ) (x : Part) → report_of_part x ≡ []
     → new.text.items ≡ old.text.items ++ part_text old.form x → new.form ≡ old.form → new.torrents ≡ old.torrents → new.is_refused ≡ old.is_refused
-    → Tells start now old reports written → Tells start now new reports written
-part_told start now old new reports written x none text form torrents refused t =
+    → new.is_partial ≡ old.is_partial → Tells start now old reports written → Tells start now new reports written
+part_told start now old new reports written x none text form torrents refused partial t =
     let was : List ℕ = written ++ old.text.items in
     let more : List ℕ = part_text old.form x in
     let same : reports ++ report_of_part x ≡ reports = ap (λ (l : List Report). reports ++ l) none ∙ append-nil reports in
@@ -140,20 +146,23 @@ part_told start now old new reports written x none text form torrents refused t 
       calm = t.calm;
       torrents = torrents ∙ t.torrents;
       refused = refused ∙ t.refused;
+      partial = partial ∙ t.partial;
     }
 
 pub shown_more : (start now : TargetSeen) (old new : Teller) (reports : List Report) (written : List ℕ) (rows : List Shown)
     → new.text.items ≡ old.text.items ++ shown_texts (showing_by old.form) rows → new.form ≡ old.form → new.torrents ≡ old.torrents
-    → new.is_refused ≡ old.is_refused → Tells start now old reports written → Tells start now new reports written
-shown_more start now old new reports written rows text form torrents refused t =
-    part_told start now old new reports written (OfRows rows) refl text form torrents refused t
+    → new.is_refused ≡ old.is_refused → new.is_partial ≡ old.is_partial
+    → Tells start now old reports written → Tells start now new reports written
+shown_more start now old new reports written rows text form torrents refused partial t =
+    part_told start now old new reports written (OfRows rows) refl text form torrents refused partial t
 
 pub bytes_more : (start now : TargetSeen) (old new : Teller) (reports : List Report) (written bytes : List ℕ) → is_stream old.form ≡ true
     → new.text.items ≡ old.text.items ++ bytes → new.form ≡ old.form → new.torrents ≡ old.torrents → new.is_refused ≡ old.is_refused
-    → Tells start now old reports written → Tells start now new reports written
-bytes_more start now old new reports written bytes stream text form torrents refused t =
+    → new.is_partial ≡ old.is_partial → Tells start now old reports written → Tells start now new reports written
+bytes_more start now old new reports written bytes stream text form torrents refused partial t =
     let same : part_text old.form (OfBytes bytes) ≡ bytes = one_bytes old.form (OfBytes bytes) stream in
-    part_told start now old new reports written (OfBytes bytes) refl (text ∙ ap (λ (l : List ℕ). old.text.items ++ l) (sym same)) form torrents refused t
+    part_told start now old new reports written (OfBytes bytes) refl (text ∙ ap (λ (l : List ℕ). old.text.items ++ l) (sym same)) form torrents refused
+    partial t
 
 -- of a stream's connection
 pub wants_stream : (n : ℕ) (s : Option (ℕ × Side)) → is_some (side_of n s) ≡ true → is_some s ≡ true
@@ -163,8 +172,9 @@ wants_stream n (Some s) e = refl
 -- The text that was kept is written.
 pub all_written : (start now after : TargetSeen) (old new : Teller) (reports : List Report) (written : List ℕ)
     → Appends now.held after.held old.text.items → after.failed ≡ now.failed → new.text.items ≡ [] → new.form ≡ old.form → new.torrents ≡ old.torrents
-    → new.is_refused ≡ old.is_refused → Tells start now old reports written → Tells start after new reports (written ++ old.text.items)
-all_written start now after old new reports written held calm empty form torrents refused t =
+    → new.is_refused ≡ old.is_refused → new.is_partial ≡ old.is_partial
+    → Tells start now old reports written → Tells start after new reports (written ++ old.text.items)
+all_written start now after old new reports written held calm empty form torrents refused partial t =
     let all : List ℕ = written ++ old.text.items in
     record {
       whole = texts_same old.form new.form reports all (all ++ new.text.items) form (ap (λ (l : List ℕ). all ++ l) empty ∙ append-nil all) t.whole;
@@ -172,6 +182,7 @@ all_written start now after old new reports written held calm empty form torrent
       calm = calm ∙ t.calm;
       torrents = torrents ∙ t.torrents;
       refused = refused ∙ t.refused;
+      partial = partial ∙ t.partial;
     }
 
 -- Only the first part of the text that was kept is written.

@@ -29,7 +29,7 @@ use Rattle.bt_utp.specs.States.{AreCounted}
 use Rattle.bt_capture.specs.FlowTexts.{datagrams, flow_texts}
 use Rattle.bt_capture.specs.Forms.{absent_from, is_stream}
 use Rattle.bt_packet.specs.declared.utp.Utp.{Utp}
-use Rattle.bt_capture.specs.Tellings.{ArePartsOf, AreTexts, Part, count_torrents, is_one_refused, rows_of}
+use Rattle.bt_capture.specs.Tellings.{ArePartsOf, AreTexts, Part, count_torrents, is_one_partial, is_one_refused, rows_of}
 
 -- ---- what a run begins with
 
@@ -137,6 +137,7 @@ pub record IsEndOf (o : Origin) (after : SourceSeen) (now : TargetSeen) (end : C
   pub calm : now.failed ≡ o.target.failed
   pub torrents : end.torrents ≡ count_torrents (reports_of fs)
   pub refused : end.is_refused ≡ is_one_refused (reports_of fs)
+  pub partial : end.is_partial ≡ is_one_partial (reports_of fs)
   pub lost : end.lost ≡ count_lost fs
   pub unread : end.unread ≡ count_unread fs
   pub early : end.early ≡ count_early fs

@@ -3,7 +3,7 @@ use Rattle.std.specs.Prelude.{◌≡◌, ◌==◌, ℕ, ◌^◌, ◌-◌, min, B
 use Rattle.std.specs.List.{flat_map, filter, list_any}
 use Rattle.std.specs.Io.KnownBytes.{Appends}
 use Rattle.bt_io.specs.Seen.{TargetSeen, AppendsPrefix, WriteFailed}
-use Rattle.bt_told.specs.Findings.{finding_of}
+use Rattle.bt_told.specs.Findings.{finding_of, is_partial}
 use Rattle.bt_told.specs.Objects.{report_object}
 use Rattle.bt_told.specs.Reports.{report_text}
 use Rattle.bt_talk.specs.Rows.{Shown, shown_texts}
@@ -106,6 +106,9 @@ count_torrents reports = min (length (filter is_told reports)) (2 ^ 64 - 1)
 abbrev pub is_one_refused : List Report → Bool
 is_one_refused reports = list_any is_refused reports
 
+abbrev pub is_one_partial : List Report → Bool
+is_one_partial reports = list_any is_partial reports
+
 -- These reports were told, and what they add up to is known. These bytes are written: with what is kept they are the texts of the reports,
 -- and of rows, or a stream's bytes.
 pub record Tells (start now : TargetSeen) (t : Teller) (reports : List Report) (written : List ℕ) : Type 0 where
@@ -114,6 +117,7 @@ pub record Tells (start now : TargetSeen) (t : Teller) (reports : List Report) (
   pub calm : now.failed ≡ start.failed
   pub torrents : t.torrents ≡ count_torrents reports
   pub refused : t.is_refused ≡ is_one_refused reports
+  pub partial : t.is_partial ≡ is_one_partial reports
 
 -- A write failed: the first part of the texts is written.
 pub record IsStopped (form : Form) (start now : TargetSeen) (reports : List Report) (text : List ℕ) : Type 0 where

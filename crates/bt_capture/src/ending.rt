@@ -82,6 +82,9 @@ pub struct CaptureEnd {
     pub lost: u64,
     /// Whether a direction is refused under the lenient rules, and not only cut.
     pub is_refused: bool,
+    /// Whether of a BitTorrent connection only a part was read: a direction has a gap, or bytes and no whole handshake, or the connection
+    /// wasn't read further.
+    pub is_partial: bool,
     pub ending: Ending,
     /// The number of the connection whose stream was asked for, if no connection has it.
     pub absent: Option<u64>,

@@ -227,6 +227,7 @@ fn end_of(run: &Run, packets: &Packets, ending: Ending) -> CaptureEnd
         torrents: run.teller.torrents(),
         lost: run.lost.memory,
         is_refused: run.teller.is_refused(),
+        is_partial: run.teller.is_partial(),
         ending,
         absent: run.absent(),
         unread: run.lost.crowd,

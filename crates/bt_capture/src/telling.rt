@@ -84,10 +84,12 @@ pub struct Teller {
     /// How many reports are on BitTorrent connections.
     torrents: u64,
     is_refused: bool,
+    /// Whether a report is on a connection of which only a part was read.
+    is_partial: bool,
 }
 
 impl Teller {
-    ghost use Rattle.bt_capture.specs.Tellings.{Tells, TellsOn, Says, SaysAfter, IsStopped, count_torrents, is_one_refused, IsEmpty};
+    ghost use Rattle.bt_capture.specs.Tellings.{Tells, TellsOn, Says, SaysAfter, IsStopped, count_torrents, is_one_partial, is_one_refused, IsEmpty};
 
     /// Starts with no report.
     pub fn new(alloc: Global, form: Form) -> Teller
@@ -100,6 +102,7 @@ impl Teller {
             form,
             torrents: 0,
             is_refused: false,
+            is_partial: false,
         }
     }
 
@@ -119,6 +122,7 @@ impl Teller {
         let finding = report.finding();
         self.torrents = counted(self.torrents, finding);
         self.is_refused |= is_refused(finding);
+        self.is_partial |= report.is_partial();
         Ok(())
     }
 
@@ -281,5 +285,13 @@ impl Teller {
             → result ≡ is_one_refused reports }
     {
         self.is_refused
+    }
+
+    /// Tells whether a report is on a BitTorrent connection of which only a part was read.
+    pub fn is_partial(&self) -> bool
+        ensures { (start now : TargetSeen) (reports : List Report) (written : List ℕ) → Tells start now self.now reports written
+            → result ≡ is_one_partial reports }
+    {
+        self.is_partial
     }
 }

@@ -1,5 +1,5 @@
 //! Frames of each link type, and what they carry. All values are by hand.
-use bt_packet::{Address, Host, Segment, put_address, segment_of, utp_of};
+use bt_packet::{Address, Flags, Host, Segment, put_address, segment_of, utp_of};
 use std::alloc::{AllocError, Global};
 
 /// Two addresses of Ethernet.
@@ -273,7 +273,8 @@ const NOTHING: &[Row] = &[
     },
 ];
 
-fn joined(alloc: Global, parts: &[&[u8]]) -> Result<Vec<u8>, AllocError> {
+/// The parts, one after the other.
+pub(crate) fn joined(alloc: Global, parts: &[&[u8]]) -> Result<Vec<u8>, AllocError> {
     let mut frame = Vec::new(alloc);
     for part in parts {
         frame.extend_from_slice(part)?;
@@ -281,17 +282,24 @@ fn joined(alloc: Global, parts: &[&[u8]]) -> Result<Vec<u8>, AllocError> {
     Ok(frame)
 }
 
-/// Says a segment.
-fn said(alloc: Global, segment: &Segment) -> Result<Vec<u8>, AllocError> {
-    let mut out = Vec::new(alloc);
-    put_address(&segment.source, &mut out)?;
-    out.extend_from_slice(b" ")?;
-    put_address(&segment.target, &mut out)?;
-    out.extend_from_slice(format!(in alloc; " {} ", segment.sequence)?.as_bytes())?;
-    if let Some(number) = segment.acked {
-        out.extend_from_slice(format!(in alloc; "{number} ")?.as_bytes())?;
-    }
-    let flags = segment.flags;
+/// Appends text.
+fn put(text: &[u8], out: &mut Vec<u8>) -> Result<(), AllocError> {
+    out.extend_from_slice(text)
+}
+
+/// Appends a space and a number.
+fn put_number(alloc: Global, number: u64, out: &mut Vec<u8>) -> Result<(), AllocError> {
+    let text = format!(in alloc; " {number}")?;
+    put(text.as_bytes(), out)
+}
+
+/// Says an end.
+fn put_end(end: &Address, out: &mut Vec<u8>) -> Result<(), AllocError> {
+    put_address(end, out)
+}
+
+/// Says which flags are set.
+fn put_flags(flags: Flags, out: &mut Vec<u8>) -> Result<(), AllocError> {
     for (flag, letter) in [
         (flags.fin, b"f"),
         (flags.syn, b"s"),
@@ -299,98 +307,141 @@ fn said(alloc: Global, segment: &Segment) -> Result<Vec<u8>, AllocError> {
         (flags.ack, b"a"),
     ] {
         if flag {
-            out.extend_from_slice(letter)?;
+            put(letter, out)?;
         }
     }
-    out.extend_from_slice(b" ")?;
-    out.extend_from_slice(segment.payload)?;
-    out.extend_from_slice(format!(in alloc; " {}", segment.length)?.as_bytes())?;
+    Ok(())
+}
+
+/// Says a segment's ends and its numbers.
+fn put_front(alloc: Global, segment: &Segment, out: &mut Vec<u8>) -> Result<(), AllocError> {
+    put_end(&segment.source, out)?;
+    put(b" ", out)?;
+    put_end(&segment.target, out)?;
+    put_number(alloc, u64::from(segment.sequence), out)?;
+    match segment.acked {
+        Some(number) => put_number(alloc, u64::from(number), out),
+        None => Ok(()),
+    }
+}
+
+/// Says a segment.
+fn said(alloc: Global, segment: &Segment) -> Result<Vec<u8>, AllocError> {
+    let mut out = Vec::new(alloc);
+    put_front(alloc, segment, &mut out)?;
+    put(b" ", &mut out)?;
+    put_flags(segment.flags, &mut out)?;
+    put(b" ", &mut out)?;
+    put(segment.payload, &mut out)?;
+    put_number(alloc, segment.length, &mut out)?;
     Ok(out)
+}
+
+/// Hosts of IPv6, and their addresses with the port 80.
+const ADDRESSES: &[(&[u8; 16], &[u8])] = &[
+    (
+        b"\x20\x01\x0d\xb8\0\0\0\0\0\x01\0\0\0\0\0\x01",
+        b"[2001:db8::1:0:0:1]:80",
+    ),
+    (
+        b"\x20\x01\x0d\xb8\0\0\0\x01\0\x01\0\x01\0\x01\0\x01",
+        b"[2001:db8:0:1:1:1:1:1]:80",
+    ),
+    (
+        b"\x20\x01\0\0\0\0\0\x01\0\0\0\0\0\0\0\x01",
+        b"[2001:0:0:1::1]:80",
+    ),
+    (b"\xfe\x80\0\0\0\0\0\0\0\0\0\0\0\0\0\0", b"[fe80::]:80"),
+    (b"\0\0\0\0\0\0\0\0\0\0\0\0\0\0\0\0", b"[::]:80"),
+    (
+        b"\0\0\0\0\0\0\0\0\0\0\xff\xff\xc0\0\x02\x01",
+        b"[::ffff:192.0.2.1]:80",
+    ),
+];
+
+/// Whether the address of a host of IPv6 with the port 80 is written so.
+fn is_written(alloc: Global, host: &[u8; 16], text: &[u8]) -> Result<bool, AllocError> {
+    let mut out = Vec::new(alloc);
+    let end = Address {
+        host: Host::V6(*host),
+        port: 80,
+    };
+    put_end(&end, &mut out)?;
+    Ok(out.as_slice() == text)
 }
 
 /// Addresses of IPv6 as RFC 5952 writes them.
 #[test]
 fn writes_addresses(rt: HostRuntime) -> Result<(), AllocError> {
-    let rows: [(&[u8; 16], &[u8]); 6] = [
-        (
-            b"\x20\x01\x0d\xb8\0\0\0\0\0\x01\0\0\0\0\0\x01",
-            b"[2001:db8::1:0:0:1]:80",
-        ),
-        (
-            b"\x20\x01\x0d\xb8\0\0\0\x01\0\x01\0\x01\0\x01\0\x01",
-            b"[2001:db8:0:1:1:1:1:1]:80",
-        ),
-        (
-            b"\x20\x01\0\0\0\0\0\x01\0\0\0\0\0\0\0\x01",
-            b"[2001:0:0:1::1]:80",
-        ),
-        (b"\xfe\x80\0\0\0\0\0\0\0\0\0\0\0\0\0\0", b"[fe80::]:80"),
-        (b"\0\0\0\0\0\0\0\0\0\0\0\0\0\0\0\0", b"[::]:80"),
-        (
-            b"\0\0\0\0\0\0\0\0\0\0\xff\xff\xc0\0\x02\x01",
-            b"[::ffff:192.0.2.1]:80",
-        ),
-    ];
-    for (host, wanted) in rows {
-        let mut out = Vec::new(rt.alloc());
-        let address = Address {
-            host: Host::V6(*host),
-            port: 80,
-        };
-        put_address(&address, &mut out)?;
-        assert_eq!(rt; out.as_slice(), wanted);
+    for (n, (host, text)) in ADDRESSES.iter().enumerate() {
+        assert!(rt; is_written(rt.alloc(), host, text)?, "at {n}");
     }
     Ok(())
 }
 
+/// The segment of a row's frame in words, if there is one.
+fn said_of(alloc: Global, row: &Row) -> Result<Option<Vec<u8>>, AllocError> {
+    let frame = joined(alloc, row.parts)?;
+    match segment_of(row.link, &frame, row.wire) {
+        Some(segment) => Ok(Some(said(alloc, &segment)?)),
+        None => Ok(None),
+    }
+}
+
+/// Whether a row's frame has a segment that says what the row says.
+fn is_said(alloc: Global, row: &Row) -> Result<bool, AllocError> {
+    match said_of(alloc, row)? {
+        Some(text) => Ok(text.as_slice() == row.said),
+        None => Ok(false),
+    }
+}
+
 #[test]
 fn reads_segments(rt: HostRuntime) -> Result<(), AllocError> {
-    for row in SEGMENTS {
-        let frame = joined(rt.alloc(), row.parts)?;
-        match segment_of(row.link, &frame, row.wire) {
-            Some(segment) => assert_eq!(rt; said(rt.alloc(), &segment)?.as_slice(), row.said),
-            None => panic!(rt; "no segment"),
-        }
+    for (n, row) in SEGMENTS.iter().enumerate() {
+        assert!(rt; is_said(rt.alloc(), row)?, "at {n}");
     }
     Ok(())
 }
 
 #[test]
 fn reads_nothing_else(rt: HostRuntime) -> Result<(), AllocError> {
-    for row in NOTHING {
-        let frame = joined(rt.alloc(), row.parts)?;
-        assert!(rt; segment_of(row.link, &frame, row.wire).is_none());
+    for (n, row) in NOTHING.iter().enumerate() {
+        assert!(rt; said_of(rt.alloc(), row)?.is_none(), "at {n}");
     }
     Ok(())
+}
+
+/// The id and the ports that a header of uTP has after each of these fronts, if it is one.
+const FRONTS: &[(&[u8], Option<(u16, u16, u16)>)] = &[
+    (b"\x01\0", Some((0x1234, 6881, 51413))),
+    (b"\x41\x02", Some((0x1234, 6881, 51413))),
+    (b"\x51\0", None),
+    (b"\x42\0", None),
+    (b"\x01\x03", None),
+];
+
+/// The id and the ports in a frame with this front of a header.
+fn utp_after(alloc: Global, front: &[u8]) -> Result<Option<(u16, u16, u16)>, AllocError> {
+    let parts: &[&[u8]] = &[
+        b"\x45\0\0\x30",
+        UDP_OVER_IPV4,
+        b"\x1a\xe1\xc8\xd5\0\x1c\0\0",
+        front,
+        UTP,
+    ];
+    let frame = joined(alloc, parts)?;
+    match utp_of(101, &frame, 48) {
+        Some(utp) => Ok(Some((utp.id, utp.source.port, utp.target.port))),
+        None => Ok(None),
+    }
 }
 
 /// A header of uTP with each type and extension, and some that are none.
 #[test]
 fn recognizes_utp(rt: HostRuntime) -> Result<(), AllocError> {
-    let rows: &[(&[u8], bool)] = &[
-        (b"\x01\0", true),
-        (b"\x41\x02", true),
-        (b"\x51\0", false),
-        (b"\x42\0", false),
-        (b"\x01\x03", false),
-    ];
-    for (front, is_utp) in rows {
-        let parts: &[&[u8]] = &[
-            b"\x45\0\0\x30",
-            UDP_OVER_IPV4,
-            b"\x1a\xe1\xc8\xd5\0\x1c\0\0",
-            front,
-            UTP,
-        ];
-        let frame = joined(rt.alloc(), parts)?;
-        match utp_of(101, &frame, 48) {
-            Some(utp) => {
-                assert!(rt; *is_utp);
-                assert_eq!(rt; utp.id, 0x1234);
-                assert_eq!(rt; (utp.source.port, utp.target.port), (6881, 51413));
-            }
-            None => assert!(rt; !*is_utp),
-        }
+    for (n, (front, wanted)) in FRONTS.iter().enumerate() {
+        assert_eq!(rt; utp_after(rt.alloc(), front)?, *wanted, "at {n}");
     }
     Ok(())
 }

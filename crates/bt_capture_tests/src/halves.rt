@@ -1,153 +1,241 @@
 //! What a capture tells of a direction beside its bytes. All values are by hand.
-use bt_tcp::{Gap, Gaps, Half, PlaceFault, Put, Ring, Span, Spans, TableFull, history};
-use std::alloc::AllocError;
+ghost use Rattle.std.specs.Prelude.{◌≤◌, length, take};
+ghost use Rattle.bt_tcp.specs.Covered.{AreApart};
+ghost use Rattle.bt_flow.specs.Apart.{AreApart-prop};
+
+use crate::rings::{Step as RingStep, Window};
+use bt_tcp::{Gap, Gaps, Half, PlaceFault, Put, Span, Spans, TableFull, history};
+use std::alloc::{AllocError, Global};
+use std::process::Abort;
+use std::test::Fail;
 
 /// The place of the first number.
 const FIRST: u64 = 0x100_0000_0000;
 
+/// A call on what is known of a direction, and what it answers.
+#[derive(Clone, Copy)]
+enum Step {
+    /// A segment: its number, whether it has a SYN and a FIN, how many bytes were captured, and how many it had.
+    Take(u32, bool, bool, usize, u64, Result<u64, PlaceFault>),
+    /// An acknowledgement, and whether it came with a SYN.
+    Hear(u32, bool, u64),
+    Base(Option<u64>),
+    Opening(Option<u32>),
+    /// From this place on.
+    HasHole(u64, bool),
+    /// From this place on.
+    Sent(u64, u64),
+    Acked(u64),
+    Fin(Option<u64>),
+    High(u64),
+}
+
+/// Whether a call answers so.
+fn goes(half: &mut Half, step: &Step) -> bool {
+    match *step {
+        Step::Take(sequence, syn, fin, captured, length, answer) => {
+            half.take(sequence, syn, fin, captured, length) == answer
+        }
+        Step::Hear(acked, opens, place) => half.hear(acked, opens) == place,
+        Step::Base(place) => half.base() == place,
+        Step::Opening(number) => half.opening() == number,
+        Step::HasHole(next, answer) => half.has_hole(next) == answer,
+        Step::Sent(next, place) => half.sent(next) == place,
+        Step::Acked(place) => half.acked() == place,
+        Step::Fin(place) => half.fin() == place,
+        Step::High(place) => half.high() == place,
+    }
+}
+
+/// Makes the calls on a direction of which nothing was captured, and compares the answers.
+fn check(rt: &impl Abort, name: &str, steps: &[Step]) {
+    let mut half = Half::new();
+    for (n, step) in steps.iter().enumerate() {
+        assert!(rt; goes(&mut half, step), "{name}: at {n}");
+    }
+}
+
+const CLIENT: &[Step] = &[
+    Step::Base(None),
+    Step::Take(1000, true, false, 0, 0, Ok(FIRST)),
+    Step::Hear(1001, true, FIRST),
+    Step::Base(Some(FIRST)),
+    Step::Opening(Some(1000)),
+    Step::HasHole(FIRST, false),
+    Step::Take(1001, false, false, 8, 8, Ok(FIRST)),
+    Step::HasHole(FIRST, true),
+    Step::Sent(FIRST, FIRST + 8),
+    Step::HasHole(FIRST + 8, false),
+    Step::Take(1009, false, true, 0, 0, Ok(FIRST + 8)),
+    Step::Hear(1010, false, FIRST + 9),
+    Step::Fin(Some(FIRST + 8)),
+    Step::Acked(FIRST + 9),
+    Step::High(FIRST + 8),
+    Step::HasHole(FIRST + 8, false),
+];
+
+const SERVER: &[Step] = &[
+    Step::Take(9000, true, false, 0, 0, Ok(FIRST)),
+    Step::Hear(9001, false, FIRST),
+    Step::High(0),
+];
+
 /// A handshake, eight bytes, and a FIN that is acknowledged (RFC 9293 3.5, 3.6).
 #[test]
 fn opens_and_closes(rt: HostRuntime) {
-    let mut client = Half::new();
-    let mut server = Half::new();
-    assert_eq!(rt; client.base(), None);
-    assert_eq!(rt; client.take(1000, true, false, 0, 0), Ok(FIRST));
-    assert_eq!(rt; server.take(9000, true, false, 0, 0), Ok(FIRST));
-    assert_eq!(rt; client.hear(1001, true), FIRST);
-    assert_eq!(rt; server.hear(9001, false), FIRST);
-    assert_eq!(rt; client.base(), Some(FIRST));
-    assert_eq!(rt; client.opening(), Some(1000));
-    assert_eq!(rt; client.has_hole(FIRST), false);
-    assert_eq!(rt; client.take(1001, false, false, 8, 8), Ok(FIRST));
-    assert_eq!(rt; client.has_hole(FIRST), true);
-    assert_eq!(rt; client.sent(FIRST), FIRST + 8);
-    assert_eq!(rt; client.has_hole(FIRST + 8), false);
-    assert_eq!(rt; client.take(1009, false, true, 0, 0), Ok(FIRST + 8));
-    assert_eq!(rt; client.hear(1010, false), FIRST + 9);
-    assert_eq!(rt; client.fin(), Some(FIRST + 8));
-    assert_eq!(rt; client.acked(), FIRST + 9);
-    assert_eq!(rt; client.high(), FIRST + 8);
-    assert_eq!(rt; client.has_hole(FIRST + 8), false);
-    assert_eq!(rt; server.high(), 0);
+    check(&rt, "client", CLIENT);
+    check(&rt, "server", SERVER);
 }
+
+const LATE: &[Step] = &[
+    Step::Take(0xffff_fffe, true, false, 0, 0, Ok(FIRST)),
+    Step::Take(3, false, false, 4, 6, Ok(FIRST + 4)),
+    Step::Sent(FIRST, FIRST + 10),
+    Step::High(FIRST + 8),
+    Step::Take(0xffff_ffff, false, false, 4, 4, Ok(FIRST)),
+    Step::Sent(FIRST + 8, FIRST + 10),
+    Step::HasHole(FIRST + 8, true),
+    Step::High(FIRST + 8),
+    Step::Base(Some(FIRST)),
+    Step::Take(9, false, false, 0, u64::MAX, Err(PlaceFault)),
+    Step::Sent(FIRST + 10, FIRST + 10),
+];
 
 /// Numbers wrap at 2^32, places don't. A segment may come late, and one that is longer than its captured part.
 #[test]
 fn wraps_and_comes_late(rt: HostRuntime) {
-    let mut half = Half::new();
-    assert_eq!(rt; half.take(0xffff_fffe, true, false, 0, 0), Ok(FIRST));
-    assert_eq!(rt; half.take(3, false, false, 4, 6), Ok(FIRST + 4));
-    assert_eq!(rt; half.sent(FIRST), FIRST + 10);
-    assert_eq!(rt; half.high(), FIRST + 8);
-    assert_eq!(rt; half.take(0xffff_ffff, false, false, 4, 4), Ok(FIRST));
-    assert_eq!(rt; half.sent(FIRST + 8), FIRST + 10);
-    assert_eq!(rt; half.has_hole(FIRST + 8), true);
-    assert_eq!(rt; half.high(), FIRST + 8);
-    assert_eq!(rt; half.base(), Some(FIRST));
-    assert_eq!(rt; half.take(9, false, false, 0, u64::MAX), Err(PlaceFault));
-    assert_eq!(rt; half.sent(FIRST + 10), FIRST + 10);
+    check(&rt, "late", LATE);
 }
+
+const LOST: &[Step] = &[
+    Step::Take(5010, false, false, 8, 8, Ok(FIRST)),
+    Step::Hear(5000, true, FIRST - 10),
+    Step::Opening(Some(4999)),
+    Step::Base(Some(FIRST - 10)),
+    Step::Hear(5019, false, FIRST + 9),
+    Step::Sent(FIRST + 8, FIRST + 8),
+    Step::Hear(5020, false, FIRST + 10),
+    Step::Sent(FIRST + 8, FIRST + 10),
+    Step::HasHole(FIRST + 8, true),
+    Step::Hear(5001, false, FIRST - 9),
+    Step::Acked(FIRST + 10),
+];
 
 /// Bytes that weren't captured, and one number more that may be the FIN's.
 #[test]
 fn acknowledges_lost_bytes(rt: HostRuntime) {
-    let mut half = Half::new();
-    assert_eq!(rt; half.take(5010, false, false, 8, 8), Ok(FIRST));
-    assert_eq!(rt; half.hear(5000, true), FIRST - 10);
-    assert_eq!(rt; half.opening(), Some(4999));
-    assert_eq!(rt; half.base(), Some(FIRST - 10));
-    assert_eq!(rt; half.hear(5019, false), FIRST + 9);
-    assert_eq!(rt; half.sent(FIRST + 8), FIRST + 8);
-    assert_eq!(rt; half.hear(5020, false), FIRST + 10);
-    assert_eq!(rt; half.sent(FIRST + 8), FIRST + 10);
-    assert_eq!(rt; half.has_hole(FIRST + 8), true);
-    assert_eq!(rt; half.hear(5001, false), FIRST - 9);
-    assert_eq!(rt; half.acked(), FIRST + 10);
+    check(&rt, "lost", LOST);
+}
+
+const DIFFERS: &[RingStep] = &[
+    RingStep::Put(1000, b"abc", Put::Taken { from: 0, len: 3 }),
+    RingStep::Put(1005, b"fg", Put::Taken { from: 0, len: 0 }),
+    RingStep::Conflicts(1000, b"a??de?gh", 1),
+];
+
+/// How many of eight bytes from 1000 on differ from `abc`, which were handed out.
+fn differing(alloc: Global, next: u64) -> Result<usize, AllocError> {
+    let mut memory = Vec::new(alloc);
+    history::remember(&mut memory, 0, b"abc")?;
+    Ok(history::count_conflicts(&memory, 1000, next, 1000, b"a??de?gh"))
 }
 
 /// Of eight bytes two differ from those that were handed out, and one from those ahead.
 #[test]
-fn compares_conflicts(rt: HostRuntime) -> Result<(), AllocError> {
-    let mut memory = Vec::new(rt.alloc());
-    let mut known = Vec::new(rt.alloc());
-    known.push(0xffu8)?;
-    let mut bytes = Vec::new(rt.alloc());
-    bytes.extend_from_slice(b"????????")?;
-    let mut ring = Ring::new(1000, &mut known, &bytes);
-    assert_eq!(rt;
-        ring.put(&mut known, &mut bytes, 1000, b"abc"),
-        Put::Taken { from: 0, len: 3 }
-    );
-    history::remember(&mut memory, 0, b"abc")?;
-    assert_eq!(rt;
-        ring.put(&mut known, &mut bytes, 1005, b"fg"),
-        Put::Taken { from: 0, len: 0 }
-    );
-    assert_eq!(rt;
-        history::count_conflicts(&memory, 1000, ring.next(), 1000, b"a??de?gh"),
-        2
-    );
-    assert_eq!(rt;
-        ring.count_conflicts_ahead(&known, &bytes, 1000, b"a??de?gh"),
-        1
-    );
+fn compares_conflicts(rt: HostRuntime) -> Result<(), Fail> {
+    let mut window = Window::new(rt.alloc())?;
+    window.check(&rt, DIFFERS)?;
+    assert_eq!(rt; differing(rt.alloc(), window.next())?, 2);
     Ok(())
 }
 
+const LENGTHENS: &[RingStep] = &[
+    RingStep::Put(1000, b"abc", Put::Taken { from: 0, len: 3 }),
+    RingStep::Put(1009, b"jk", Put::Taken { from: 0, len: 0 }),
+    RingStep::Lengthen(9),
+    RingStep::Put(1003, b"defghi", Put::Taken { from: 0, len: 6 }),
+    RingStep::Ready(b"jk"),
+    RingStep::Next(1011),
+    RingStep::Places(16),
+];
+
 /// A ring that wraps gets more room, and keeps what is ahead.
 #[test]
-fn lengthens(rt: HostRuntime) -> Result<(), AllocError> {
-    let mut known = Vec::new(rt.alloc());
-    known.push(0)?;
-    let mut bytes = Vec::new(rt.alloc());
-    bytes.extend_from_slice(b"????????")?;
-    let mut ring = Ring::new(1000, &mut known, &bytes);
-    let _ = ring.put(&mut known, &mut bytes, 1000, b"abc");
-    let _ = ring.put(&mut known, &mut bytes, 1009, b"jk");
-    ring.lengthen(&mut known, &mut bytes, 9)?;
-    let taken = ring.put(&mut known, &mut bytes, 1003, b"defghi");
-    let ready = ring.ready(&mut known, &bytes);
-    assert_eq!(rt; taken, Put::Taken { from: 0, len: 6 });
-    assert_eq!(rt; ready, b"jk".as_slice());
-    assert_eq!(rt; ring.next(), 1011);
-    assert_eq!(rt; bytes.len(), 16);
-    Ok(())
+fn lengthens(rt: HostRuntime) -> Result<(), Fail> {
+    Window::new(rt.alloc())?.check(&rt, LENGTHENS)
 }
+
+/// Spans, and their memory.
+#[derive(Drop)]
+struct Noted {
+    spans: Spans,
+    table: [Span; 3],
+    ghost fits: { spans.count ≤ length table },
+    ghost apart: { AreApart 0 (take spans.count table) } by { AreApart-prop 0 (take spans.count table) },
+}
+
+/// A call on spans, and what it answers.
+#[derive(Clone, Copy)]
+enum Call {
+    Add(u64, u64, Result<(), TableFull>),
+    Gaps(u64, u64, Gaps),
+}
+
+impl Noted {
+    /// Whether a call answers so.
+    fn goes(&mut self, call: &Call) -> bool {
+        match *call {
+            Call::Add(from, to, answer) => self.spans.add(&mut self.table, from, to) == answer,
+            Call::Gaps(next, sent, gaps) => self.spans.gaps(&self.table, next, sent) == gaps,
+        }
+    }
+}
+
+const NONE: Gaps = Gaps {
+    first: None,
+    count: 0,
+    sum: 0,
+};
+
+const FIRST_GAP: Option<Gap> = Some(Gap {
+    place: 10,
+    length: 10,
+});
+
+const FOUR: Gaps = Gaps {
+    first: FIRST_GAP,
+    count: 4,
+    sum: 10 + 5 + 5 + 1,
+};
+
+const TWO: Gaps = Gaps {
+    first: FIRST_GAP,
+    count: 2,
+    sum: 10 + 1,
+};
+
+const SPANS: &[Call] = &[
+    Call::Gaps(10, 10, NONE),
+    Call::Add(20, 30, Ok(())),
+    Call::Add(50, 60, Ok(())),
+    Call::Add(40, 45, Ok(())),
+    Call::Add(30, 35, Ok(())),
+    Call::Add(58, 65, Ok(())),
+    Call::Add(70, 70, Ok(())),
+    Call::Add(70, 71, Err(TableFull)),
+    Call::Gaps(10, 66, FOUR),
+    Call::Add(34, 51, Ok(())),
+    Call::Gaps(10, 66, TWO),
+    Call::Gaps(20, 21, NONE),
+];
 
 /// Spans that touch, overlap or stand alone, and the gaps that they leave.
 #[test]
 fn counts_gaps(rt: HostRuntime) {
-    let mut table = [Span { from: 7, to: 8 }; 3];
-    let mut spans = Spans::new(&table);
-    let none = Gaps {
-        first: None,
-        count: 0,
-        sum: 0,
-    };
-    assert_eq!(rt; spans.gaps(&table, 10, 10), none);
-    assert_eq!(rt; spans.add(&mut table, 20, 30), Ok(()));
-    assert_eq!(rt; spans.add(&mut table, 50, 60), Ok(()));
-    assert_eq!(rt; spans.add(&mut table, 40, 45), Ok(()));
-    assert_eq!(rt; spans.add(&mut table, 30, 35), Ok(()));
-    assert_eq!(rt; spans.add(&mut table, 58, 65), Ok(()));
-    assert_eq!(rt; spans.add(&mut table, 70, 70), Ok(()));
-    assert_eq!(rt; spans.add(&mut table, 70, 71), Err(TableFull));
-    let first = Some(Gap {
-        place: 10,
-        length: 10,
-    });
-    let four = Gaps {
-        first,
-        count: 4,
-        sum: 10 + 5 + 5 + 1,
-    };
-    assert_eq!(rt; spans.gaps(&table, 10, 66), four);
-    assert_eq!(rt; spans.add(&mut table, 34, 51), Ok(()));
-    let two = Gaps {
-        first,
-        count: 2,
-        sum: 10 + 1,
-    };
-    assert_eq!(rt; spans.gaps(&table, 10, 66), two);
-    assert_eq!(rt; spans.gaps(&table, 20, 21), none);
+    let table = [Span { from: 7, to: 8 }; 3];
+    let spans = Spans::new(&table);
+    let mut noted = Noted { spans, table };
+    for (n, call) in SPANS.iter().enumerate() {
+        assert!(rt; noted.goes(call), "at {n}");
+    }
 }

@@ -20,6 +20,8 @@ mod objects;
 #[cfg(test)]
 mod remarks;
 #[cfg(test)]
+mod rings;
+#[cfg(test)]
 mod runs;
 #[cfg(test)]
 mod streams;

@@ -1,5 +1,7 @@
 //! Numbers that wrap, and segments that come out of order, twice or not at all. All values are by hand.
-use bt_tcp::{Captured, Put, Ring, place, reassemble};
+use crate::rings::{Step, Window};
+use bt_tcp::{Captured, Put, place, reassemble};
+use std::test::Fail;
 
 /// A number near the wrap stands before or after it, whichever is nearer.
 #[test]
@@ -11,36 +13,25 @@ fn wraps_both_ways(rt: HostRuntime) {
     assert_eq!(rt; place(0x10, first, 0xf), first - 1);
 }
 
+const FILLS: &[Step] = &[
+    Step::Put(1000, b"ab", Put::Taken { from: 0, len: 2 }),
+    Step::Ready(b""),
+    Step::Put(1004, b"ef", Put::Taken { from: 0, len: 0 }),
+    Step::Put(1012, b"x", Put::Full),
+    Step::Put(1001, b"?cd??gh", Put::Taken { from: 1, len: 2 }),
+    Step::Ready(b"efgh"),
+    Step::Ready(b""),
+    Step::Next(1008),
+    Step::Put(1014, b"op", Put::Taken { from: 0, len: 0 }),
+    Step::GiveUp(6),
+    Step::Ready(b"op"),
+    Step::Next(1016),
+];
+
 /// Segments that come swapped, twice and with another copy of bytes that came before.
 #[test]
-fn fills_a_gap(rt: HostRuntime) {
-    let mut known = [0xffu8; 1];
-    let mut bytes = [0u8; 8];
-    let mut ring = Ring::new(1000, &mut known, &bytes);
-    assert_eq!(rt;
-        ring.put(&mut known, &mut bytes, 1000, b"ab"),
-        Put::Taken { from: 0, len: 2 }
-    );
-    assert_eq!(rt; ring.ready(&mut known, &bytes).len(), 0);
-    assert_eq!(rt;
-        ring.put(&mut known, &mut bytes, 1004, b"ef"),
-        Put::Taken { from: 0, len: 0 }
-    );
-    assert_eq!(rt; ring.put(&mut known, &mut bytes, 1012, b"x"), Put::Full);
-    assert_eq!(rt;
-        ring.put(&mut known, &mut bytes, 1001, b"?cd??gh"),
-        Put::Taken { from: 1, len: 2 }
-    );
-    assert_eq!(rt; ring.ready(&mut known, &bytes), b"efgh".as_slice());
-    assert_eq!(rt; ring.ready(&mut known, &bytes).len(), 0);
-    assert_eq!(rt; ring.next(), 1008);
-    assert_eq!(rt;
-        ring.put(&mut known, &mut bytes, 1014, b"op"),
-        Put::Taken { from: 0, len: 0 }
-    );
-    assert_eq!(rt; ring.give_up(&known, &bytes), 6);
-    assert_eq!(rt; ring.ready(&mut known, &bytes), b"op".as_slice());
-    assert_eq!(rt; ring.next(), 1016);
+fn fills_a_gap(rt: HostRuntime) -> Result<(), Fail> {
+    Window::new(rt.alloc())?.check(&rt, FILLS)
 }
 
 /// A whole direction: swapped, repeated, changed on the second time, and with a gap in the end.

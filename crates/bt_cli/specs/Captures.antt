@@ -1,5 +1,5 @@
 -- What `capture` says at its end, and its exit status.
-use Rattle.std.specs.Prelude.{◌<◌, ◌+◌, ◌≡◌, ◌==◌, ◌⊎◌, ◌++◌, ℕ, Bool, true, false, List, [], codes, decimal, nat_lt, is_some, Option, Some, None, Result, Ok, Err, if◌then◌else◌}
+use Rattle.std.specs.Prelude.{◌<◌, ◌+◌, ◌≡◌, ◌==◌, ◌⊎◌, ◌++◌, ◌&&◌, ℕ, Bool, true, false, List, [], codes, decimal, nat_lt, is_some, Option, Some, None, Result, Ok, Err, if◌then◌else◌}
 use Rattle.bt_io.specs.Seen.{TargetSeen}
 use Rattle.bt_text.specs.declared.ended.ToolFault.TheVariants as fault
 use Rattle.bt_text.specs.Lines.{fault_line}
@@ -29,13 +29,14 @@ outcome_in e =
     if nat_lt 0 e.lost then Lost else if is_stopped e.ending then Stopped else if is_some e.absent then Absent
     else if e.torrents == 0 then Nothing else if e.is_refused then Refused else Accepted
 
-abbrev pub outcome_status : Outcome → ℕ
-outcome_status Lost = 3
-outcome_status Absent = 3
-outcome_status Stopped = 3
-outcome_status Nothing = 3
-outcome_status Refused = 1
-outcome_status Accepted = 0
+-- It isn't 0 if it counts that only a part was read.
+abbrev pub outcome_status : Bool → Outcome → ℕ
+outcome_status partial Lost = 3
+outcome_status partial Absent = 3
+outcome_status partial Stopped = 3
+outcome_status partial Nothing = 3
+outcome_status partial Refused = 1
+outcome_status partial Accepted = if partial then 4 else 0
 
 -- ---- the lines on an end
 
@@ -117,6 +118,6 @@ abbrev pub IsCaptureSaid : Bool → List ℕ → Result CaptureEnd CaptureFault 
 IsCaptureSaid gone prefix (Ok e) before after = IsEndSaid prefix e before after
 IsCaptureSaid gone prefix (Err f) before after = IsSaid (capture_fault_words gone prefix f) before after
 
-abbrev pub capture_status : Bool → Result CaptureEnd CaptureFault → ℕ
-capture_status gone (Ok e) = outcome_status (outcome_in e)
-capture_status gone (Err f) = capture_fault_status gone f
+abbrev pub capture_status : (strict gone : Bool) → Result CaptureEnd CaptureFault → ℕ
+capture_status strict gone (Ok e) = outcome_status (strict && e.is_partial) (outcome_in e)
+capture_status strict gone (Err f) = capture_fault_status gone f

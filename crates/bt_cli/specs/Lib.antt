@@ -9,4 +9,5 @@ pub mod Wanted
 pub mod Services
 pub mod Lists
 pub mod Captures
+pub mod Packed
 pub mod Torrents

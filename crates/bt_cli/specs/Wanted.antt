@@ -118,3 +118,4 @@ pub record IsCaptureRequested (f : Found) (r : CaptureRequest) : Type 0 where
   pub job : IsCaptureAsked f r.job
   pub torrent : option_map string_bytes r.torrent ≡ first_value f (codes "torrent")
   pub files : map string_bytes r.files.items ≡ words_in f (codes "FILE")
+  pub strict : r.is_strict ≡ flag_in f (codes "strict-status")

@@ -33,6 +33,8 @@ pub struct CaptureRequest {
     pub torrent: Option<String>,
     /// The names of captures, at most one.
     pub files: Vec<String>,
+    /// Whether the exit status says that a connection was read in part only.
+    pub is_strict: bool,
 }
 
 /// What was found in a capture.
@@ -143,13 +145,14 @@ fn outcome_of(end: &CaptureEnd) -> Outcome
     }
 }
 
-/// Returns the exit status.
-fn status_of(outcome: Outcome) -> u8
-    ensures { result ≡ outcome_status outcome }
+/// Returns the exit status. With `is_partial` it isn't 0.
+fn status_of(outcome: Outcome, is_partial: bool) -> u8
+    ensures { result ≡ outcome_status is_partial outcome }
 {
     match outcome {
         Outcome::Lost | Outcome::Absent | Outcome::Stopped | Outcome::Nothing => 3,
         Outcome::Refused => 1,
+        Outcome::Accepted if is_partial => 4,
         Outcome::Accepted => 0,
     }
 }
@@ -352,21 +355,23 @@ fn end_by<E: Target>(fault: CaptureFault, prefix: &[u8], is_gone: bool, errors: 
 
 /// Says the end of a capture on standard error, and returns the exit status.
 ///
-/// `prefix` comes before the line of an input that can't be read; `is_gone` says that the output pipe is closed.
+/// `prefix` comes before the line of an input that can't be read; `is_gone` says that the output pipe is closed. With `is_strict` the
+/// status is 4 in place of 0 if a connection was read in part only.
 pub fn end_capture<E: Target>(
     alloc: Global,
     end: Result<CaptureEnd, CaptureFault>,
     prefix: &[u8],
     is_gone: bool,
+    is_strict: bool,
     errors: &mut E,
 ) -> u8
     ensures said { IsCaptureSaid is_gone prefix.now end (E.seen errors.old) (E.seen errors.new) }
-    ensures status { result ≡ capture_status is_gone end }
+    ensures status { result ≡ capture_status is_strict is_gone end }
 {
     match end {
         Ok(end) => {
             say_end(alloc, &end, prefix, errors);
-            status_of(outcome_of(&end))
+            status_of(outcome_of(&end), is_strict && end.is_partial)
         }
         Err(fault) => end_by(fault, prefix, is_gone, errors),
     }

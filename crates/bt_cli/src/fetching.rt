@@ -9,7 +9,7 @@ ghost use Rattle.bt_run.specs.Runs.{IsSaid};
 use crate::fetch::FetchJob;
 use crate::report::{Form, Lines, NO_TRY, Tally, counted, say_end};
 use bt_feed::Target;
-use bt_fetch::{Ending, FetchError, Outcome, TcpSwarm, fetch};
+use bt_fetch::{DIALS, Ending, FetchError, Outcome, TcpSwarm, fetch};
 use bt_magnet::Passed;
 use bt_run::ending::end_by_fault;
 use bt_run::run::say;
@@ -21,6 +21,9 @@ use std::time::Clock;
 
 /// The beginning of a peer id: this project's prefix and version. Twelve random digits follow.
 const PEER_PREFIX: &[u8; 8] = b"-TZ0001-";
+
+/// How many peers a fetch has at its places at most.
+const MOST_AT_ONCE: usize = 256;
 
 /// Returns a peer id of this project's prefix and twelve digits.
 ///
@@ -176,10 +179,11 @@ pub fn run_fetch<R: Net + Clock + RandomSource, W: Target, E: Target>(
         tally,
         begun,
     );
-    let at_once = job.at_once.max(1);
+    let at_once = job.at_once.max(1).min(MOST_AT_ONCE);
     let count = targets.addresses.len();
     let addresses = targets.addresses.as_slice();
-    let mut swarm = TcpSwarm::sleeping(rt, alloc, addresses, lines, at_once);
+    let places = at_once + DIALS;
+    let mut swarm = TcpSwarm::sleeping(rt, alloc, addresses, lines, places);
     let fetched = fetch(
         alloc,
         &wish,

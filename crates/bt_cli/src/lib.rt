@@ -13,6 +13,7 @@ pub mod input;
 pub mod link;
 pub mod looped;
 pub mod options;
+pub mod packed;
 pub mod peers;
 pub mod reading;
 pub mod report;

@@ -10,7 +10,7 @@ ghost use Rattle.bt_cli.specs.Options.{IsAskedBy, IsChosen, IsRequested, IsWritt
 
 use crate::capture::{CaptureRequest, capture_in};
 use crate::commands::{Asked, Given, Hints, Job, Notice, Request, default_own};
-use crate::fetch::{Mistake, fetch_asked};
+use crate::fetch::{Mistake, fetch_asked, is_given};
 use crate::serve::serve_asked;
 use crate::texts::{
     ABOUT, AFTER, CALL, CAPTURE, CHECK, CommandText, FETCH, LINK, LOOP, OperandText, OptionText,
@@ -486,6 +486,7 @@ fn capture_asked(alloc: Global, name: &str, options: &ArgMatches<'_>) -> Result<
         job,
         torrent,
         files,
+        is_strict: is_given(options, "strict-status"),
     }))
 }
 
@@ -582,6 +583,7 @@ fn no_command(alloc: Global, word: &str) -> Result<Asked, AllocError>
 ///
 /// # Errors
 /// `AllocError` if the program is out of memory.
+#[inline(never)]
 pub fn asked(alloc: Global, words: &[String], sources: &str) -> Result<Asked, AllocError>
     ensures limited { IfOk result IsLimited }
     ensures default { words.now ≡ [] → IfOk result IsShowByDefault }

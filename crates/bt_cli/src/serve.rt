@@ -5,7 +5,7 @@ ghost use Rattle.clap.specs.Matches.{found_of};
 ghost use Rattle.sha1.specs.Sha1.{sha1};
 ghost use Rattle.bt_run.specs.Commands.{HasLoopLimit};
 ghost use Rattle.bt_run.specs.Runs.{IsSaid};
-ghost use Rattle.bt_serve.specs.Doors.{AreEnough, AreTold, AreWithin};
+ghost use Rattle.bt_serve.specs.Doors.{AreEnough, AreToldOf, AreWithin};
 ghost use Rattle.bt_serve.specs.Guests.{IsHospitality};
 ghost use Rattle.bt_cli.specs.Services.{IsAnnounced, IsMetadataOf, IsPartingLine, IsPartingSaid, IsServiceEnd};
 ghost use Rattle.bt_cli.specs.Services.{ending_word, is_done, parting_words, read_fault, refused_words, serve_status, serve_words, serving_line};
@@ -321,7 +321,7 @@ fn serve_through<D: Door>(
 ) -> Service
     requires { IsHospitality hospitality.now }
     ensures end { IsServiceEnd result }
-    ensures told { AreTold (D.told door.old) (D.told door.new) (is_done result) }
+    ensures told { AreToldOf (D.told door.old) (D.told door.new) (is_done result) }
     ensures enough { result ≡ Service.Done → AreEnough job.now.connections (D.told door.old) (D.told door.new) (D.rounds door.new) }
     ensures within { AreWithin job.now.connections (D.told door.old) (D.told door.new) 0 }
 {

@@ -178,7 +178,7 @@ const AT_ONCE: OptionText = OptionText {
     name: "at-once",
     alias: "",
     value: "N",
-    help: "Connections at the same time: 1 to 256; memory is at most as many times '--max-size' [default: 16]",
+    help: "Peers that are asked at the same time: 1 to 256; memory is at most as many times '--max-size' [default: 16]",
 };
 
 const JSON_OF_FETCH: OptionText = OptionText {
@@ -214,6 +214,13 @@ const JSON_OF_CAPTURE: OptionText = OptionText {
     alias: "",
     value: "",
     help: "Prints a JSON object a line: one for each connection, and with '--show' one for each row",
+};
+
+const STRICT_STATUS: OptionText = OptionText {
+    name: "strict-status",
+    alias: "",
+    value: "",
+    help: "Ends with status 4 in place of 0 if a direction was read in part only: it has a gap, bytes and no whole handshake, or wasn't read further",
 };
 
 const STREAM: OperandText = OperandText {
@@ -418,6 +425,7 @@ pub(crate) const CAPTURE: CommandText = CommandText {
         ROWS_OF_CAPTURE,
         STREAM_OF_CAPTURE,
         JSON_OF_CAPTURE,
+        STRICT_STATUS,
     ],
     operands: &[PACKETS],
     after: "\
@@ -429,6 +437,7 @@ Exit status:
   1    A direction is refused under the lenient rules
   2    Usage error
   3    No BitTorrent connection was found, or none of the number of '--stream', FILE is no capture, a read or a write failed, or the program is out of memory
+  4    With '--strict-status': no direction is refused, but one was read in part only
   141  The output pipe was closed, as after '| head'",
 };
 

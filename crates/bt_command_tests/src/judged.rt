@@ -5,6 +5,7 @@ use bt_judge::{Judge, JudgeFault, Verdicts};
 use bt_text::ended::Ended;
 use bt_wire::{Own, Reason, Refusal, Reserved};
 use std::alloc::{AllocError, Global};
+use std::process::Abort;
 use std::test::Fail;
 
 /// A sink that keeps the offset and the id of each item. It takes none at the call `fails_at`, counted from 1.
@@ -230,42 +231,79 @@ fn parts_of_a_handshake(rt: HostRuntime) -> Result<(), Fail> {
     Ok(())
 }
 
-/// A refusal by the strict rules stands from its byte on; then there is a parser for each rule set.
-#[test]
-fn standing(rt: HostRuntime) -> Result<(), Fail> {
-    let mut judge = new_judge(rt.alloc())?;
-    let mut sink = sink_of(rt.alloc(), None);
-    let late = Ended::Refused(Refusal {
-        message: 2,
-        at: 81,
-        reason: Reason::Late,
-    });
-    assert_eq!(rt; take(&mut judge, HAND, 68, &mut sink), Ok(()));
-    assert_eq!(rt;
-        take(
-            &mut judge,
-            b"\0\0\0\x05\x04\0\0\0\x01\0\0\0\x03",
-            5,
-            &mut sink
-        ),
-        Ok(())
-    );
-    assert_eq!(rt; judge.parsers(), 1);
-    assert_eq!(rt; take(&mut judge, b"\x05", 5, &mut sink), Ok(()));
-    assert_eq!(rt; judge.parsers(), 2);
-    assert_eq!(rt; judge.ended().bep, late);
-    assert_eq!(rt; judge.refusal(), None);
+/// A step of a test of a judge.
+#[derive(Clone, Copy)]
+enum Step {
+    /// Bytes in pieces of so many, and whether they are taken or the sink fails.
+    Takes(&'static [u8], usize, Result<(), JudgeFault>),
+    /// How many parsers there are.
+    Has(usize),
+    /// How the stream ends by the strict rules.
+    Ends(Ended),
+    /// No refusal stands.
+    Stands,
+    /// How many items the sink was given.
+    Gave(u64),
+}
+
+/// Takes a step, and returns whether all is as wanted.
+fn goes(judge: &mut Judge, sink: &mut Kept, step: &Step) -> bool {
+    match step {
+        Step::Takes(bytes, size, taken) => take(judge, bytes, *size, sink) == *taken,
+        Step::Has(parsers) => judge.parsers() == *parsers,
+        Step::Ends(bep) => judge.ended().bep == *bep,
+        Step::Stands => judge.refusal().is_none(),
+        Step::Gave(calls) => sink.calls == *calls,
+    }
+}
+
+/// Takes the steps over a sink that fails at this call.
+fn go(
+    rt: &impl Abort,
+    alloc: Global,
+    fails_at: Option<u64>,
+    steps: &[Step],
+) -> Result<(), AllocError> {
+    let mut judge = new_judge(alloc)?;
+    let mut sink = sink_of(alloc, fails_at);
+    for (number, step) in steps.iter().enumerate() {
+        assert!(rt; goes(&mut judge, &mut sink, step), "at {number}");
+    }
     Ok(())
 }
 
+const STANDING: &[Step] = &[
+    Step::Takes(HAND, 68, Ok(())),
+    Step::Takes(b"\0\0\0\x05\x04\0\0\0\x01\0\0\0\x03", 5, Ok(())),
+    Step::Has(1),
+    Step::Takes(b"\x05", 5, Ok(())),
+    Step::Has(2),
+    Step::Ends(Ended::Refused(Refusal {
+        message: 2,
+        at: 81,
+        reason: Reason::Late,
+    })),
+    Step::Stands,
+];
+
+/// A refusal by the strict rules stands from its byte on; then there is a parser for each rule set.
+#[test]
+fn standing(rt: HostRuntime) -> Result<(), AllocError> {
+    go(&rt, rt.alloc(), None, STANDING)
+}
+
+const A_FAULT: &[Step] = &[
+    Step::Takes(HAND, 7, Ok(())),
+    Step::Takes(
+        b"\0\0\0\0\0\0\0\0",
+        7,
+        Err(JudgeFault::Sink(SinkFault::Write)),
+    ),
+    Step::Gave(2),
+];
+
 /// A fault of the sink is returned at once.
 #[test]
-fn a_fault(rt: HostRuntime) -> Result<(), Fail> {
-    let mut judge = new_judge(rt.alloc())?;
-    let mut sink = sink_of(rt.alloc(), Some(2));
-    assert_eq!(rt; take(&mut judge, HAND, 7, &mut sink), Ok(()));
-    let taken = take(&mut judge, b"\0\0\0\0\0\0\0\0", 7, &mut sink);
-    assert_eq!(rt; taken, Err(JudgeFault::Sink(SinkFault::Write)));
-    assert_eq!(rt; sink.calls, 2);
-    Ok(())
+fn a_fault(rt: HostRuntime) -> Result<(), AllocError> {
+    go(&rt, rt.alloc(), Some(2), A_FAULT)
 }

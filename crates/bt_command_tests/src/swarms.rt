@@ -1,11 +1,11 @@
 //! Fetching from many peers over connections in memory, of which calls fail, and where memory is refused.
-ghost use Rattle.std.specs.Prelude.{◌≡◌, ◌<◌, IfSome};
+ghost use Rattle.std.specs.Prelude.{◌≡◌, ◌<◌, ◌≤◌, IfSome};
 ghost use Rattle.bt_io.specs.Counts.{one_more, counted as raised};
 
 use bt_end::{Announce, Config, End, Progress, Role, Window};
 use bt_exchange::{Connection, Hearing, Watch, exchange};
 use bt_ext::{ExtId, Registered, Rules};
-use bt_fetch::{Device, Ending, FetchError, Outcome, Wish, fetch};
+use bt_fetch::{DIALS, Device, Ending, FetchError, Outcome, Wish, fetch};
 use bt_io::{Failed, MemTarget};
 use bt_wire::{Own, Reserved};
 use std::alloc::Global;
@@ -21,6 +21,10 @@ const ABC: [u8; 20] = [
 enum Peer {
     /// No connection is opened.
     Refuses,
+    /// Nobody answers: the connection never opens.
+    Dead,
+    /// The connection fails after it was begun.
+    Fails,
     /// The connection is closed at once.
     Closes,
     /// It takes what is sent, and says nothing.
@@ -33,6 +37,7 @@ enum Peer {
 #[derive(Drop)]
 struct Link {
     end: Option<End>,
+    is_open: Option<bool>,
     closes: bool,
     fails_at: Option<u64>,
     /// How many bytes a call moves at most.
@@ -208,15 +213,17 @@ impl Peers {
     fn link(&self, peer: Peer, is_first: bool) -> Option<Link>
         ensures { IfSome result (λ l. l.calls ≡ 0) }
     {
-        let (end, closes) = match peer {
+        let (end, is_open) = match peer {
             Peer::Refuses => return None,
-            Peer::Closes => (None, true),
-            Peer::Silent => (None, false),
-            Peer::Serves(bytes) => (Some(serving(self.alloc, bytes)?), false),
+            Peer::Dead => (None, None),
+            Peer::Fails => (None, Some(false)),
+            Peer::Closes | Peer::Silent => (None, Some(true)),
+            Peer::Serves(bytes) => (Some(serving(self.alloc, bytes)?), Some(true)),
         };
         Some(Link {
             end,
-            closes,
+            is_open,
+            closes: matches!(peer, Peer::Closes),
             fails_at: if is_first { self.fails_at } else { None },
             most: 7,
             writes: [0; 5],
@@ -256,6 +263,10 @@ impl Device for Peers {
         }
     }
 
+    fn is_open(&self, link: &Link) -> Option<bool> {
+        link.is_open
+    }
+
     fn came(&mut self, _address: usize, _progress: Progress) {}
 
     fn time(&mut self) -> u64 {
@@ -276,7 +287,8 @@ struct Came {
 }
 
 fn fetched(alloc: Global, peers: &'static [Peer], fails_at: Option<u64>, at_once: usize) -> Came
-    requires { 0 < at_once }
+    requires least { 0 < at_once }
+    requires most { at_once ≤ 256 }
 {
     let wish = Wish {
         info_hash: ABC,
@@ -287,7 +299,7 @@ fn fetched(alloc: Global, peers: &'static [Peer], fails_at: Option<u64>, at_once
         window: None,
         most: 1000,
     };
-    let mut peers_of = Peers::new(alloc, peers, fails_at, at_once);
+    let mut peers_of = Peers::new(alloc, peers, fails_at, at_once + DIALS);
     let mut target = MemTarget::new(Vec::new(alloc), 2, None);
     let answer = fetch(
         alloc,
@@ -328,7 +340,7 @@ fn is_fetched(came: &Came, at: usize) -> bool {
 #[test]
 fn the_honest_one_is_found(rt: HostRuntime) {
     for at_once in [1usize, 2, 3, 6, 7, 256] {
-        if at_once > 0 {
+        if at_once > 0 && at_once <= 256 {
             let came = fetched(rt.alloc(), &STRANGERS, None, at_once);
             assert!(rt;
                 is_fetched(&came, 6),
@@ -358,7 +370,7 @@ const ENDINGS: [Option<Ending>; 8] = [
 #[test]
 fn each_comes_again(rt: HostRuntime) {
     for at_once in [1usize, 3, 6] {
-        if at_once > 0 {
+        if at_once > 0 && at_once <= 256 {
             let came = fetched(rt.alloc(), &STRANGERS[..6], None, at_once);
             assert!(rt; came.answer == Err(FetchError::NotFetched));
             assert!(rt; came.is_empty && came.peers.inside == 0);
@@ -370,6 +382,61 @@ fn each_comes_again(rt: HostRuntime) {
             );
         }
     }
+}
+
+/// Addresses at which nobody answers, and one that has the metadata.
+const DEAD: [Peer; 6] = [
+    Peer::Dead,
+    Peer::Fails,
+    Peer::Dead,
+    Peer::Dead,
+    Peer::Serves(b"abc"),
+    Peer::Dead,
+];
+
+/// How the links to the first of them end if the metadata is there before five seconds have passed: one that failed comes again.
+const DEAD_ENDINGS: [Option<Ending>; 5] = [
+    Some(Ending::Left),
+    Some(Ending::By(Outcome::Unreachable)),
+    Some(Ending::Left),
+    Some(Ending::Left),
+    Some(Ending::By(Outcome::Fetched)),
+];
+
+/// Whether the connections to the first addresses ended so.
+fn ends_so(came: &Came, endings: &[Option<Ending>]) -> bool {
+    endings
+        .iter()
+        .zip(came.peers.ended.iter())
+        .all(|(expected, ended)| expected == ended)
+}
+
+/// An address at which nobody answers takes no place.
+#[test]
+fn dead_addresses_take_no_place(rt: HostRuntime) {
+    for at_once in [1usize, 2, 6] {
+        if at_once > 0 && at_once <= 256 {
+            let came = fetched(rt.alloc(), &DEAD, None, at_once);
+            assert!(rt; is_fetched(&came, 4), "{at_once}: {:?}", came.answer);
+            assert!(rt;
+                ends_so(&came, &DEAD_ENDINGS),
+                "{at_once}: {:?}",
+                came.peers.ended
+            );
+            assert!(rt; came.peers.dialled[4] == 1);
+        }
+    }
+}
+
+/// If nobody answers at any address, each is dialled twice, and ends as unreachable.
+#[test]
+fn all_are_dead(rt: HostRuntime) {
+    let came = fetched(rt.alloc(), &DEAD[..4], None, 1);
+    assert!(rt; came.answer == Err(FetchError::NotFetched));
+    assert!(rt; came.is_empty && came.peers.inside == 0);
+    assert!(rt; came.peers.dialled == [2, 2, 2, 2, 0, 0, 0, 0]);
+    let unreachable = Some(Ending::By(Outcome::Unreachable));
+    assert!(rt; ends_so(&came, &[unreachable; 4]), "{:?}", came.peers.ended);
 }
 
 /// A peer that has the metadata, beside one that says nothing.
@@ -417,6 +484,7 @@ fn first_writes(alloc: Global) -> Option<[usize; 5]> {
     blocks.resize(12 * 16_384, 0).ok()?;
     let mut link = Link {
         end: end_for(alloc, Role::Serve(blocks)),
+        is_open: Some(true),
         closes: false,
         fails_at: None,
         most: usize::MAX,

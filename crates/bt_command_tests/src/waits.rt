@@ -242,8 +242,8 @@ const PROGRESS: Progress = Progress {
 };
 
 /// Goes through rounds of a fetch, and returns whether a connection was begun.
-fn goes_through<R: Net + Clock>(runtime: &R, addresses: &[SocketAddr]) -> bool {
-    let mut swarm = TcpSwarm::new(runtime, addresses, Deaf, 8);
+fn goes_through<R: Net + Clock>(runtime: &R, alloc: Global, addresses: &[SocketAddr]) -> bool {
+    let mut swarm = TcpSwarm::new(runtime, alloc, addresses, Deaf, 8);
     swarm.rest();
     let link = swarm.dial(0);
     swarm.look();
@@ -261,7 +261,7 @@ fn goes_through<R: Net + Clock>(runtime: &R, addresses: &[SocketAddr]) -> bool {
 fn fetch_naps(rt: HostRuntime) {
     let fake = Fake::new();
     let addresses = [SocketAddr::from((Ipv4Addr::LOCALHOST, 9))];
-    assert!(rt; goes_through(&fake, &addresses));
+    assert!(rt; goes_through(&fake, rt.alloc(), &addresses));
     assert!(rt; fake.naps() == (6, [5_000, 20, 40, 80, 20, 40]));
 }
 

@@ -1,7 +1,5 @@
 -- What may be wrong with a payload that has to begin with a dictionary. (For the contracts of functions that are not public.)
-use Rattle.std.specs.Prelude.{ℕ, List, not, Option}
-use Rattle.bt_bencode.specs.Trees.{Pairs}
-use Rattle.bt_bencode.specs.Bencoding.{BeginsWith}
+use Rattle.std.specs.Prelude.{ℕ, not, Option}
 use Rattle.bt_ext.specs.Metadata.{is_block_ok, is_malformed}
 use Rattle.bt_ext.specs.Faults.{first_of, fault_if}
 use Rattle.bt_ext.specs.declared.metadata.Kind.{Kind}
@@ -11,7 +9,3 @@ use Rattle.bt_ext.specs.declared.ext.ViewError.TheVariants as error
 -- the first fault of a metadata message of a kind, whose dictionary has `m` bytes, with `n` bytes after it
 abbrev pub kind_fault_of : Kind → ℕ → ℕ → Option ViewError
 kind_fault_of k m n = first_of (fault_if (is_malformed k) error.BadField) (fault_if (not (is_block_ok k n)) (error.BadBlock m))
-
--- the payload begins with a fitting dictionary
-abbrev pub BeginsWithDict : List ℕ → Type 0
-BeginsWithDict payload = (ps : Pairs) × (n : ℕ) × BeginsWith payload ps n

@@ -1,5 +1,5 @@
 //! Parsing of an extended payload.
-ghost use Rattle.std.specs.Prelude.{◌≡◌, ◌≢◌, ◌++◌, ◌<◌, ◌≤◌, ◌^◌, None, IsTrue, false, length, take, IfOk, OnOk, IfErr, IfSome};
+ghost use Rattle.std.specs.Prelude.{◌≡◌, ◌≢◌, ◌++◌, ◌<◌, ◌≤◌, ◌^◌, None, IsTrue, false, length, take, IfOk, IfErr, IfSome};
 ghost use Rattle.bt_bencode.specs.Trees.{dictionary};
 ghost use Rattle.bt_bencode.specs.Bencoding.{ben, Fits, IsPlace, IsSpelling};
 ghost use Rattle.bt_bencode.specs.Payloads.{BeginsWithNone};
@@ -9,7 +9,7 @@ ghost use Rattle.bt_ext.specs.Payloads.{IsExt, index_bytes, seen};
 ghost use Rattle.bt_ext.specs.declared.ids.Rules.{Rules};
 ghost use Rattle.bt_ext.specs.Judged.{dict_length, WasJudged, IsValueOf};
 ghost use Rattle.bt_ext.specs.Faults.{Reads, Refuses, RefusesToRead, fault_of, handshake_fault_of, metadata_fault_of};
-ghost use Rattle.bt_ext.specs.Ordered.{kind_fault_of, BeginsWithDict};
+ghost use Rattle.bt_ext.specs.Ordered.{kind_fault_of};
 
 use crate::bytes::copy_bytes;
 use crate::ext::{Ext, ExtError, ExtView, ViewError};
@@ -154,14 +154,13 @@ fn sorted_metadata(payload: &[u8]) -> Result<(DictRef<'_>, &[u8], Option<ViewErr
 
 /// How many bytes a payload may have that isn't scanned before the pass.
 ///
-/// So a wrong byte at the end of a longer one costs no pass.
+/// So a wrong byte at the end of a longer one costs a scan, which is cheaper, and no pass.
 const LONG: usize = 131_072;
 
-/// Returns the offset of the first wrong byte of a long payload.
+/// Returns the offset of the first wrong byte of a long payload. `None` promises nothing.
 #[inline(always)]
 fn wrong_byte(payload: &[u8]) -> Option<usize>
-    ensures wrong { IfSome result (λ at. BeginsWithNone payload.now × IsPlace payload.now at) }
-    ensures right { result ≡ None → 131072 < length payload.now → BeginsWithDict payload.now }
+    ensures { IfSome result (λ at. BeginsWithNone payload.now × IsPlace payload.now at) }
 {
     if payload.len() <= LONG {
         return None;
@@ -169,25 +168,6 @@ fn wrong_byte(payload: &[u8]) -> Option<usize>
     match split_dict(payload) {
         Ok(_) => None,
         Err(at) => Some(at),
-    }
-}
-
-/// Scans a payload, unless it is long and was scanned before.
-///
-/// # Errors
-/// The offset of the first wrong byte.
-#[inline(never)]
-fn scan_once(payload: &[u8]) -> Result<(), usize>
-    requires { 131072 < length payload.now → BeginsWithDict payload.now }
-    ensures ok { OnOk result (BeginsWithDict payload.now) }
-    ensures err { IfErr result (λ at. BeginsWithNone payload.now × IsPlace payload.now at) }
-{
-    if payload.len() > LONG {
-        return Ok(());
-    }
-    match split_dict(payload) {
-        Ok(_) => Ok(()),
-        Err(at) => Err(at),
     }
 }
 
@@ -199,15 +179,12 @@ fn scan_once(payload: &[u8]) -> Result<(), usize>
 fn disorder_fault(reg: Registered, id: u8, payload: &[u8], disorder: Disorder) -> ViewError
     requires needed { IsTrue (needs_dict reg id) }
     requires disordered { RefusesSorted payload.now disorder }
-    requires scanned { 131072 < length payload.now → BeginsWithDict payload.now }
     ensures { Refuses reg Rules.Bep id payload.now result }
 {
-    match scan_once(payload) {
-        Err(at) => ViewError::BadBencode { at },
-        Ok(()) => match disorder {
-            Disorder::Order { at } => ViewError::Unsorted { at },
-            Disorder::Bytes => unreachable!(),
-        },
+    match disorder {
+        Disorder::Bytes(Bad::Impossible { at }) => ViewError::BadBencode { at },
+        Disorder::Bytes(Bad::Cut) => ViewError::BadBencode { at: payload.len() },
+        Disorder::Order { at } => ViewError::Unsorted { at },
     }
 }
 

@@ -13,6 +13,10 @@ count_pushed_free {X} p xs ys x e h =
     let k : z (cond (p x) 1 0) = ap (λ (b : Bool). cond b 1 0) h in
     omega (arith, count_pushed p xs ys x e, k)
 
+-- no more of them than there are at all
+pub count_fits : {X : Type 0} (p : X → Bool) (xs : List X) → count_by p xs ≤ length xs
+count_fits {X} p xs = count_by-le-length p xs
+
 -- where one is none of them, there is room for one more
 pub free_room : {X : Type 0} (p : X → Bool) (xs : List X) (i : ℕ) (x : X) → i < length xs → x ≡ get_or xs i x → p x ≡ false
     → count_by p xs + 1 ≤ length xs

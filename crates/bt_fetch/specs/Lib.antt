@@ -6,4 +6,5 @@ pub mod Links
 pub mod Queues
 pub mod Logs
 pub mod Visits
+pub mod Dials
 pub mod Swarms

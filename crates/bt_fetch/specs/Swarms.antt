@@ -2,19 +2,19 @@
 use Rattle.std.specs.Prelude.{ℕ, ◌+◌, ◌*◌, ◌<◌, ◌≤◌, ◌⊎◌, Bool, true, false, Option, Some, None, Result, Ok, ⊤}
 use Rattle.bt_fetch.specs.Logs.{Stage, Going, Won}
 use Rattle.bt_fetch.specs.declared.talk.Talk.{Talk}
-use Rattle.bt_fetch.specs.declared.fetching.Turn.{Turn}
-use Rattle.bt_fetch.specs.declared.fetching.Turn.TheVariants as turn
-use Rattle.bt_fetch.specs.declared.fetching.Round.{Round}
-use Rattle.bt_fetch.specs.declared.fetching.Round.TheVariants as round
+use Rattle.bt_fetch.specs.declared.turn.Turn.{Turn}
+use Rattle.bt_fetch.specs.declared.turn.Turn.TheVariants as turn
+use Rattle.bt_fetch.specs.declared.turn.Round.{Round}
+use Rattle.bt_fetch.specs.declared.turn.Round.TheVariants as round
 
 -- how many more steps a place may make with its connection, and one for its end
 abbrev pub weight : Option ℕ → ℕ
 weight None = 0
 weight (Some left) = left + 1
 
--- what all addresses that may come may cost
+-- what all addresses that may come may cost: the looks at a link, and the steps at a place
 abbrev pub cost : ℕ → ℕ
-cost rest = 4294967298 * rest
+cost rest = 8589934596 * rest
 
 abbrev pub is_free : Turn → Bool
 is_free turn.Free = true

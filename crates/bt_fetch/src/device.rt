@@ -82,6 +82,11 @@ pub trait Device {
         ensures inside { inside self.new + 1 ≡ inside self.old }
         ensures places { places self.new ≡ places self.old };
 
+    /// Returns whether a connection over which no call was made yet is open; `None` if that isn't known yet.
+    ///
+    /// `Some(false)` says that it failed.
+    fn is_open(&self, link: &Self::Link) -> Option<bool>;
+
     /// Hears how far the fetch over a connection has come.
     fn came(&mut self, address: usize, progress: Progress)
         ensures log { log self.new ≡ log self.old }

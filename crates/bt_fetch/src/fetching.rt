@@ -7,107 +7,31 @@ ghost use Rattle.bt_fetch.specs.Fetches.{IsWritten};
 ghost use Rattle.bt_fetch.specs.Queues.{dials_of, rest_of, one};
 ghost use Rattle.bt_exchange.specs.Lists.{IsAdded};
 ghost use Rattle.bt_fetch.specs.Logs.{IsCourse, IsLogged, IsStage, Stage, Going, is_fetched as is_fetched_by, stage_after};
+ghost use Rattle.bt_fetch.specs.Dials.{burden};
 ghost use Rattle.bt_fetch.specs.Signs.{is_late};
 ghost use Rattle.bt_fetch.specs.Swarms.{IfWon, IsPatient, cost, is_free, is_over, is_won, stage_at, stage_by, stage_when, weight};
 ghost use Rattle.bt_fetch.specs.declared.device.Happening.{Happening};
 ghost use Rattle.bt_fetch.specs.declared.device.Happening.TheVariants.{Ended as EndedSo};
 
 use crate::device::{Device, Ending, Outcome};
+use crate::dialling::{Dials, dial_for, has_open, leave_dials};
 use crate::file::{FetchError, put_out};
 use crate::place::Place;
 use crate::queue::Queue;
+use crate::turn::{Round, Turn};
 use crate::visit::{Pace, Visit};
-use crate::wish::{Wish, first_window};
-use bt_end::Window;
+use crate::wish::Wish;
 use bt_io::{Memory, Target};
 use std::alloc::Global;
 
 /// The places of a fetch over a device.
 type Places<D> = Vec<Place<<D as Device>::Link>>;
 
-/// What became of a place at its turn.
-#[derive(Clone, Copy)]
-enum Turn {
-    /// It has no connection, and no address waits.
-    Free,
-    /// Its connection waits for its peer.
-    Waits,
-    /// It can go on at once, or was dialled for.
-    GoesOn,
-    /// Its connection ended.
-    Ended,
-    /// Its end has the metadata.
-    Won,
-}
-
-/// What became of all places.
-#[derive(Clone, Copy)]
-enum Round {
-    /// No connection is open, and no address waits.
-    Over,
-    /// All wait for their peers.
-    Waits,
-    /// Some can go on at once.
-    GoesOn,
-    /// The end at the place of this number has the metadata.
-    Won(usize),
-}
-
 /// Whether the metadata is there.
 fn is_fetched(outcome: Outcome) -> bool
     ensures { result ≡ is_fetched_by outcome }
 {
     matches!(outcome, Outcome::Fetched)
-}
-
-/// Returns how many blocks are asked for at once: one at a time from an address that comes again.
-fn window_for(wish: &Wish, is_again: bool) -> Window {
-    if wish.window.is_some() || !is_again {
-        return first_window(wish);
-    }
-    match Window::new(1) {
-        Some(one) => one,
-        None => first_window(wish),
-    }
-}
-
-/// Dials the next address for a place that is free.
-///
-/// # Errors
-/// `Memory` if memory is refused.
-fn fill<D: Device>(
-    wish: &Wish,
-    time: u64,
-    place: &mut Place<D::Link>,
-    queue: &mut Queue,
-    device: &mut D,
-) -> Result<Turn, Memory>
-    requires free { place.old.visit ≡ None }
-    requires room { D.inside device.old < D.places device.old }
-    ensures handshake { place.new.end.end.handshake ≡ place.old.end.end.handshake }
-    ensures inside { D.inside device.new ≡ D.inside device.old + one (is_some place.new.visit) }
-    ensures places { D.places device.new ≡ D.places device.old }
-    ensures weight { IfOk result (λ t. weight (option_map (λ v. v.left) place.new.visit) + cost (rest_of queue.new.next queue.new.again.items) + one (not (is_free t))
-        ≤ cost (rest_of queue.old.next queue.old.again.items)) }
-    ensures free { result ≡ Ok Turn.Free → queue.new.next ≡ vec_len queue.new.again }
-    ensures len { vec_len queue.new.again ≡ vec_len queue.old.again }
-    ensures unwon { stage_by result ≡ Going }
-    ensures log { (start : Option (List Happening)) → IsCourse Going start (D.log device.old) (dials_of queue.old.next queue.old.again.items)
-        → IsCourse Going start (D.log device.new) (dials_of queue.new.next queue.new.again.items) }
-{
-    let Some(address) = queue.take() else {
-        return Ok(Turn::Free);
-    };
-    let window = window_for(wish, queue.is_again(address));
-    match device.dial(address) {
-        Some(link) => {
-            let is_wide = wish.window.is_none() && window.get() > 1;
-            place.end.set_window(window);
-            place.visit = Some(Visit::new(address, link, is_wide, time));
-        }
-        None => queue.put_back(address)?,
-    }
-    Ok(Turn::GoesOn)
 }
 
 /// Frees a place whose connection ended, and puts its address back.
@@ -221,7 +145,7 @@ fn tend<D: Device>(
     }
 }
 
-/// Gives a place its turn: its connection, or else the next address.
+/// Gives a place its turn: its connection, or else a link that is open.
 ///
 /// # Errors
 /// `Memory` if memory is refused.
@@ -230,16 +154,22 @@ fn give_turn<D: Device>(
     time: u64,
     is_needed: bool,
     place: &mut Place<D::Link>,
+    dials: &mut Dials<D::Link>,
     queue: &mut Queue,
     device: &mut D,
 ) -> Result<Turn, Memory>
-    requires inside { one (is_some place.old.visit) ≤ D.inside device.old }
-    requires room { is_some place.old.visit ≡ false → D.inside device.old < D.places device.old }
+    requires inside { one (is_some place.old.visit) + count_by (λ s. is_some s) dials.old.slots.items ≤ D.inside device.old }
+    requires room { is_some place.old.visit ≡ false
+        → D.inside device.old + vec_len dials.old.slots ≤ D.places device.old + count_by (λ s. is_some s) dials.old.slots.items }
     ensures handshake { place.new.end.end.handshake ≡ place.old.end.end.handshake }
-    ensures inside { D.inside device.new + one (is_some place.old.visit) ≡ D.inside device.old + one (is_some place.new.visit) }
+    ensures inside { D.inside device.new + one (is_some place.old.visit) + count_by (λ s. is_some s) dials.old.slots.items
+        ≡ D.inside device.old + one (is_some place.new.visit) + count_by (λ s. is_some s) dials.new.slots.items }
     ensures places { D.places device.new ≡ D.places device.old }
-    ensures weight { IfOk result (λ t. weight (option_map (λ v. v.left) place.new.visit) + cost (rest_of queue.new.next queue.new.again.items) + one (not (is_free t))
-        ≤ weight (option_map (λ v. v.left) place.old.visit) + cost (rest_of queue.old.next queue.old.again.items)) }
+    ensures held { vec_len dials.new.slots ≡ vec_len dials.old.slots }
+    ensures weight { IfOk result (λ t. weight (option_map (λ v. v.left) place.new.visit) + sum_by (λ s. burden (option_map (λ d. d.left) s)) dials.new.slots.items
+        + cost (rest_of queue.new.next queue.new.again.items) + one (not (is_free t))
+        ≤ weight (option_map (λ v. v.left) place.old.visit) + sum_by (λ s. burden (option_map (λ d. d.left) s)) dials.old.slots.items
+        + cost (rest_of queue.old.next queue.old.again.items)) }
     ensures free { result ≡ Ok Turn.Free → queue.new.next ≡ vec_len queue.new.again }
     ensures won { result ≡ Ok Turn.Won → is_some (metadata_of place.new.end.end.part) ≡ true }
     ensures len { vec_len queue.new.again ≡ vec_len queue.old.again }
@@ -248,19 +178,26 @@ fn give_turn<D: Device>(
 {
     match place.visit.take() {
         Some(visit) => tend(wish, time, is_needed, visit, place, queue, device),
-        None => fill(wish, time, place, queue, device),
+        None => dial_for(wish, time, place, dials, queue, device),
     }
 }
 
-/// Returns how many places are to be given up for addresses that have not come yet.
-fn needed<D: Device>(places: &Places<D>, queue: &Queue) -> usize {
-    let mut needed = queue.unseen();
+/// Returns how many places are to be given up: for the addresses that have not come yet, and for a link that is open.
+///
+/// None while a place is free.
+fn needed<D: Device>(
+    places: &Places<D>,
+    dials: &Dials<D::Link>,
+    queue: &Queue,
+    device: &D,
+) -> usize {
     for place in places {
         if place.visit.is_none() {
-            needed = needed.saturating_sub(1);
+            return 0;
         }
     }
-    needed
+    let waiting = has_open(dials, queue, device) as usize;
+    queue.unseen().saturating_add(waiting)
 }
 
 /// Gives each place its turn, until an end has the metadata.
@@ -270,20 +207,26 @@ fn needed<D: Device>(places: &Places<D>, queue: &Queue) -> usize {
 fn give_turns<D: Device>(
     wish: &Wish,
     places: &mut Places<D>,
+    dials: &mut Dials<D::Link>,
     queue: &mut Queue,
     device: &mut D,
 ) -> Result<Round, Memory>
     requires some { 0 < vec_len places.old }
     requires kept { All (λ p. p.end.end.handshake ≡ handshake_of wish.now) places.old.items }
-    requires inside { count_by (λ p. is_some p.visit) places.old.items ≤ D.inside device.old }
-    requires room { D.inside device.old + vec_len places.old ≤ D.places device.old + count_by (λ p. is_some p.visit) places.old.items }
+    requires inside { count_by (λ p. is_some p.visit) places.old.items + count_by (λ s. is_some s) dials.old.slots.items ≤ D.inside device.old }
+    requires room { D.inside device.old + vec_len places.old + vec_len dials.old.slots
+        ≤ D.places device.old + count_by (λ p. is_some p.visit) places.old.items + count_by (λ s. is_some s) dials.old.slots.items }
     ensures kept { All (λ p. p.end.end.handshake ≡ handshake_of wish.now) places.new.items }
-    ensures inside { D.inside device.new + count_by (λ p. is_some p.visit) places.old.items ≡ D.inside device.old + count_by (λ p. is_some p.visit) places.new.items }
+    ensures inside { D.inside device.new + count_by (λ p. is_some p.visit) places.old.items + count_by (λ s. is_some s) dials.old.slots.items
+        ≡ D.inside device.old + count_by (λ p. is_some p.visit) places.new.items + count_by (λ s. is_some s) dials.new.slots.items }
     ensures places { D.places device.new ≡ D.places device.old }
     ensures held { vec_len places.new ≡ vec_len places.old }
+    ensures slots { vec_len dials.new.slots ≡ vec_len dials.old.slots }
     ensures weight { IfOk result (λ r. is_won r ≡ false → sum_by (λ p. weight (option_map (λ v. v.left) p.visit)) places.new.items
+        + sum_by (λ s. burden (option_map (λ d. d.left) s)) dials.new.slots.items
         + cost (rest_of queue.new.next queue.new.again.items) + one (not (is_over r))
-        ≤ sum_by (λ p. weight (option_map (λ v. v.left) p.visit)) places.old.items + cost (rest_of queue.old.next queue.old.again.items)) }
+        ≤ sum_by (λ p. weight (option_map (λ v. v.left) p.visit)) places.old.items
+        + sum_by (λ s. burden (option_map (λ d. d.left) s)) dials.old.slots.items + cost (rest_of queue.old.next queue.old.again.items)) }
     ensures over { result ≡ Ok Round.Over → queue.new.next ≡ vec_len queue.new.again }
     ensures won { IfOk result (λ r. IfWon r (λ k. (k < vec_len places.new) × HoldsAt (λ p. is_some (metadata_of p.end.end.part) ≡ true) places.new.items k)) }
     ensures len { vec_len queue.new.again ≡ vec_len queue.old.again }
@@ -291,11 +234,25 @@ fn give_turns<D: Device>(
         → IsCourse (stage_at result) start (D.log device.new) (dials_of queue.new.next queue.new.again.items) }
 {
     let time = device.time();
-    let mut needed = needed::<D>(places, queue);
+    dials.widen(time);
+    let mut needed = needed(places, dials, queue, device);
+    let mut seeks = true;
     let mut is_over = true;
     let mut waits = true;
     for at in 0..places.len() {
-        let turned = give_turn(wish, time, needed > 0, &mut places[at], queue, device)?;
+        if !seeks && places[at].visit.is_none() {
+            continue;
+        }
+        let turned = give_turn(
+            wish,
+            time,
+            needed > 0,
+            &mut places[at],
+            dials,
+            queue,
+            device,
+        )?;
+        seeks = seeks && places[at].visit.is_some();
         match turned {
             Turn::Free => {}
             Turn::Waits => is_over = false,
@@ -327,15 +284,18 @@ fn give_turns<D: Device>(
 fn fetch_at<D: Device>(
     wish: &Wish,
     places: &mut Places<D>,
+    dials: &mut Dials<D::Link>,
     queue: &mut Queue,
     device: &mut D,
 ) -> Result<Option<usize>, Memory>
     requires some { 0 < vec_len places.old }
     requires kept { All (λ p. p.end.end.handshake ≡ handshake_of wish.now) places.old.items }
-    requires inside { count_by (λ p. is_some p.visit) places.old.items ≤ D.inside device.old }
-    requires room { D.inside device.old + vec_len places.old ≤ D.places device.old + count_by (λ p. is_some p.visit) places.old.items }
+    requires inside { count_by (λ p. is_some p.visit) places.old.items + count_by (λ s. is_some s) dials.old.slots.items ≤ D.inside device.old }
+    requires room { D.inside device.old + vec_len places.old + vec_len dials.old.slots
+        ≤ D.places device.old + count_by (λ p. is_some p.visit) places.old.items + count_by (λ s. is_some s) dials.old.slots.items }
     ensures kept { All (λ p. p.end.end.handshake ≡ handshake_of wish.now) places.new.items }
-    ensures inside { D.inside device.new + count_by (λ p. is_some p.visit) places.old.items ≡ D.inside device.old + count_by (λ p. is_some p.visit) places.new.items }
+    ensures inside { D.inside device.new + count_by (λ p. is_some p.visit) places.old.items + count_by (λ s. is_some s) dials.old.slots.items
+        ≡ D.inside device.old + count_by (λ p. is_some p.visit) places.new.items + count_by (λ s. is_some s) dials.new.slots.items }
     ensures all { result ≡ Ok None → queue.new.next ≡ vec_len queue.new.again }
     ensures won { IfOk result (λ o. IfSome o (λ k. (k < vec_len places.new) × HoldsAt (λ p. is_some (metadata_of p.end.end.part) ≡ true) places.new.items k)) }
     ensures len { vec_len queue.new.again ≡ vec_len queue.old.again }
@@ -343,7 +303,7 @@ fn fetch_at<D: Device>(
         → IsCourse (stage_when result) start (D.log device.new) (dials_of queue.new.next queue.new.again.items) }
 {
     'rounds: loop {
-        match give_turns(wish, places, queue, device)? {
+        match give_turns(wish, places, dials, queue, device)? {
             Round::Over => return Ok(None),
             Round::Waits => device.rest(),
             Round::GoesOn => device.look(),
@@ -423,9 +383,10 @@ fn write_out<D: Device, W: Target>(
 
 /// Fetches metadata from addresses, from up to `at_once` at the same time, and writes its file.
 ///
-/// The file is the metadata, or a .torrent of it. A place that falls free is taken by the next address. An address that failed comes
-/// again once after all others. Nothing is written before all of the metadata is there, and its SHA-1 is the info hash. All connections
-/// are closed when it returns. It returns how many bytes were written.
+/// The file is the metadata, or a .torrent of it. While a place is free, up to [`DIALS`] addresses are dialled besides, and the first
+/// connection that is open takes it: an address at which nobody answers takes no place. An address that failed comes again once after
+/// all others. Nothing is written before all of the metadata is there, and its SHA-1 is the info hash. All connections are closed
+/// when it returns. It returns how many bytes were written.
 ///
 /// # Errors
 /// `NotFetched` if each address was dialled and no connection gave the metadata, `Write` if a write failed, `Memory` if memory was refused.
@@ -440,7 +401,7 @@ pub fn fetch<D: Device, W: Target>(
 ) -> Result<usize, FetchError>
     requires wish { IsWish wish.now }
     requires least { 0 < at_once }
-    requires places { D.inside device.old + at_once ≤ D.places device.old }
+    requires places { D.inside device.old + at_once + 256 ≤ D.places device.old }
     ensures written { IsWritten torrent wish.now.info_hash (W.seen writer.old).held (W.seen writer.new).held result }
     ensures fault { result ≡ Err FetchError.Write → WriteFailed (W.seen writer.old) (W.seen writer.new) }
     ensures closed { D.inside device.new ≡ D.inside device.old }
@@ -448,8 +409,10 @@ pub fn fetch<D: Device, W: Target>(
 {
     let mut queue = Queue::new(alloc, addresses)?;
     let mut places = places_for::<D>(alloc, wish, at_once.min(addresses))?;
-    let fetched = fetch_at::<D>(wish, &mut places, &mut queue, device);
+    let mut dials = Dials::new(alloc, addresses, at_once)?;
+    let fetched = fetch_at(wish, &mut places, &mut dials, &mut queue, device);
     let written = write_out::<D, W>(alloc, wish, torrent, fetched, &places, writer);
     leave_all::<D>(&mut places, device);
+    leave_dials(dials, device);
     written
 }

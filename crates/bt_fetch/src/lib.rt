@@ -4,18 +4,24 @@
 #![tactic(auto)]
 
 mod device;
+mod dial;
+mod dialling;
 mod fetching;
 mod file;
 mod line;
+mod link;
 mod place;
 mod queue;
 mod talk;
 mod tcp;
+mod turn;
 mod visit;
 mod wish;
 
 pub use device::{Device, Ending, Happening, Outcome};
+pub use dialling::DIALS;
 pub use fetching::fetch;
 pub use file::FetchError;
+pub use link::TcpLink;
 pub use tcp::{TcpSwarm, Watcher};
 pub use wish::Wish;

@@ -1,5 +1,5 @@
 //! The addresses that wait to be dialled.
-ghost use Rattle.std.specs.Prelude.{◌≡◌, ◌+◌, ◌<◌, ◌≤◌, ℕ, None, Some, true, vec_len, is_some, IfOk};
+ghost use Rattle.std.specs.Prelude.{◌≡◌, ◌+◌, ◌-◌, ◌<◌, ◌≤◌, ℕ, None, Some, true, vec_len, is_some, IfOk};
 ghost use Rattle.bt_fetch.specs.Queues.{dials_of, rest_of, one, taken};
 
 use bt_io::Memory;
@@ -41,7 +41,9 @@ impl Queue {
     }
 
     /// Returns how many addresses have not come yet.
-    pub fn unseen(&self) -> usize {
+    pub fn unseen(&self) -> usize
+        ensures { result ≡ vec_len self.now.again - self.now.next }
+    {
         self.again.len() - self.next
     }
 

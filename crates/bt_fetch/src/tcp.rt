@@ -1,11 +1,12 @@
 //! Connections over TCP to many addresses at the same time.
-ghost use Rattle.std.specs.Prelude.{◌≡◌};
+ghost use Rattle.std.specs.Prelude.{◌≡◌, IfSome};
 ghost use Rattle.bt_exchange.specs.Lists.{IsAdded};
 ghost use Rattle.bt_fetch.specs.declared.device.Happening.{Happening};
 
 use crate::device::{Device, Ending};
+use crate::link::TcpLink;
 use bt_end::Progress;
-use bt_exchange::{Flag, Naps, Polled, Sleeper};
+use bt_exchange::{Connection, Flag, Naps, Sleeper};
 use mio::net::TcpStream;
 use std::alloc::Global;
 use std::io;
@@ -41,6 +42,7 @@ pub trait Watcher {
 #[derive(Drop)]
 pub struct TcpSwarm<'a, R: Net + Clock, T: Watcher + Drop> {
     runtime: &'a R,
+    alloc: Global,
     addresses: &'a [SocketAddr],
     watcher: T,
     inside: usize,
@@ -56,6 +58,7 @@ impl<'a, R: Net + Clock, T: Watcher + Drop> TcpSwarm<'a, R, T> {
     /// Returns a device with `places` places for connections to these addresses.
     pub fn new(
         runtime: &'a R,
+        alloc: Global,
         addresses: &'a [SocketAddr],
         watcher: T,
         places: usize,
@@ -66,6 +69,7 @@ impl<'a, R: Net + Clock, T: Watcher + Drop> TcpSwarm<'a, R, T> {
     {
         TcpSwarm {
             runtime,
+            alloc,
             addresses,
             watcher,
             inside: 0,
@@ -90,9 +94,25 @@ impl<'a, R: Net + Clock, T: Watcher + Drop> TcpSwarm<'a, R, T> {
         ensures places { ⟦<TcpSwarm<'a, R, T> as Device>⟧.places result ≡ places }
         ensures log { ⟦<TcpSwarm<'a, R, T> as Device>⟧.log result ≡ T.heard watcher }
     {
-        let mut swarm = TcpSwarm::new(runtime, addresses, watcher, places);
+        let mut swarm = TcpSwarm::new(runtime, alloc, addresses, watcher, places);
         swarm.sleeper = Sleeper::new(runtime, alloc, places, LONGEST);
         swarm
+    }
+
+    /// Begins a connection to the address of this number.
+    fn begin(&mut self, address: usize) -> Option<TcpLink<&'a R>>
+        ensures fresh { IfSome result (λ link. (⟦<TcpLink<&'a R> as Connection>⟧.seen link).counts.calls ≡ 0) }
+        ensures inside { self.new.inside ≡ self.old.inside }
+        ensures places { self.new.places ≡ self.old.places }
+        ensures watcher { self.new.watcher ≡ self.old.watcher }
+    {
+        let at = *self.addresses.get(address)?;
+        let stream = begin(self.runtime, at).ok()?;
+        let flag = match &mut self.sleeper {
+            Some(sleeper) => sleeper.watch(stream.as_raw_fd()),
+            None => Flag::always(),
+        };
+        TcpLink::new(self.alloc, stream, self.runtime, flag).ok()
     }
 
     /// Returns who heard what happened.
@@ -111,7 +131,7 @@ fn begin<R: Net>(net: &R, address: SocketAddr) -> io::Result<TcpStream> {
 }
 
 impl<'a, R: Net + Clock, T: Watcher + Drop> Device for TcpSwarm<'a, R, T> {
-    type Link = Polled<TcpStream, &'a R>;
+    type Link = TcpLink<&'a R>;
 
     ghost log = { λ d. T.heard d.watcher };
 
@@ -119,25 +139,22 @@ impl<'a, R: Net + Clock, T: Watcher + Drop> Device for TcpSwarm<'a, R, T> {
 
     ghost places = { λ d. d.places };
 
-    fn dial(&mut self, address: usize) -> Option<Polled<TcpStream, &'a R>> {
-        let begun = match self.addresses.get(address) {
-            Some(at) => begin(self.runtime, *at).ok(),
-            None => None,
-        };
+    fn dial(&mut self, address: usize) -> Option<TcpLink<&'a R>> {
+        let begun = self.begin(address);
         self.watcher.dialled(address, begun.is_some());
-        let stream = begun?;
+        let link = begun?;
         self.inside += 1;
         self.naps.came();
-        let flag = match &mut self.sleeper {
-            Some(sleeper) => sleeper.watch(stream.as_raw_fd()),
-            None => Flag::always(),
-        };
-        Some(Polled::new(stream, self.runtime, flag))
+        Some(link)
     }
 
-    fn ended(&mut self, address: usize, _link: Polled<TcpStream, &'a R>, ending: Ending) {
+    fn ended(&mut self, address: usize, _link: TcpLink<&'a R>, ending: Ending) {
         self.inside -= 1;
         self.watcher.ended(address, ending);
+    }
+
+    fn is_open(&self, link: &TcpLink<&'a R>) -> Option<bool> {
+        link.is_open()
     }
 
     fn came(&mut self, address: usize, progress: Progress) {

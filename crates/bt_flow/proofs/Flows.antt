@@ -17,7 +17,7 @@ use Rattle.bt_flow.specs.declared.stream.Stream.{Stream}
 use Rattle.bt_flow.specs.declared.flow.Flow.{Flow}
 use Rattle.bt_flow.specs.declared.flow.Given.{Given}
 use Rattle.bt_flow.specs.declared.noted.Noted.{Noted}
-use Rattle.bt_flow.specs.Memory.{next_of, seen}
+use Rattle.bt_flow.specs.Wide.{next_of, seen}
 use Rattle.bt_flow.specs.Notes.{AddsBothIfRoom, AreNoted, IsNotedFrom, NotesBoth, NotesOne, FillsOne, HasNoRoomFor, is_full, spans_in, spans_noted}
 use Rattle.bt_flow.proofs.Filled.{apart_noted, no_room}
 use Rattle.bt_flow.proofs.Notes.{IsNextOf, captured_more, fills_first, first_if_room, notes_if_room, notes_more, notes_none, noted_more, same_if_room}

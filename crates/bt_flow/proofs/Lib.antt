@@ -3,5 +3,8 @@ pub mod Streams
 pub mod Flows
 pub mod Filled
 pub mod Notes
+pub mod PageProofs
+pub mod WideProofs
+pub mod WideCalls
 pub mod Gaps
 pub mod Told

@@ -9,7 +9,7 @@ use Rattle.bt_tcp.specs.Windows.{IsTaken}
 use Rattle.bt_tcp.specs.History.{IsHistory, differs, conflicts, kept, held}
 use Rattle.bt_tcp.proofs.Taken.{front_push}
 use Rattle.bt_flow.specs.declared.stream.Stream.{Stream}
-use Rattle.bt_flow.specs.Memory.{next_of, seen}
+use Rattle.bt_flow.specs.Wide.{next_of, seen}
 use Rattle.bt_flow.specs.Views.{TakesIn, AppendsAfter, IsNear}
 use Rattle.bt_flow.specs.Streams.{IsStreamOf, Advances, StreamTakes, conflicts_with}
 

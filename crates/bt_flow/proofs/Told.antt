@@ -10,7 +10,7 @@ use Rattle.bt_tcp.specs.declared.covered.Gaps.{Gaps}
 use Rattle.bt_tcp.specs.Covered.{in_span, is_covered, AreApart, AreGaps, IsFirst, sent_end, count_places, begins_gap, is_missing}
 use Rattle.bt_flow.specs.declared.stream.Stream.{Stream}
 use Rattle.bt_flow.specs.declared.noted.Noted.{Noted}
-use Rattle.bt_flow.specs.Memory.{next_of}
+use Rattle.bt_flow.specs.Wide.{next_of}
 use Rattle.bt_flow.specs.Notes.{spans_noted, is_full}
 use Rattle.bt_flow.specs.Flows.{IsBaseNow, IsPlaceNow, IsStreamFor, AreNotedFor, is_captured, is_lost_stream}
 use Rattle.bt_flow.specs.Counts.{gap_from, from_base}

@@ -12,7 +12,7 @@ use Rattle.bt_tcp.specs.Halves.{IsHalf, IsOutOfRange}
 use Rattle.bt_flow.specs.declared.stream.Stream.{Stream}
 use Rattle.bt_flow.specs.declared.noted.Noted.{Noted}
 use Rattle.bt_flow.specs.Notes.{AddsSome, AreNoted, IsNotedFrom, NotesOne, FillsOne, ReachBase, spans_noted, is_full}
-use Rattle.bt_flow.specs.Memory.{next_of, capacity_of}
+use Rattle.bt_flow.specs.Wide.{next_of, capacity_of}
 use Rattle.bt_flow.specs.declared.flow.Flow.{Flow}
 use Rattle.bt_flow.specs.declared.flow.Given.{Given}
 use Rattle.bt_flow.specs.Counts.{counts, is_closed_at, from_base}
@@ -70,7 +70,7 @@ abbrev pub conflicts_in : Option Stream → ℕ
 conflicts_in None = 0
 conflicts_in (Some s) = s.conflicts
 
--- how many places of memory there are past the eight that each stream has
+-- how many places the ring has past the eight that each stream has
 abbrev pub held_in : Option Stream → ℕ
 held_in None = 0
 held_in (Some s) = capacity_of s.window - 8

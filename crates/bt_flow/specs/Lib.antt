@@ -1,5 +1,7 @@
 pub mod Views
 pub mod Memory
+pub mod Pages
+pub mod Wide
 pub mod Streams
 pub mod Flows
 pub mod Counts

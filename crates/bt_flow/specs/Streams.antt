@@ -4,7 +4,7 @@ use Rattle.bt_tcp.specs.Segments.{Segment, IsFront, IsStream}
 use Rattle.bt_tcp.specs.Windows.{IsTaken}
 use Rattle.bt_tcp.specs.History.{IsHistory, conflicts, kept, held}
 use Rattle.bt_flow.specs.declared.stream.Stream.{Stream}
-use Rattle.bt_flow.specs.Memory.{next_of, seen}
+use Rattle.bt_flow.specs.Wide.{next_of, seen}
 use Rattle.bt_flow.specs.Views.{IsNear}
 
 -- Of these segments the bytes `out` were handed out. Until a gap is final they are the whole stream, and after that a prefix of it, and no bytes are ahead.

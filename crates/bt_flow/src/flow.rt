@@ -368,7 +368,7 @@ impl Flow {
         }
     }
 
-    /// Returns how many bytes of memory it holds past a gap.
+    /// Returns how many places its ring has past the first eight. What is far past a gap isn't in it.
     pub fn held(&self) -> usize
         ensures { result ≡ held_in self.now.stream }
     {

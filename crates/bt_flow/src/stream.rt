@@ -2,7 +2,7 @@
 ghost use Rattle.std.specs.Prelude.{◌≡◌, ℕ, ◌+◌, ◌-◌, ◌<◌, ◌≤◌, ◌^◌, List, [], ◌++◌, length, true, false, min, IfOk, OnOk, OnErr};
 ghost use Rattle.bt_tcp.specs.History.{IsHistory};
 
-use crate::window::Window;
+use crate::wide::WideWindow;
 use bt_tcp::history;
 use std::alloc::{AllocError, Global};
 
@@ -22,14 +22,14 @@ fn remember(history: &mut Vec<u8>, end: u64, first: &[u8], rest: &[u8]) -> Resul
 #[derive(Drop)]
 pub struct Stream {
     base: u64,
-    window: Window,
+    window: WideWindow,
     history: Vec<u8>,
     conflicts: u64,
     is_lost: bool,
 }
 
 impl Stream {
-    ghost use Rattle.bt_flow.specs.Memory.{next_of, capacity_of};
+    ghost use Rattle.bt_flow.specs.Wide.{next_of, capacity_of};
     ghost use Rattle.bt_flow.specs.Streams.{IsStreamOf, Advances, StreamTakes, conflicts_with};
     ghost use Rattle.bt_flow.specs.Views.{AppendsAfter};
 
@@ -43,7 +43,7 @@ impl Stream {
         ensures conflicts { IfOk result (λ s. s.conflicts ≡ 0) }
         ensures open { IfOk result (λ s. s.is_lost ≡ false) }
     {
-        let window = Window::new(alloc, base)?;
+        let window = WideWindow::new(alloc, base)?;
         Ok(Stream {
             base,
             window,
@@ -81,7 +81,7 @@ impl Stream {
         self.is_lost
     }
 
-    /// Returns how many bytes of memory it has past a gap.
+    /// Returns how many places its ring has past the first eight.
     pub fn held(&self) -> usize
         ensures { result + 8 ≡ capacity_of self.now.window }
     {

@@ -43,6 +43,7 @@ pub fn run_check<R: Source, W: Target>(
 /// # Errors
 /// `Read` if a read failed. `Write` if a write failed or took no byte. `Memory` when out of memory. `Turns` after 4,294,967,296
 /// reads without the end.
+#[inline(never)]
 pub fn run_check_after<R: Source, W: Target>(
     alloc: Global,
     prefix: &[u8],

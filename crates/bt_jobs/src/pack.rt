@@ -210,6 +210,7 @@ fn end_script(
 /// # Errors
 /// `Read` if a read failed. `Write` if a write failed or took no byte. `Memory` when out of memory. `Turns` after 4,294,967,296
 /// reads without the end. A prefix of the bytes of accepted lines is written then.
+#[inline(never)]
 pub fn run_pack<R: Source, W: Target>(
     alloc: Global,
     reader: &mut R,

@@ -49,6 +49,7 @@ fn turn<R: Source, W: Target>(
 }
 
 /// Reads the stream to its end, and writes the text of its items after each read.
+#[inline(never)]
 fn tell<R: Source, W: Target>(
     alloc: Global,
     reader: &mut R,

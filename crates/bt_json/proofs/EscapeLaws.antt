@@ -1,10 +1,10 @@
 -- Laws of escapes, and of the text of an extended handshake's line.
-use Rattle.std.proofs.Common.{◌≡◌, ◌<◌, ◌≤◌, ◌+◌, ◌*◌, ◌/◌, ◌%◌, ◌++◌, ◌∷◌, ◌&&◌, [], List, ℕ, zero, suc, Bool, true, false, inl, inr, refl}
+use Rattle.std.proofs.Common.{◌≡◌, ◌<◌, ◌≤◌, ◌+◌, ◌-◌, ◌*◌, ◌/◌, ◌%◌, ◌++◌, ◌∷◌, ◌&&◌, [], List, ℕ, zero, suc, Bool, true, false, inl, inr, refl}
 use Rattle.std.proofs.Common.{sym, ap, ◌∙◌, add-one, append_assoc, append-nil, arith, drop, take, length, get_or, slice_index, cond, nat_lt, get_or-take}
 use Rattle.std.proofs.lemmas.Bool.{and_parts, cases_lt}
 use Rattle.std.proofs.lemmas.Grind.{flat_map-append}
-use Rattle.std.proofs.lemmas.List.{length-append, length-take, length-take-le, take-append-drop, take-take}
-use Rattle.std.proofs.Math.Seq.{take-suc}
+use Rattle.std.proofs.lemmas.List.{drop-take, length-append, length-drop, length-take, length-take-le, take-append-drop, take-take, take_all}
+use Rattle.std.proofs.Math.Seq.{take-append-add, take-suc}
 use Rattle.std.specs.Prelude.{codes, decimal, IsUtf8, Err, Ok, OnErr, Option, Result, Some, None, if◌then◌else◌}
 use Rattle.hex.specs.Hex.{IsBytes, encode_lower, encode_with, lower_digits}
 use Rattle.json.proofs.Printed.Plain.{escape_on_plain}
@@ -112,21 +112,50 @@ plain_more s n h e k p q =
           rw same e
     ]
 
--- plain bytes, and the byte after them
-pub plain_and_next : (s : List ℕ) (n : ℕ) → n < length s → PlainBetween s 0 n → escape (take (n + 1) s) ≡ take n s ++ escape_byte (get_or s n 0)
-plain_and_next s n lt h =
+-- what one byte more is printed as
+pub escape_more : (s : List ℕ) (n : ℕ) → n < length s → escape (take (n + 1) s) ≡ escape (take n s) ++ escape_byte (get_or s n 0)
+escape_more s n lt =
     ap escape (ap (λ (k : ℕ). take k s) (add-one n) ∙ take-suc s n 0 lt) ∙ flat_map-append escape_byte (take n s) (get_or s n 0 ∷ [])
-    ∙ (ap (λ (l : List ℕ). l ++ (escape_byte (get_or s n 0) ++ [])) (plain_front s n (omega arith) h) ∙ ap (λ (l : List ℕ). take n s ++ l) (append-nil _))
+    ∙ ap (λ (l : List ℕ). escape (take n s) ++ l) (append-nil _)
+
+-- a byte more is put: more bytes are written than count
+pub put_more : (new old e s : List ℕ) (to size more n : ℕ) → to ≡ size + length e → size ≤ length old → more ≤ length e → take to new ≡ take size old ++ e
+    → take size old ≡ escape (take n s) → n < length s → take more e ≡ escape_byte (get_or s n 0) → take (size + more) new ≡ escape (take (n + 1) s)
+put_more new old e s to size more n end fits small put before lt next =
+    sym (take-take (size + more) to new (omega arith))
+    ∙ (ap (take (size + more)) put
+    ∙ (ap (λ (k : ℕ). take (k + more) (take size old ++ e)) (sym (length-take-le size old fits))
+    ∙ (take-append-add (take size old) e more
+    ∙ (ap (λ (l : List ℕ). l ++ take more e) before
+    ∙ (ap (λ (l : List ℕ). escape (take n s) ++ l) next ∙ sym (escape_more s n lt))))))
+
+two_parts : (m n : ℕ) (s : List ℕ) → take (m + n) s ≡ take m s ++ take n (drop m s)
+two_parts m n s =
+    sym (take-append-drop m (take (m + n) s))
+    ∙ (ap (λ (l : List ℕ). l ++ drop m (take (m + n) s)) (take-take m (m + n) s (omega arith)) ∙ ap (λ (l : List ℕ). take m s ++ l) (drop-take m n s))
+
+-- the bytes from one on, as a slice of them is taken
+abbrev rest_of : ℕ → List ℕ → List ℕ
+rest_of m s = take (length s - m) (drop m s)
+
+all_left : (m : ℕ) (s : List ℕ) → rest_of m s ≡ drop m s
+all_left m s = take_all (length s - m) (drop m s) (omega (arith, length-drop m s))
+
+-- plain bytes, and those after them
+pub run_and_few : (s : List ℕ) (m n : ℕ) → m ≤ length s → PlainBetween s 0 m → escape (take (m + n) s) ≡ take m s ++ escape (take n (rest_of m s))
+run_and_few s m n long h =
+    ap escape (two_parts m n s) ∙ (flat_map-append escape_byte (take m s) (take n (drop m s))
+    ∙ (ap (λ (l : List ℕ). l ++ escape (take n (drop m s))) (plain_front s m long h)
+    ∙ ap (λ (l : List ℕ). take m s ++ escape (take n l)) (sym (all_left m s))))
 
 -- they are no longer than the whole text
 pub plain_size : (s : List ℕ) (n : ℕ) → n ≤ length s → PlainBetween s 0 n → n ≤ length (escape s)
 plain_size s n long h = omega (arith, part_sizes n s, ap length (plain_front s n long h), length-take-le n s long)
 
-pub next_size : (s : List ℕ) (n : ℕ) → n < length s → PlainBetween s 0 n → n + length (escape_byte (get_or s n 0)) ≤ length (escape s)
-next_size s n lt h =
-    let both = ap length (plain_and_next s n lt h) ∙ length-append (take n s) (escape_byte (get_or s n 0)) in
-    let size = length-take-le n s (omega arith) in
-    omega (arith, part_sizes (n + 1) s, both, size)
+pub few_size : (s : List ℕ) (m n : ℕ) → m ≤ length s → PlainBetween s 0 m → m + length (escape (take n (rest_of m s))) ≤ length (escape s)
+few_size s m n long h =
+    let both = ap length (run_and_few s m n long h) ∙ length-append (take m s) (escape (take n (rest_of m s))) in
+    omega (arith, part_sizes (m + n) s, both, length-take-le m s long)
 
 -- what stands after the one is after the other
 pub kept_on : (new mid old : List ℕ) → take (length mid) new ≡ mid → take (length old) mid ≡ old → take (length old) new ≡ old

@@ -1,6 +1,6 @@
 //! The offset that a line begins with, and the text of any length between quotes (RFC 8259, "strings") that it may end with.
 //!
-//! A run of bytes that need no escape is copied by one call.
+//! A run of bytes that need no escape is copied by one call. From the first that needs one on 16 are put one by one.
 ghost use Rattle.std.specs.Prelude.{◌≡◌, ◌+◌, ◌<◌, ◌≤◌, ◌++◌, take, length, codes, map, decimal, option_map, vec_capacity, vec_len, OnErr, OnOk, IfOk};
 ghost use Rattle.std.specs.Char.{digit_char};
 ghost use Rattle.std.specs.Simd.Lanes.{mask_l};
@@ -20,6 +20,9 @@ pub const LINE_ROOM: usize = 254;
 
 /// How many bytes are tested in one step.
 const LANES: usize = 32;
+
+/// How many bytes are put one by one from the first on that needs an escape.
+const FEW: usize = 16;
 
 /// How long a run is at most: the C library copies a longer one in another way.
 const PIECE: usize = 1984;
@@ -76,6 +79,26 @@ fn escape_of(byte: u8) -> ([u8; 6], usize)
     ([byte, 0, 0, 0, 0, 0], 1)
 }
 
+/// Puts what stands between quotes for the bytes in front, at most 16.
+///
+/// It returns how many bytes these are, and how long it is.
+fn put_few(bytes: &[u8], text: &mut [u8]) -> (usize, usize)
+    requires some { 0 < length bytes.now }
+    requires room { length text.old ≡ 96 }
+    ensures taken { (0 < result.0) × (result.0 ≤ length bytes.now) }
+    ensures size { (result.1 ≤ 96) × (length text.new ≡ 96) }
+    ensures text { take result.1 text.new ≡ escape (take result.0 bytes.now) }
+{
+    let (mut taken, mut size) = (0, 0);
+    while taken < FEW && taken < bytes.len() {
+        let (escape, more) = escape_of(bytes[taken]);
+        put_word(&escape, text, size);
+        size += more;
+        taken += 1;
+    }
+    (taken, size)
+}
+
 /// Returns whether a byte stands for itself between quotes.
 #[inline(always)]
 fn is_plain(byte: u8) -> bool
@@ -125,8 +148,8 @@ fn plain_run(bytes: &[u8]) -> usize
     plain_few(bytes, run)
 }
 
-/// Appends a run from the front as it stands between quotes, and the byte that follows it; returns how many bytes that is.
-#[tactic(auto, using(crate::proofs::EscapeLaws::plain_front, crate::proofs::EscapeLaws::plain_and_next, crate::proofs::EscapeLaws::plain_size, crate::proofs::EscapeLaws::next_size))]
+/// Appends a run from the front and a few bytes after it as they stand between quotes; returns how many bytes that is.
+#[tactic(auto, using(crate::proofs::EscapeLaws::plain_front, crate::proofs::EscapeLaws::run_and_few, crate::proofs::EscapeLaws::plain_size, crate::proofs::EscapeLaws::few_size))]
 fn push_front(bytes: &[u8], lines: &mut Vec<u8>) -> Result<usize, AllocError>
     requires { 0 < length bytes.now }
     ensures taken { IfOk result (λ n. (0 < n) × (n ≤ length bytes.now) × (lines.new.items ≡ lines.old.items ++ escape (take n bytes.now))) }
@@ -136,12 +159,14 @@ fn push_front(bytes: &[u8], lines: &mut Vec<u8>) -> Result<usize, AllocError>
 {
     let run = plain_run(bytes);
     lines.extend_from_slice(&bytes[..run])?;
-    if run == bytes.len() {
+    if run == bytes.len() || run == PIECE {
         return Ok(run);
     }
-    let (escape, size) = escape_of(bytes[run]);
-    lines.extend_from_slice(&escape[..size])?;
-    Ok(run + 1)
+    // (mostly more escapes follow soon)
+    let mut few = [0; 6 * FEW];
+    let (taken, size) = put_few(&bytes[run..], &mut few);
+    lines.extend_from_slice(&few[..size])?;
+    Ok(run + taken)
 }
 
 /// Appends bytes as they stand between quotes.

@@ -86,7 +86,7 @@ fn payloads(rt: HostRuntime) {
 
 /// A payload, and the length of the dictionary that it begins with, whose keys are sorted at each depth.
 ///
-/// If it has none: the offset of the first key out of order, or `None` if its bytes are wrong before that key.
+/// If it has none: the offset of the first key out of order, or `None` if it begins with no dictionary.
 type SortedRow = (&'static [u8], Result<usize, Option<usize>>);
 
 const SORTED: &[SortedRow] = &[
@@ -97,7 +97,16 @@ const SORTED: &[SortedRow] = &[
     (b"d1:bi1e1:ai2ee", Err(Some(7))),
     (b"d1:ai1e1:ai2ee", Err(Some(7))),
     (b"d1:ad1:yi1e1:xi2eee", Err(Some(11))),
-    (b"d1:bi1e1:ai01ee", Err(Some(7))),
+    (b"d1:bi1e1:ai01ee", Err(None)),
+    (b"d1:bi1e1:ai0ei1ee", Err(None)),
+    (b"d1:bi1e1:ai0e1:", Err(None)),
+    (b"d1:al1:xd1:bi1e1:ai2eeee", Err(Some(15))),
+    (b"d1:al1:xd1:bi1e1:ai2eeex", Err(None)),
+    (b"d1:al1:xd1:bi1e1:ai2ee", Err(None)),
+    (b"d1:al1:xld1:yi-0eeeee", Err(None)),
+    (b"d8:msg_typei0e5:piecei3e", Err(None)),
+    (b"", Err(None)),
+    (b"le", Err(None)),
     (b"d1:al2:xyi-5edeee", Ok(17)),
     (b"d1:ai9223372036854775807ee", Ok(26)),
     (b"d1:ai-9223372036854775808ee", Ok(27)),
@@ -110,11 +119,19 @@ const SORTED: &[SortedRow] = &[
     (b"d1:ai1e", Err(None)),
 ];
 
-/// Whether the pass that compares keys gives the answer.
+/// Whether `check` refuses the payload for this reason.
+fn is_refused_for(payload: &[u8], why: Bad) -> bool {
+    match check(payload) {
+        Ok(_) => false,
+        Err(bad) => bad == why,
+    }
+}
+
+/// Whether the pass that compares keys gives the answer, and of a wrong byte the place that `check` gives.
 fn is_sorted_in_one_pass(payload: &[u8], answer: Result<usize, Option<usize>>) -> bool {
     match check_sorted_ints(payload, b"a", b"b", b"c") {
         Ok((dict, len, _, _, _)) => answer == Ok(len) && dict.spelled().len() == len,
-        Err(Disorder::Bytes) => answer == Err(None),
+        Err(Disorder::Bytes(bad)) => answer == Err(None) && is_refused_for(payload, bad),
         Err(Disorder::Order { at }) => answer == Err(Some(at)),
     }
 }

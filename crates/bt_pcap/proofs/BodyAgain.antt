@@ -3,18 +3,19 @@ use Rattle.std.proofs.Common.{◌≡◌, ◌≢◌, ℕ, ◌+◌, ◌-◌, ◌*�
 use Rattle.std.proofs.Common.{arith, inl, inr, Option, Some, None}
 use Rattle.std.proofs.lemmas.Bool.{cases_lt}
 use Rattle.std.proofs.lemmas.List.{take-take, take_all, length-take}
+use Rattle.std.specs.Prelude.{ℤ}
 use Rattle.bt_pcap.specs.declared.numbers.Order.{Order}
 use Rattle.bt_pcap.specs.declared.interfaces.Interface.{Interface}
 use Rattle.bt_pcap.specs.Numbers.{u16, u32, number16, number32}
 use Rattle.bt_pcap.specs.Interfaces.{noted}
-use Rattle.bt_pcap.specs.Options.{resolution_of}
+use Rattle.bt_pcap.specs.Options.{resolution_of, offset_of}
 use Rattle.bt_pcap.specs.Times.{nanos_of}
 use Rattle.bt_pcap.specs.Formats.{Captured}
-use Rattle.bt_pcap.specs.Packets.{packet_on}
+use Rattle.bt_pcap.specs.Packets.{packet_at, packet_on, simple_on, snapped}
 use Rattle.bt_pcap.specs.Items.{IsInterface, IsEnhanced, IsObsolete, IsSimple, Says, describes, enhanced, obsolete, simple, passed_over}
 use Rattle.bt_pcap.specs.Reading.{word, read_stamped, read_packet, read_interface, read_interfaces, least, most}
 use Rattle.bt_pcap.proofs.NumberLaws.{number32-u32, drop-u32, length-u32, number16-u16, drop-u16, length-u16, drop-front, word-take}
-use Rattle.bt_pcap.proofs.Resolution.{again}
+use Rattle.bt_pcap.proofs.OptionValues.{resolution_again, offset_again}
 use Rattle.bt_pcap.proofs.Readings.{ne_false}
 use Rattle.bt_pcap.proofs.BodyLaws.{stamped_again, packet_of_other, interfaces_of_other}
 
@@ -25,22 +26,31 @@ pub record Again (order : Order) (known : List Interface) (kind : ℕ) (body : L
   pub enough : least kind ≤ length body
   pub within : length body ≤ most kind
 
-abbrev made : ℕ → ℕ → Interface
-made link resolution = record { link = link; resolution = resolution }
+abbrev made : ℕ → ℕ → ℕ → ℤ → Interface
+made link snap resolution offset = record { link = link; snap = snap; resolution = resolution; offset = offset }
 
 interface_again : (order : Order) (i : Interface) (body : List ℕ) → IsInterface order i body → (read_interface order body ≡ i) × (8 ≤ length body)
 interface_again order i body s =
-    let r2 = u32 order s.snap ++ s.options in
+    let r2 = u32 order i.snap ++ s.options in
     let r1 = u16 order s.reserved ++ r2 in
     let d1 : drop 2 body ≡ r1 = ap (drop 2) s.whole ∙ drop-u16 order i.link r1 in
     let d2 : drop 2 (drop 2 body) ≡ r2 = ap (drop 2) d1 ∙ drop-u16 order s.reserved r2 in
-    let d3 : drop 4 (drop 2 (drop 2 body)) ≡ s.options = ap (drop 4) d2 ∙ drop-u32 order s.snap s.options in
+    let d3 : drop 4 (drop 2 (drop 2 body)) ≡ s.options = ap (drop 4) d2 ∙ drop-u32 order i.snap s.options in
+    let n : number32 order (drop 2 (drop 2 body)) ≡ i.snap = ap (number32 order) d2 ∙ number32-u32 order i.snap s.options s.snap_fits in
     let l : number16 order body ≡ i.link = ap (number16 order) s.whole ∙ number16-u16 order i.link r1 s.link_fits in
-    let r : resolution_of order (take 1048576 (drop 4 (drop 2 (drop 2 body)))) ≡ i.resolution = ap (λ (x : List ℕ). resolution_of order
-    (take 1048576 x)) d3 ∙ again order (take 1048576 s.options) i.resolution s.resolution in
+    let options = take 1048576 (drop 4 (drop 2 (drop 2 body))) in
+    let d4 : options ≡ take 1048576 s.options = ap (take 1048576) d3 in
+    let r : resolution_of order options ≡ i.resolution =
+    ap (resolution_of order) d4 ∙ resolution_again order (take 1048576 s.options) i.resolution s.resolution in
+    let o : offset_of order options ≡ i.offset = ap (offset_of order) d4 ∙ offset_again order (take 1048576 s.options) i.offset s.offset in
     let size : length body ≡ 8 + length s.options = ap (length {A = ℕ}) s.whole
-    ∙ omega (arith, length-u16 order i.link r1, length-u16 order s.reserved r2, length-u32 order s.snap s.options) in
-    (ap (λ (k : ℕ). made k (resolution_of order (take 1048576 (drop 4 (drop 2 (drop 2 body)))))) l ∙ ap (made i.link) r, omega (arith, size))
+    ∙ omega (arith, length-u16 order i.link r1, length-u16 order s.reserved r2, length-u32 order i.snap s.options) in
+    let read : ℕ = resolution_of order options in
+    let moves : ℤ = offset_of order options in (
+      ap (λ (k : ℕ). made k (number32 order (drop 2 (drop 2 body))) read moves) l ∙ (ap (λ (k : ℕ). made i.link k read moves) n
+          ∙ (ap (λ (k : ℕ). made i.link i.snap k moves) r ∙ ap (made i.link i.snap i.resolution) o)),
+      omega (arith, size),
+    )
 
 again_1 : (order : Order) (known : List Interface) (body : List ℕ) (p : Option Captured) (after : List Interface) (i : Interface)
     → IsInterface order i body → p ≡ None → after ≡ noted known i → length body ≤ most 1 → Again order known 1 body p after
@@ -90,8 +100,8 @@ again_3 order known body p after s ea =
     let d : drop 4 body ≡ s.octets = ap (drop 4) s.whole ∙ drop-u32 order s.original s.octets in
     let size : length body ≡ 4 + length s.octets = ap (length {A = ℕ}) s.whole ∙ length-u32 order s.original s.octets in
     record {
-      packet_is = ap (λ (k : ℕ). packet_on (slice_get known 0) 0 (take k (drop 4 body)) k) n
-          ∙ (ap (λ (x : List ℕ). packet_on (slice_get known 0) 0 (take s.original x) s.original) d ∙ sym s.handed);
+      packet_is = ap (λ (k : ℕ). simple_on (slice_get known 0) (drop 4 body) k) n
+          ∙ (ap (λ (x : List ℕ). simple_on (slice_get known 0) x s.original) d ∙ sym s.handed);
       after_is = sym ea;
       enough = omega (arith, size);
       within = omega (arith, size, s.octets_fit);
@@ -149,9 +159,19 @@ pub kept : (c m : ℕ) (xs : List ℕ) → 1048576 ≤ m → take 1048576 (take 
 kept c m xs le =
     take-min 1048576 c (take m xs) ∙ (take-take (min 1048576 c) m xs (omega arith) ∙ sym (take-min 1048576 c xs))
 
+at_cut : (i : Interface) (nanos o : ℕ) (x y : List ℕ) → take 1048576 x ≡ take 1048576 y → packet_at i nanos x o ≡ packet_at i nanos y o
+at_cut i nanos o x y e = ap (λ (z : List ℕ). record { link = i.link; nanos = nanos; bytes = z; original = o }) e
+
 pub on_cut : (on : Option Interface) (ticks o : ℕ) (x y : List ℕ) → take 1048576 x ≡ take 1048576 y → packet_on on ticks x o ≡ packet_on on ticks y o
 on_cut None ticks o x y e = refl
-on_cut (Some i) ticks o x y e = ap (λ (z : List ℕ). Some (record { link = i.link; nanos = nanos_of i.resolution ticks; bytes = z; original = o })) e
+on_cut (Some i) ticks o x y e = ap (λ (p : Captured). Some p) (at_cut i (nanos_of i.resolution i.offset ticks) o x y e)
+
+-- of a simple packet too, whatever its interface's snap length is
+pub simple_cut : (on : Option Interface) (o m : ℕ) (octets : List ℕ) → 1048576 ≤ m → simple_on on (take m octets) o ≡ simple_on on octets o
+simple_cut None o m octets le = refl
+simple_cut (Some i) o m octets le =
+    let c = snapped i.snap o in
+    ap (λ (p : Captured). Some p) (at_cut i 0 o (take c (take m octets)) (take c octets) (kept c m octets le))
 
 drops_front : (m : ℕ) (b : List ℕ) → 16 ≤ m → drop 4 (drop 4 (drop 4 (drop 4 (take m b)))) ≡ take (m - 16) (drop 4 (drop 4 (drop 4 (drop 4 b))))
 drops_front m b le =

@@ -10,7 +10,7 @@ use Rattle.bt_pcap.specs.Packets.{packet_on}
 use Rattle.bt_pcap.specs.Items.{section_type, IsStamped, Says, describes, enhanced, obsolete, simple, passed_over}
 use Rattle.bt_pcap.specs.Reading.{word, read_stamped, read_packet, read_interface, read_interfaces, least, most}
 use Rattle.bt_pcap.proofs.NumberLaws.{AreBytes-take, AreBytes-drop, number32-lt, number32-u32, drop-u32, length-u32, split32, number16-lt, split16}
-use Rattle.bt_pcap.proofs.Resolution.{sound}
+use Rattle.bt_pcap.proofs.OptionValues.{resolution_sound, offset_sound}
 use Rattle.bt_pcap.proofs.Readings.{chosen, eq_true, eq_false, ne_false}
 
 pub word-lt : (order : Order) (k : ℕ) (b : List ℕ) → AreBytes b → word order k b < 2 ^ 32
@@ -114,14 +114,16 @@ sound_1 order known body le f =
     let f1 = AreBytes-drop 2 body f in
     let l1 : 6 ≤ length b1 = omega (arith, length-drop 2 body) in
     let l2 : 4 ≤ length b2 = omega (arith, length-drop 2 b1) in
+    let fo = AreBytes-take 1048576 (drop 4 b2) (AreBytes-drop 4 b2 (AreBytes-drop 2 b1 f1)) in
     describes (read_interface order body) refl (record {
       reserved = number16 order b1;
-      snap = number32 order b2;
       options = drop 4 b2;
       whole = split16 order body (omega arith) f ∙ ap (λ (x : List ℕ). u16 order (number16 order body) ++ x) (split16 order b1 (omega arith) f1
           ∙ ap (λ (x : List ℕ). u16 order (number16 order b1) ++ x) (split32 order b2 l2 (AreBytes-drop 2 b1 f1)));
       link_fits = number16-lt order body f;
-      resolution = sound order (take 1048576 (drop 4 b2)) (AreBytes-take 1048576 (drop 4 b2) (AreBytes-drop 4 b2 (AreBytes-drop 2 b1 f1)));
+      snap_fits = number32-lt order b2 (AreBytes-drop 2 b1 f1);
+      resolution = resolution_sound order (take 1048576 (drop 4 b2)) fo;
+      offset = offset_sound order (take 1048576 (drop 4 b2)) fo;
     }) refl refl
 
 sound_6 : (order : Order) (known : List Interface) (body : List ℕ) → 20 ≤ length body → length body ≤ 16777236 → AreBytes body → Sound order known body 6

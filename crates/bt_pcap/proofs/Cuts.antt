@@ -5,10 +5,10 @@ use Rattle.std.proofs.lemmas.List.{take-take, take_all, take-append-le, drop-dro
 use Rattle.bt_pcap.specs.declared.numbers.Order.{Order}
 use Rattle.bt_pcap.specs.declared.interfaces.Interface.{Interface}
 use Rattle.bt_pcap.specs.Numbers.{number16, number32}
-use Rattle.bt_pcap.specs.Packets.{packet_on, recorded}
+use Rattle.bt_pcap.specs.Packets.{simple_on, recorded}
 use Rattle.bt_pcap.specs.Reading.{read_stamped, read_packet, read_interface, read_interfaces, body_of}
 use Rattle.bt_pcap.proofs.NumberLaws.{number32-take, number16-take, drop-front}
-use Rattle.bt_pcap.proofs.BodyAgain.{take-min, kept, on_cut, stamped_cut}
+use Rattle.bt_pcap.proofs.BodyAgain.{take-min, simple_cut, stamped_cut}
 
 pub packet_cut : (order : Order) (known : List Interface) (kind : ℕ) (body : List ℕ)
     → read_packet order known kind (take 1048596 body) ≡ read_packet order known kind body
@@ -28,12 +28,9 @@ packet_cut order known kind body =
     ap (λ (k : ℕ). read_stamped order known k (drop 2 (drop 2 (take 1048596 body)))) n16 ∙ (ap (read_stamped order known (number16 order body)) d22
     ∙ stamped_cut order known (number16 order body) 1048592 (drop 2 (drop 2 body)) (omega arith)) in
     let on = slice_get known 0 in
-    let p3 : packet_on on 0 (take (number32 order (take 1048596 body)) (drop 4 (take 1048596 body))) (number32 order
-    (take 1048596 body)) ≡ packet_on on 0 (take (number32 order body) (drop 4 body)) (number32 order body) =
-    ap (λ (k : ℕ). packet_on on 0 (take k (drop 4 (take 1048596 body))) k) n32
-    ∙ (ap (λ (x : List ℕ). packet_on on 0 (take (number32 order body) x) (number32 order body)) d4
-    ∙ on_cut on 0 (number32 order body) (take (number32 order body) (take 1048592 (drop 4 body))) (take (number32 order body) (drop 4 body)) (kept
-    (number32 order body) 1048592 (drop 4 body) (omega arith))) in
+    let p3 : simple_on on (drop 4 (take 1048596 body)) (number32 order (take 1048596 body)) ≡ simple_on on (drop 4 body) (number32 order body) =
+    ap (λ (k : ℕ). simple_on on (drop 4 (take 1048596 body)) k) n32 ∙ (ap (λ (x : List ℕ). simple_on on x (number32 order body)) d4
+    ∙ simple_cut on (number32 order body) 1048592 (drop 4 body) (omega arith)) in
     rw (p6, p2, p3) refl
 
 pub interfaces_cut : (order : Order) (known : List Interface) (kind : ℕ) (body : List ℕ)
@@ -47,7 +44,9 @@ interfaces_cut order known kind body =
     ∙ drop-front 4 1048592 (drop 2 (drop 2 body)) (omega arith) in
     let o : take 1048576 (drop 4 (drop 2 (drop 2 (take 1048596 body)))) ≡ take 1048576 (drop 4 (drop 2 (drop 2 body))) = ap (take 1048576) d8
     ∙ take-take 1048576 1048588 (drop 4 (drop 2 (drop 2 body))) (omega arith) in
-    let r : read_interface order (take 1048596 body) ≡ read_interface order body = rw (l, o) refl in
+    let s : number32 order (drop 2 (drop 2 (take 1048596 body))) ≡ number32 order (drop 2 (drop 2 body)) = ap (number32 order) d22
+    ∙ number32-take order 1048592 (drop 2 (drop 2 body)) (omega arith) in
+    let r : read_interface order (take 1048596 body) ≡ read_interface order body = rw (l, s, o) refl in
     rw r refl
 
 -- what is looked at of a block's body

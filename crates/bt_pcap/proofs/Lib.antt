@@ -2,7 +2,7 @@ pub mod OptionProofs
 pub mod Bodies
 pub mod NumberLaws
 pub mod Readings
-pub mod Resolution
+pub mod OptionValues
 pub mod Firsts
 pub mod SameFront
 pub mod BodyLaws

@@ -1,12 +1,17 @@
--- Numbers as two and four bytes, and back.
+-- Numbers as two, four and eight bytes, and back.
 use Rattle.std.proofs.Common.{◌≡◌, ℕ, zero, suc, ◌+◌, ◌-◌, ◌*◌, ◌^◌, ◌≤◌, ◌<◌, List, ◌++◌, length, take, drop, refl, sym, ap, subst, ◌∙◌, arith, inl, inr}
 use Rattle.std.proofs.lemmas.Bool.{cases_lt}
 use Rattle.std.proofs.lemmas.List.{get_or-take, get_or-drop, get_or_past, length-take, take-append-drop, take-take, drop-take}
 use Rattle.std.proofs.lemmas.Nat.{be_bytes_2, le_bytes_2, be_bytes_4, le_bytes_4, from_be_bytes-to_be_bytes_2, from_le_bytes-to_le_bytes_2}
 use Rattle.std.proofs.lemmas.Nat.{from_be_bytes-to_be_bytes_4, from_le_bytes-to_le_bytes_4}
+use Rattle.std.proofs.lemmas.Nat.{be_bytes_8, le_bytes_8, from_be_bytes-to_be_bytes_8, from_le_bytes-to_le_bytes_8}
+use Rattle.std.proofs.lemmas.Int.{to_z-of_z, of_z-to_z}
+use Rattle.std.proofs.Math.Facts.{sfits_to_z, Fits-of_z}
+use Rattle.std.specs.Prelude.{ℤ, FitsSigned}
+use Rattle.std.specs.Int.{w64, cast_signed, cast_unsigned, to_le_bytes, to_be_bytes, from_le_bytes, from_be_bytes}
 use Rattle.bt_pcap.specs.declared.numbers.Order.{Order}
 use Rattle.bt_pcap.specs.declared.numbers.Order.TheVariants.{Little, Big}
-use Rattle.bt_pcap.specs.Numbers.{u16, u32, number16, number32, AreBytes}
+use Rattle.bt_pcap.specs.Numbers.{u16, u32, i64, number16, number32, signed64, AreBytes}
 use Rattle.bt_pcap.specs.Reading.{word}
 
 pub AreBytes-drop : (n : ℕ) (bytes : List ℕ) → AreBytes bytes → AreBytes (drop n bytes)
@@ -104,6 +109,34 @@ split16 order b le fits =
     let front : u16 order (number16 order b) ≡ take 2 b =
     ap (u16 order) (sym (number16-take order 2 b (omega arith))) ∙ u16-number16 order (take 2 b) (omega (arith, length-take 2 b)) (AreBytes-take 2 b fits) in
     sym (ap (λ (x : List ℕ). x ++ drop 2 b) front ∙ take-append-drop 2 b)
+
+-- ---- eight bytes, signed
+
+from_le-lt : (b : List ℕ) → AreBytes b → from_le_bytes w64 b < 2 ^ 64
+from_le-lt b fits = omega (arith, fits 0, fits 1, fits 2, fits 3, fits 4, fits 5, fits 6, fits 7)
+
+from_be-lt : (b : List ℕ) → AreBytes b → from_be_bytes w64 b < 2 ^ 64
+from_be-lt b fits = omega (arith, fits 0, fits 1, fits 2, fits 3, fits 4, fits 5, fits 6, fits 7)
+
+of_z-lt : (z : ℤ) → FitsSigned w64 z → cast_unsigned w64 z < 2 ^ 64
+of_z-lt z fits = (Fits-of_z fits).fits
+
+pub signed64-i64 : (order : Order) (z : ℤ) → FitsSigned w64 z → signed64 order (i64 order z) ≡ z
+unfolding signed64
+signed64-i64 Little z fits = ap (cast_signed w64) (from_le_bytes-to_le_bytes_8 (cast_unsigned w64 z) (of_z-lt z fits)) ∙ to_z-of_z w64 z fits
+signed64-i64 Big z fits = ap (cast_signed w64) (from_be_bytes-to_be_bytes_8 (cast_unsigned w64 z) (of_z-lt z fits)) ∙ to_z-of_z w64 z fits
+
+pub i64-signed64 : (order : Order) (b : List ℕ) → length b ≡ 8 → AreBytes b → i64 order (signed64 order b) ≡ b
+unfolding signed64
+i64-signed64 Little b len fits =
+    ap (to_le_bytes w64) (of_z-to_z w64 (from_le_bytes w64 b) (from_le-lt b fits)) ∙ le_bytes_8 b _ len fits refl
+i64-signed64 Big b len fits =
+    ap (to_be_bytes w64) (of_z-to_z w64 (from_be_bytes w64 b) (from_be-lt b fits)) ∙ be_bytes_8 b _ len fits refl
+
+pub signed64-fits : (order : Order) (b : List ℕ) → AreBytes b → FitsSigned w64 (signed64 order b)
+unfolding signed64
+signed64-fits Little b fits = sfits_to_z record { fits = from_le-lt b fits }
+signed64-fits Big b fits = sfits_to_z record { fits = from_be-lt b fits }
 
 -- ---- fields of a front
 

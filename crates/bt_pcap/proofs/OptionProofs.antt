@@ -1,5 +1,5 @@
 -- What the options of an interface say, option by option.
-use Rattle.std.proofs.Common.{◌≡◌, ℕ, zero, suc, ◌-◌, ◌<◌, ◌≤◌, true, false, List, length, take, drop, get_or, refl, sym, ap, subst, ◌∙◌, arith, Option}
+use Rattle.std.proofs.Common.{◌≡◌, ℕ, zero, suc, ◌-◌, ◌<◌, ◌≤◌, true, false, List, length, take, drop, refl, sym, ap, subst, ◌∙◌, arith, Option}
 use Rattle.std.proofs.Common.{Some, None, unwrap_or}
 use Rattle.std.proofs.lemmas.Bool.Decides.{nat_tests}
 use Rattle.std.proofs.lemmas.List.{length-drop, take_all}
@@ -7,29 +7,29 @@ use Rattle.std.specs.Option.{SomeIff}
 use Rattle.bt_pcap.specs.declared.numbers.Order.{Order}
 use Rattle.bt_pcap.specs.Numbers.{number16}
 use Rattle.bt_pcap.specs.Times.{fitted}
-use Rattle.bt_pcap.specs.Options.{padded, is_resolution, resolution_in}
+use Rattle.bt_pcap.specs.Options.{padded, is_option, front_of, value_in}
 
-pub ended : (fuel : ℕ) (order : Order) (rest : List ℕ) → length rest < 4 → 6 ≡ resolution_in fuel order rest
-ended zero order rest lt = refl
-ended (suc n) order rest lt = grind (arith, nat_tests)
+pub ended : (fuel : ℕ) (order : Order) (wanted long : ℕ) (rest : List ℕ) → length rest < 4 → value_in fuel order wanted long rest ≡ None
+ended zero order wanted long rest lt = refl
+ended (suc n) order wanted long rest lt = grind (arith, nat_tests)
 
-pub found : (fuel : ℕ) (order : Order) (rest value : List ℕ) → length rest ≤ fuel → 4 ≤ length rest → value ≡ drop 2 (drop 2 rest)
-    → is_resolution (number16 order rest) (number16 order (drop 2 rest)) ≡ true → get_or value 0 6 ≡ resolution_in fuel order rest
-found zero order rest value enough le e is = absurd (omega arith)
-found (suc n) order rest value enough le e is = grind (arith, nat_tests)
+pub found : (fuel : ℕ) (order : Order) (wanted long : ℕ) (rest value : List ℕ) → length rest ≤ fuel → 4 ≤ length rest → value ≡ drop 2 (drop 2 rest)
+    → is_option wanted long (number16 order rest) (number16 order (drop 2 rest)) ≡ true → value_in fuel order wanted long rest ≡ front_of long value
+found zero order wanted long rest value enough le e is = absurd (omega arith)
+found (suc n) order wanted long rest value enough le e is = grind (arith, nat_tests)
 
-pub cut : (fuel : ℕ) (order : Order) (rest value : List ℕ) → length rest ≤ fuel → 4 ≤ length rest → value ≡ drop 2 (drop 2 rest)
-    → is_resolution (number16 order rest) (number16 order (drop 2 rest)) ≡ false → length value < padded (number16 order (drop 2 rest))
-    → 6 ≡ resolution_in fuel order rest
-cut zero order rest value enough le e is lt = absurd (omega arith)
-cut (suc n) order rest value enough le e is lt = grind (arith, nat_tests)
+pub cut : (fuel : ℕ) (order : Order) (wanted long : ℕ) (rest value : List ℕ) → length rest ≤ fuel → 4 ≤ length rest → value ≡ drop 2 (drop 2 rest)
+    → is_option wanted long (number16 order rest) (number16 order (drop 2 rest)) ≡ false → length value < padded (number16 order (drop 2 rest))
+    → value_in fuel order wanted long rest ≡ None
+cut zero order wanted long rest value enough le e is lt = absurd (omega arith)
+cut (suc n) order wanted long rest value enough le e is lt = grind (arith, nat_tests)
 
-pub passed : (fuel : ℕ) (order : Order) (rest value : List ℕ) → length rest ≤ fuel → 4 ≤ length rest → value ≡ drop 2 (drop 2 rest)
-    → is_resolution (number16 order rest) (number16 order (drop 2 rest)) ≡ false → padded (number16 order (drop 2 rest)) ≤ length value
-    → (m : ℕ) × (length (drop (padded (number16 order (drop 2 rest))) value) ≤ m) × (resolution_in m order (drop (padded (number16 order
-    (drop 2 rest))) value) ≡ resolution_in fuel order rest)
-passed zero order rest value enough le e is ge = absurd (omega arith)
-passed (suc n) order rest value enough le e is ge = (
+pub passed : (fuel : ℕ) (order : Order) (wanted long : ℕ) (rest value : List ℕ) → length rest ≤ fuel → 4 ≤ length rest → value ≡ drop 2 (drop 2 rest)
+    → is_option wanted long (number16 order rest) (number16 order (drop 2 rest)) ≡ false → padded (number16 order (drop 2 rest)) ≤ length value
+    → (m : ℕ) × (length (drop (padded (number16 order (drop 2 rest))) value) ≤ m) × (value_in m order wanted long (drop (padded (number16 order
+    (drop 2 rest))) value) ≡ value_in fuel order wanted long rest)
+passed zero order wanted long rest value enough le e is ge = absurd (omega arith)
+passed (suc n) order wanted long rest value enough le e is ge = (
   n,
   omega (
     arith,
@@ -43,17 +43,18 @@ passed (suc n) order rest value enough le e is ge = (
 )
 
 -- the same, at the code's values
-pub goes_on : (fuel : ℕ) (order : Order) (rest value : List ℕ) (size target : ℕ) → length rest ≤ fuel → 4 ≤ length rest
-    → value ≡ drop 2 (drop 2 rest) → size ≡ number16 order (drop 2 rest)
-    → is_resolution (number16 order rest) (number16 order (drop 2 rest)) ≡ false → padded size ≤ length value → resolution_in fuel order rest ≡ target
-    → (m : ℕ) × (length (take (length value - padded size) (drop (padded size) value)) ≤ m) × (resolution_in m order (take
+pub goes_on : (fuel : ℕ) (order : Order) (wanted long : ℕ) (rest value : List ℕ) (size : ℕ) (target : Option (List ℕ)) → length rest ≤ fuel
+    → 4 ≤ length rest → value ≡ drop 2 (drop 2 rest) → size ≡ number16 order (drop 2 rest)
+    → is_option wanted long (number16 order rest) (number16 order (drop 2 rest)) ≡ false → padded size ≤ length value
+    → value_in fuel order wanted long rest ≡ target
+    → (m : ℕ) × (length (take (length value - padded size) (drop (padded size) value)) ≤ m) × (value_in m order wanted long (take
     (length value - padded size) (drop (padded size) value)) ≡ target)
-goes_on fuel order rest value size target enough le e s is ge t =
-    let after = passed fuel order rest value enough le e is (subst (λ (k : ℕ). padded k ≤ length value) s ge) in
+goes_on fuel order wanted long rest value size target enough le e s is ge t =
+    let after = passed fuel order wanted long rest value enough le e is (subst (λ (k : ℕ). padded k ≤ length value) s ge) in
     let same : take (length value - padded size) (drop (padded size) value) ≡ drop (padded (number16 order (drop 2 rest))) value =
     take_all (length value - padded size) (drop (padded size) value) (omega (arith, length-drop (padded size) value))
     ∙ ap (λ (k : ℕ). drop (padded k) value) s in
-    (after.0, subst (λ (x : List ℕ). length x ≤ after.0) (sym same) after.1, ap (resolution_in after.0 order) same ∙ (after.2 ∙ t))
+    (after.0, subst (λ (x : List ℕ). length x ≤ after.0) (sym same) after.1, ap (value_in after.0 order wanted long) same ∙ (after.2 ∙ t))
 
 -- a power that 64 bits hold, or 1
 pub power : (o : Option ℕ) (n : ℕ) → SomeIff o (n < 18446744073709551616) n → unwrap_or o 1 ≡ fitted n

@@ -5,9 +5,9 @@ use Rattle.bt_pcap.specs.declared.numbers.Order.{Order}
 use Rattle.bt_pcap.specs.declared.interfaces.Interface.{Interface}
 use Rattle.bt_pcap.specs.Numbers.{u16, u32}
 use Rattle.bt_pcap.specs.Interfaces.{noted}
-use Rattle.bt_pcap.specs.Options.{HasResolution}
+use Rattle.bt_pcap.specs.Options.{HasResolution, HasOffset}
 use Rattle.bt_pcap.specs.Formats.{Format, Unknown, Pcap, Pcapng, Captured}
-use Rattle.bt_pcap.specs.Packets.{recorded, packet_on}
+use Rattle.bt_pcap.specs.Packets.{recorded, packet_on, simple_on}
 
 -- ---- pcap
 
@@ -58,11 +58,12 @@ pub record IsSection (order : Order) (bytes : List ℕ) : Type 0 where
 -- The first 2 ^ 20 bytes of the options are looked at.
 pub record IsInterface (order : Order) (i : Interface) (body : List ℕ) : Type 0 where
   pub reserved : ℕ
-  pub snap : ℕ
   pub options : List ℕ
-  pub whole : body ≡ u16 order i.link ++ (u16 order reserved ++ (u32 order snap ++ options))
+  pub whole : body ≡ u16 order i.link ++ (u16 order reserved ++ (u32 order i.snap ++ options))
   pub link_fits : i.link < 2 ^ 16
+  pub snap_fits : i.snap < 2 ^ 32
   pub resolution : HasResolution order (take keep options) i.resolution
+  pub offset : HasOffset order (take keep options) i.offset
 
 -- The rest of a packet block: upper and lower half of the time stamp, captured length, length on the wire, packet data (draft-ietf-opsawg-pcapng 4.3).
 -- The data, with padding and options, are at most 2 ^ 24 bytes.
@@ -98,14 +99,14 @@ pub record IsObsolete (order : Order) (known : List Interface) (packet : Option 
   pub stamped : IsStamped order (slice_get known number) packet rest
 
 -- A simple packet block, of the first interface: the length on the wire and the packet data, without a time (draft-ietf-opsawg-pcapng 4.4).
--- The data, with padding, are at most 2 ^ 24 bytes.
+-- The interface's snap length says how many of the data were captured. With padding they are at most 2 ^ 24 bytes.
 pub record IsSimple (order : Order) (known : List Interface) (packet : Option Captured) (body : List ℕ) : Type 0 where
   pub original : ℕ
   pub octets : List ℕ
   pub whole : body ≡ u32 order original ++ octets
   pub fits : original < 2 ^ 32
   pub octets_fit : length octets ≤ longest
-  pub handed : packet ≡ packet_on (slice_get known 0) 0 (take original octets) original
+  pub handed : packet ≡ simple_on (slice_get known 0) octets original
 
 -- What a block of that type says in a section with these interfaces: its packet, and the interfaces after it. Other types are passed over.
 pub data Says (order : Order) (known : List Interface) (kind : ℕ) (body : List ℕ) (packet : Option Captured) (after : List Interface) : Type 0 where

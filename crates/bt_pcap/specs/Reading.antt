@@ -9,8 +9,8 @@ use Rattle.bt_pcap.specs.declared.fault.FileFault.{FileFault}
 use Rattle.bt_pcap.specs.declared.fault.FileFault.TheVariants.{NoCapture, ByteOrder, Length, TooShort, RecordLength}
 use Rattle.bt_pcap.specs.Numbers.{number16, number32}
 use Rattle.bt_pcap.specs.Interfaces.{noted}
-use Rattle.bt_pcap.specs.Packets.{recorded, packet_on}
-use Rattle.bt_pcap.specs.Options.{resolution_of}
+use Rattle.bt_pcap.specs.Packets.{recorded, packet_on, simple_on}
+use Rattle.bt_pcap.specs.Options.{resolution_of, offset_of}
 use Rattle.bt_pcap.specs.Formats.{Format, Unknown, Pcap, Pcapng, Captured}
 
 -- An item with its packet, its size and what is known after it; or too few bytes; or a fault.
@@ -64,11 +64,16 @@ unfoldable pub read_packet : Order → List Interface → ℕ → List ℕ → O
 read_packet order known kind body =
     if kind == 6 then read_stamped order known (number32 order body) (drop 4 body)
     else if kind == 2 then read_stamped order known (number16 order body) (drop 2 (drop 2 body))
-    else if kind == 3 then packet_on (slice_get known 0) 0 (take (number32 order body) (drop 4 body)) (number32 order body)
+    else if kind == 3 then simple_on (slice_get known 0) (drop 4 body) (number32 order body)
     else None
 
 abbrev pub read_interface : Order → List ℕ → Interface
-read_interface order body = record { link = number16 order body; resolution = resolution_of order (take keep (drop 4 (drop 2 (drop 2 body)))) }
+read_interface order body = record {
+  link = number16 order body;
+  snap = number32 order (drop 2 (drop 2 body));
+  resolution = resolution_of order (take keep (drop 4 (drop 2 (drop 2 body))));
+  offset = offset_of order (take keep (drop 4 (drop 2 (drop 2 body))));
+}
 
 unfoldable pub read_interfaces : Order → List Interface → ℕ → List ℕ → List Interface
 read_interfaces order known kind body = if kind == 1 then noted known (read_interface order body) else known

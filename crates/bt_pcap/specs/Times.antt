@@ -1,5 +1,5 @@
 -- Time stamps in nanoseconds.
-use Rattle.std.specs.Prelude.{ℕ, ◌+◌, ◌-◌, ◌*◌, ◌/◌, ◌^◌, min, if◌then◌else◌, nat_lt, nat_le}
+use Rattle.std.specs.Prelude.{ℕ, ◌+◌, ◌-◌, ◌*◌, ◌/◌, ◌^◌, ℤ, pos, negsuc, min, if◌then◌else◌, nat_lt, nat_le}
 
 -- a unit that 64 bits don't hold counts as one second
 abbrev pub fitted : ℕ → ℕ
@@ -9,9 +9,14 @@ fitted unit = if nat_lt unit (2 ^ 64) then unit else 1
 abbrev pub unit_of : ℕ → ℕ
 unit_of v = fitted (if nat_le 128 v then 2 ^ (v - 128) else 10 ^ v)
 
+-- A time that the seconds of the option if_tsoffset are added to (draft-ietf-opsawg-pcapng 4.2). A sum before 1970 counts as 0.
+abbrev pub moved : ℤ → ℕ → ℕ
+moved (pos seconds) nanos = nanos + seconds * 1000000000
+moved (negsuc less) nanos = nanos - (less + 1) * 1000000000
+
 -- the nanoseconds of a time stamp of a pcapng file, at most the greatest number of 64 bits
-unfoldable pub nanos_of : ℕ → ℕ → ℕ
-nanos_of v ticks = min (ticks * 1000000000 / unit_of v) (2 ^ 64 - 1)
+unfoldable pub nanos_of : ℕ → ℤ → ℕ → ℕ
+nanos_of v offset ticks = min (moved offset (ticks * 1000000000 / unit_of v)) (2 ^ 64 - 1)
 
 -- the nanoseconds of a time stamp of a pcap file, whose fraction counts this many nanoseconds
 abbrev pub nanos_in : ℕ → ℕ → ℕ → ℕ

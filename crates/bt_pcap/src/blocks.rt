@@ -2,14 +2,14 @@
 ghost use Rattle.std.specs.Prelude.{◌≡◌, ◌≤◌, length};
 ghost use Rattle.std.specs.Option.{option_map};
 ghost use Rattle.bt_pcap.specs.Interfaces.{interfaces_of};
-ghost use Rattle.bt_pcap.specs.Packets.{packet_on};
+ghost use Rattle.bt_pcap.specs.Packets.{packet_at as at_time, packet_on, simple_on, snapped};
 ghost use Rattle.bt_pcap.specs.Reading.{read_stamped, read_packet, read_interface, read_interfaces, least, most};
 ghost use Rattle.bt_pcap.specs.Steps.{captured};
 
 use crate::fronts::{KEEP, LONGEST, Packet};
 use crate::interfaces::{Interface, Interfaces};
 use crate::numbers::{Order, at_most, u16_at, u32_at};
-use crate::options::{nanos, resolution};
+use crate::options::{nanos, offset, resolution};
 
 /// The type of an interface description block.
 const INTERFACE: u32 = 1;
@@ -52,10 +52,13 @@ fn interface(order: Order, body: &[u8]) -> Interface
 {
     let (link, rest) = u16_at(order, body);
     let (_, rest) = u16_at(order, rest);
-    let (_, options) = u32_at(order, rest);
+    let (snap, options) = u32_at(order, rest);
+    let options = at_most(options, KEEP);
     Interface {
         link,
-        resolution: resolution(order, at_most(options, KEEP)),
+        resolution: resolution(order, options),
+        offset: offset(order, options),
+        snap,
     }
 }
 
@@ -70,18 +73,48 @@ pub(crate) fn note(interfaces: &mut Interfaces, order: Order, kind: u32, body: &
     }
 }
 
+/// Makes a packet of an interface, at a time.
+fn packet_at(interface: Interface, nanos: u64, bytes: &[u8], length: u32) -> Packet<'_>
+    ensures { captured result ≡ at_time interface nanos bytes.now length }
+{
+    Packet {
+        link: u32::from(interface.link),
+        nanos,
+        bytes: at_most(bytes, KEEP),
+        length,
+    }
+}
+
 /// Makes a packet of an interface, if the interface is noted.
 fn packet(interface: Option<Interface>, ticks: u64, bytes: &[u8], length: u32) -> Option<Packet<'_>>
     ensures { option_map captured result ≡ packet_on interface ticks bytes.now length }
 {
     match interface {
         None => None,
-        Some(interface) => Some(Packet {
-            link: u32::from(interface.link),
-            nanos: nanos(ticks, interface.resolution),
-            bytes: at_most(bytes, KEEP),
-            length,
-        }),
+        Some(interface) => {
+            let nanos = nanos(ticks, interface.resolution, interface.offset);
+            Some(packet_at(interface, nanos, bytes, length))
+        }
+    }
+}
+
+/// Returns how many bytes of a simple packet were captured, by its interface's snap length and its own.
+fn captured_length(snap: u32, length: u32) -> u32
+    ensures { result ≡ snapped snap length }
+{
+    if snap == 0 { length } else { snap.min(length) }
+}
+
+/// Makes a simple packet of an interface, if the interface is noted. It has no time, and what follows its bytes is padding.
+fn simple(interface: Option<Interface>, bytes: &[u8], length: u32) -> Option<Packet<'_>>
+    ensures { option_map captured result ≡ simple_on interface bytes.now length }
+{
+    match interface {
+        None => None,
+        Some(interface) => {
+            let size = captured_length(interface.snap, length);
+            Some(packet_at(interface, 0, at_most(bytes, size as usize), length))
+        }
     }
 }
 
@@ -128,8 +161,7 @@ pub(crate) fn packet_of<'a>(
         }
         SIMPLE => {
             let (length, rest) = u32_at(order, body);
-            let bytes = at_most(rest, length as usize);
-            packet(interfaces.get(0), 0, bytes, length)
+            simple(interfaces.get(0), rest, length)
         }
         _ => None,
     }

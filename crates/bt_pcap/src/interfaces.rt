@@ -10,6 +10,10 @@ pub(crate) struct Interface {
     pub(crate) link: u16,
     /// The value of its option if_tsresol.
     pub(crate) resolution: u8,
+    /// The value of its option if_tsoffset: seconds that are added to each time stamp.
+    pub(crate) offset: i64,
+    /// The most bytes of a packet that are captured; 0 is no limit.
+    pub(crate) snap: u32,
 }
 
 /// The interfaces of a section, in the order of their blocks.
@@ -32,6 +36,8 @@ impl Interfaces {
             table: [Interface {
                 link: 0,
                 resolution: 6,
+                offset: 0,
+                snap: 0,
             }; MAX_INTERFACES],
             count: 0,
         }

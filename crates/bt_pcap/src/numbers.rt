@@ -1,6 +1,6 @@
-//! Numbers of two and four bytes in the byte order of a file or a section.
+//! Numbers of two, four and eight bytes in the byte order of a file or a section.
 ghost use Rattle.std.specs.Prelude.{◌≡◌, ◌≤◌, ◌<◌, ◌^◌, length, drop, take};
-ghost use Rattle.bt_pcap.specs.Numbers.{number16, number32};
+ghost use Rattle.bt_pcap.specs.Numbers.{number16, number32, signed64};
 
 /// The byte order of a file or a section.
 #[derive(Clone, Copy, Debug, PartialEq, Eq)]
@@ -39,6 +39,17 @@ pub(crate) fn u32_at(order: Order, bytes: &[u8]) -> (u32, &[u8])
         Order::Big => u32::from_be_bytes(field),
     };
     (number, &bytes[4..])
+}
+
+/// Reads the signed number of eight bytes.
+#[tactic(auto, unfolding(crate::specs::Numbers::signed64))]
+pub(crate) fn i64_of(order: Order, field: [u8; 8]) -> i64
+    ensures { result ≡ signed64 order field }
+{
+    match order {
+        Order::Little => i64::from_le_bytes(field),
+        Order::Big => i64::from_be_bytes(field),
+    }
 }
 
 /// Returns the first `most` bytes, or all if there are fewer.

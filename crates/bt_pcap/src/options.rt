@@ -1,40 +1,63 @@
-//! The resolution of an interface's time stamps.
-ghost use Rattle.std.specs.Prelude.{◌≡◌, ◌<◌, ◌^◌};
-ghost use Rattle.bt_pcap.specs.Options.{is_resolution, resolution_of};
-ghost use Rattle.bt_pcap.specs.Times.{fitted, unit_of, nanos_of};
+//! The options of an interface that say what its time stamps mean.
+ghost use Rattle.std.specs.Prelude.{◌≡◌, ◌+◌, ◌*◌, ◌<◌, ◌^◌, length, Some, None, IfSome, MatchOption};
+ghost use Rattle.bt_pcap.specs.Options.{is_option, value_of, resolution_of, offset_of};
+ghost use Rattle.bt_pcap.specs.Times.{fitted, unit_of, moved, nanos_of};
 
-use crate::numbers::{Order, u16_at};
+use crate::numbers::{Order, i64_of, u16_at};
 
 /// The code of the option if_tsresol.
 const RESOLUTION: u16 = 9;
+/// The code of the option if_tsoffset.
+const OFFSET: u16 = 14;
 /// Without the option a time stamp counts microseconds.
 const MICROSECONDS: u8 = 6;
 
-/// Tells whether an option is if_tsresol.
-fn is_tsresol(code: u16, size: u16) -> bool
-    ensures { result ≡ is_resolution code size }
+/// Tells whether an option has that code and a value of that length.
+fn is_wanted(wanted: u16, long: u16, code: u16, size: u16) -> bool
+    ensures { result ≡ is_option wanted long code size }
 {
-    code == RESOLUTION && size == 1
+    code == wanted && size == long
+}
+
+/// Returns the value of the first option that has that code and a value of that length.
+fn value(order: Order, options: &[u8], wanted: u16, long: u16) -> Option<&[u8]>
+    ensures value { MatchOption result (value_of order wanted long options.now ≡ None) (λ v. value_of order wanted long options.now ≡ Some v.now) }
+    ensures long { IfSome result (λ v. length v.now ≡ long) }
+{
+    let mut rest = options;
+    while rest.len() >= 4 {
+        let (code, after) = u16_at(order, rest);
+        let (size, value) = u16_at(order, after);
+        if is_wanted(wanted, long, code, size) {
+            return value.get(..usize::from(long));
+        }
+        let padded = (size as usize + 3) / 4 * 4;
+        if value.len() < padded {
+            return None;
+        }
+        rest = &value[padded..];
+    }
+    None
 }
 
 /// Reads the value of the first option if_tsresol.
 pub(crate) fn resolution(order: Order, options: &[u8]) -> u8
     ensures { result ≡ resolution_of order options.now }
 {
-    let mut rest = options;
-    while rest.len() >= 4 {
-        let (code, after) = u16_at(order, rest);
-        let (size, value) = u16_at(order, after);
-        if is_tsresol(code, size) {
-            return value.first().copied().unwrap_or(MICROSECONDS);
-        }
-        let padded = (size as usize + 3) / 4 * 4;
-        if value.len() < padded {
-            return MICROSECONDS;
-        }
-        rest = &value[padded..];
+    match value(order, options, RESOLUTION, 1) {
+        Some(value) => value[0],
+        None => MICROSECONDS,
     }
-    MICROSECONDS
+}
+
+/// Reads the value of the first option if_tsoffset.
+pub(crate) fn offset(order: Order, options: &[u8]) -> i64
+    ensures { result ≡ offset_of order options.now }
+{
+    match value(order, options, OFFSET, 8) {
+        Some(v) => i64_of(order, [v[0], v[1], v[2], v[3], v[4], v[5], v[6], v[7]]),
+        None => 0,
+    }
 }
 
 /// Returns a power, or 1 if 64 bits don't hold it.
@@ -58,11 +81,24 @@ fn unit(resolution: u8) -> u64
     }
 }
 
-/// Returns the time of a stamp in nanoseconds, at most the greatest `u64`.
+/// Adds seconds to a time. A sum before 1970 counts as 0.
+fn later(nanos: u128, offset: i64) -> u128
+    requires { nanos < 2 ^ 94 }
+    ensures { result ≡ moved offset nanos }
+{
+    let seconds = u128::from(offset.unsigned_abs()) * 1_000_000_000;
+    if offset < 0 {
+        nanos.saturating_sub(seconds)
+    } else {
+        nanos + seconds
+    }
+}
+
+/// Returns the time of a stamp in nanoseconds, from 0 to the greatest `u64`.
 #[tactic(auto, unfolding(crate::specs::Times::nanos_of))]
-pub(crate) fn nanos(ticks: u64, resolution: u8) -> u64
-    ensures { result ≡ nanos_of resolution ticks }
+pub(crate) fn nanos(ticks: u64, resolution: u8, offset: i64) -> u64
+    ensures { result ≡ nanos_of resolution offset ticks }
 {
     let nanos = u128::from(ticks) * 1_000_000_000 / u128::from(unit(resolution));
-    nanos.min(u128::from(u64::MAX)) as u64
+    later(nanos, offset).min(u128::from(u64::MAX)) as u64
 }

@@ -3,13 +3,36 @@ ghost use Rattle.std.specs.Prelude.{◌<◌};
 
 use crate::digest::Digest;
 use crate::draw::Draw;
-use crate::receivers::receiver;
+use crate::receivers::{Receiver, receiver_of};
 use crate::results::{add_item, add_view};
 use crate::stopped::Stopped;
 use bt_ext::Rules;
 use bt_feed::{Feed, FeedError, ItemError, refusal_in};
-use bt_wire::Own;
 use std::alloc::Global;
+
+/// How the bytes of a stream come.
+#[derive(Clone, Copy)]
+enum Way {
+    /// In chunks of 1,448 bytes, as a packet has.
+    Packets,
+    /// In chunks of 64 KiB.
+    Buffers,
+    /// In chunks of 16 KiB.
+    Pages,
+    /// In chunks of 1 to 100 bytes.
+    Crumbs,
+    /// In chunks of 16 KiB, of whose items copies are made.
+    Copied,
+}
+
+/// How a stream is parsed, by which rules and as which receiver.
+const WAYS: [(Way, Rules, Receiver); 5] = [
+    (Way::Packets, Rules::Bep, Receiver::Knowing),
+    (Way::Pages, Rules::Free, Receiver::Plain),
+    (Way::Buffers, Rules::Bep, Receiver::Knowing),
+    (Way::Crumbs, Rules::Free, Receiver::Plain),
+    (Way::Copied, Rules::Free, Receiver::Plain),
+];
 
 /// Takes the items that a chunk completes.
 fn take_chunk(feed: &mut Feed, chunk: &[u8], digest: &mut Digest) -> Result<(), Stopped> {
@@ -55,35 +78,47 @@ fn take_crumbs(
     Ok(())
 }
 
-/// Takes copies of the items of a stream that comes in chunks of 16 KiB.
+/// Takes copies of the items of a chunk.
 fn take_copies(
     alloc: Global,
     feed: &mut Feed,
-    stream: &[u8],
+    chunk: &[u8],
     digest: &mut Digest,
 ) -> Result<(), Stopped> {
-    for chunk in stream.chunks(16_384) {
-        for item in feed.items(alloc, chunk) {
-            match item {
-                Ok((at, item)) => {
-                    digest.add(at);
-                    add_item(&item, digest);
-                }
-                Err(ItemError::Refused(refusal)) => return Err(Stopped::Refused(refusal)),
-                Err(ItemError::Memory) => return Err(Stopped::Memory),
+    for item in feed.items(alloc, chunk) {
+        match item {
+            Ok((at, item)) => {
+                digest.add(at);
+                add_item(&item, digest);
             }
-            digest.count(1);
+            Err(ItemError::Refused(refusal)) => return Err(Stopped::Refused(refusal)),
+            Err(ItemError::Memory) => return Err(Stopped::Memory),
         }
+        digest.count(1);
     }
     Ok(())
 }
 
-/// Makes a feed for a receiver.
-fn feed(alloc: Global, own: Own) -> Result<Feed, Stopped> {
-    match Feed::new(alloc, own) {
-        Ok(feed) => Ok(feed),
-        Err(FeedError::Memory) => Err(Stopped::Memory),
-        Err(_) => Err(Stopped::Unmade),
+/// Parses a stream that comes in this way.
+fn parse_so(
+    alloc: Global,
+    feed: &mut Feed,
+    stream: &[u8],
+    way: Way,
+    draw: &mut Draw,
+    digest: &mut Digest,
+) -> Result<(), Stopped> {
+    match way {
+        Way::Packets => take_all(feed, stream, 1_448, digest),
+        Way::Pages => take_all(feed, stream, 16_384, digest),
+        Way::Buffers => take_all(feed, stream, 65_536, digest),
+        Way::Crumbs => take_crumbs(feed, stream, draw, digest),
+        Way::Copied => {
+            for chunk in stream.chunks(16_384) {
+                take_copies(alloc, feed, chunk, digest)?;
+            }
+            Ok(())
+        }
     }
 }
 
@@ -97,11 +132,12 @@ pub fn parse(
     draw: &mut Draw,
     digest: &mut Digest,
 ) -> Result<(), Stopped> {
-    let strict = receiver(Rules::Bep, true);
-    let lenient = receiver(Rules::Free, false);
-    take_all(&mut feed(alloc, strict)?, stream, 1_448, digest)?;
-    take_all(&mut feed(alloc, lenient)?, stream, 16_384, digest)?;
-    take_all(&mut feed(alloc, strict)?, stream, 65_536, digest)?;
-    take_crumbs(&mut feed(alloc, lenient)?, stream, draw, digest)?;
-    take_copies(alloc, &mut feed(alloc, lenient)?, stream, digest)
+    for (way, rules, kind) in WAYS {
+        match Feed::new(alloc, receiver_of(rules, kind)) {
+            Ok(mut feed) => parse_so(alloc, &mut feed, stream, way, draw, digest)?,
+            Err(FeedError::Memory) => return Err(Stopped::Memory),
+            Err(_) => return Err(Stopped::Unmade),
+        }
+    }
+    Ok(())
 }

@@ -2,7 +2,7 @@
 ghost use Rattle.std.specs.Prelude.{◌≤◌};
 
 use crate::digest::Digest;
-use crate::receivers::{patient, receiver};
+use crate::receivers::{Receiver, receiver_of};
 use crate::stopped::Stopped;
 use bt_ext::Rules;
 use bt_feed::{MemSource, MemTarget};
@@ -10,6 +10,19 @@ use bt_jobs::{run_check, run_json, run_pack, run_show, run_unpack};
 use bt_text::ended::{Ended, PackEnd, ToolFault};
 use bt_wire::Own;
 use std::alloc::{AllocError, Global};
+
+/// What reads a stream.
+#[derive(Clone, Copy)]
+pub enum Command {
+    Show,
+    Json,
+    Check,
+    Unpack,
+}
+
+/// A command, the rules and the receiver by which it reads a stream, and whether it has to refuse it.
+#[derive(Clone, Copy)]
+pub struct Reading(pub Command, pub Rules, pub Receiver, pub bool);
 
 /// A source of all these bytes.
 fn source(alloc: Global, bytes: &[u8]) -> Result<MemSource, AllocError> {
@@ -21,71 +34,74 @@ fn target(alloc: Global) -> MemTarget {
     MemTarget::new(Vec::new(alloc), 1 << 30, None)
 }
 
-/// Counts a stream that was accepted, and adds what was written.
-fn add(
-    ended: Result<Ended, ToolFault>,
-    target: &MemTarget,
-    digest: &mut Digest,
-) -> Result<(), Stopped> {
+/// Does a command.
+fn run(
+    alloc: Global,
+    command: Command,
+    source: &mut MemSource,
+    target: &mut MemTarget,
+    own: &Own,
+) -> Result<Ended, ToolFault>
+    requires { (1 ≤ own.now.limit) × (own.now.limit ≤ 1048576) }
+{
+    match command {
+        Command::Show => run_show(alloc, source, target, own),
+        Command::Json => run_json(alloc, source, target, own),
+        Command::Check => run_check(alloc, source, target, own),
+        Command::Unpack => run_unpack(alloc, source, target, own),
+    }
+}
+
+/// Returns the number of the last message that was read.
+fn last_message(ended: Result<Ended, ToolFault>, is_refused: bool) -> Result<u64, Stopped> {
     match ended {
-        Ok(Ended::Accepted { messages, bytes: _ }) => {
-            digest.count(messages);
-            digest.add_bytes(target.bytes());
-            Ok(())
-        }
+        Ok(Ended::Refused(refusal)) if is_refused => Ok(refusal.message),
         Ok(Ended::Refused(refusal)) => Err(Stopped::Refused(refusal)),
+        Ok(Ended::Accepted { .. }) if is_refused => Err(Stopped::Accepted),
+        Ok(Ended::Accepted { messages, bytes: _ }) => Ok(messages),
         Err(_) => Err(Stopped::Device),
     }
 }
 
-/// Shows a stream.
-fn show(alloc: Global, stream: &[u8], own: &Own, digest: &mut Digest) -> Result<(), Stopped>
-    requires { (1 ≤ own.now.limit) × (own.now.limit ≤ 1048576) }
-{
-    let mut target = target(alloc);
-    let ended = run_show(alloc, &mut source(alloc, stream)?, &mut target, own);
-    add(ended, &target, digest)
-}
-
-/// Shows a stream as JSON.
-fn show_json(alloc: Global, stream: &[u8], own: &Own, digest: &mut Digest) -> Result<(), Stopped>
-    requires { (1 ≤ own.now.limit) × (own.now.limit ≤ 1048576) }
-{
-    let mut target = target(alloc);
-    let ended = run_json(alloc, &mut source(alloc, stream)?, &mut target, own);
-    add(ended, &target, digest)
-}
-
-/// Checks a stream.
-fn check(alloc: Global, stream: &[u8], own: &Own, digest: &mut Digest) -> Result<(), Stopped>
-    requires { (1 ≤ own.now.limit) × (own.now.limit ≤ 1048576) }
-{
-    let mut target = target(alloc);
-    let ended = run_check(alloc, &mut source(alloc, stream)?, &mut target, own);
-    add(ended, &target, digest)
-}
-
-/// Returns the script of a stream.
-fn unpack(
+/// Reads a stream, counts its messages, and adds what was written; returns that.
+fn read(
     alloc: Global,
     stream: &[u8],
-    own: &Own,
+    reading: Reading,
     digest: &mut Digest,
-) -> Result<MemTarget, Stopped>
-    requires { (1 ≤ own.now.limit) × (own.now.limit ≤ 1048576) }
-{
+) -> Result<MemTarget, Stopped> {
+    let Reading(command, rules, kind, is_refused) = reading;
+    let mut source = source(alloc, stream)?;
     let mut target = target(alloc);
-    let ended = run_unpack(alloc, &mut source(alloc, stream)?, &mut target, own);
-    add(ended, &target, digest)?;
+    let own = receiver_of(rules, kind);
+    let ended = run(alloc, command, &mut source, &mut target, &own);
+    digest.count(last_message(ended, is_refused)?);
+    digest.add_bytes(target.bytes());
     Ok(target)
 }
 
+/// Reads a stream several times.
+///
+/// # Errors
+/// `Stopped` if the stream is refused and has not to be, or the other way, or when out of memory.
+pub fn read_all(
+    alloc: Global,
+    stream: &[u8],
+    readings: &[Reading],
+    digest: &mut Digest,
+) -> Result<(), Stopped> {
+    for reading in readings {
+        let _written = read(alloc, stream, *reading, digest)?;
+    }
+    Ok(())
+}
+
 /// Packs a script.
-fn pack(alloc: Global, script: &[u8], own: &Own, digest: &mut Digest) -> Result<(), Stopped>
-    requires { (1 ≤ own.now.limit) × (own.now.limit ≤ 1048576) }
-{
+fn pack(alloc: Global, script: &[u8], digest: &mut Digest) -> Result<(), Stopped> {
+    let mut source = source(alloc, script)?;
     let mut target = target(alloc);
-    match run_pack(alloc, &mut source(alloc, script)?, &mut target, own) {
+    let own = receiver_of(Rules::Bep, Receiver::Knowing);
+    match run_pack(alloc, &mut source, &mut target, &own) {
         Ok(PackEnd::Accepted { messages, bytes: _ }) => {
             digest.count(messages);
             digest.add_bytes(target.bytes());
@@ -96,99 +112,12 @@ fn pack(alloc: Global, script: &[u8], own: &Own, digest: &mut Digest) -> Result<
     }
 }
 
-/// Shows a stream and checks it, by both rule sets, with the piece count and without.
-///
-/// # Errors
-/// `Stopped` if the stream is refused, or when out of memory.
-pub fn look_at(alloc: Global, stream: &[u8], digest: &mut Digest) -> Result<(), Stopped> {
-    show(alloc, stream, &receiver(Rules::Free, false), digest)?;
-    check(alloc, stream, &receiver(Rules::Bep, false), digest)?;
-    check(alloc, stream, &receiver(Rules::Free, true), digest)?;
-    show(alloc, stream, &receiver(Rules::Bep, true), digest)
-}
-
-/// Shows a stream as JSON.
-///
-/// # Errors
-/// `Stopped` if the stream is refused, or when out of memory.
-pub fn as_json(alloc: Global, stream: &[u8], digest: &mut Digest) -> Result<(), Stopped> {
-    show_json(alloc, stream, &receiver(Rules::Free, false), digest)
-}
-
 /// Unpacks a stream and packs its script.
 ///
 /// # Errors
 /// `Stopped` if the stream or the script is refused, or when out of memory.
 pub fn there_and_back(alloc: Global, stream: &[u8], digest: &mut Digest) -> Result<(), Stopped> {
-    let own = receiver(Rules::Bep, true);
-    let script = unpack(alloc, stream, &own, digest)?;
-    pack(alloc, script.bytes(), &own, digest)
-}
-
-/// Checks a stream by both rule sets.
-///
-/// # Errors
-/// `Stopped` if the stream is refused, or when out of memory.
-pub fn judge(alloc: Global, stream: &[u8], digest: &mut Digest) -> Result<(), Stopped> {
-    check(alloc, stream, &receiver(Rules::Bep, true), digest)?;
-    check(alloc, stream, &receiver(Rules::Free, false), digest)
-}
-
-/// Counts a stream that has to be refused, and adds what was written: the message, the offset and the reason.
-fn add_refused(
-    ended: Result<Ended, ToolFault>,
-    target: &MemTarget,
-    digest: &mut Digest,
-) -> Result<(), Stopped> {
-    match ended {
-        Ok(Ended::Refused(refusal)) => {
-            digest.count(refusal.message);
-            digest.add_bytes(target.bytes());
-            Ok(())
-        }
-        Ok(Ended::Accepted { .. }) => Err(Stopped::Accepted),
-        Err(_) => Err(Stopped::Device),
-    }
-}
-
-/// Checks a stream that strict rules refuse, and so do lenient ones if `is_broken`.
-///
-/// # Errors
-/// `Stopped` if the verdict is another one, or when out of memory.
-pub fn refuse(
-    alloc: Global,
-    stream: &[u8],
-    is_broken: bool,
-    digest: &mut Digest,
-) -> Result<(), Stopped> {
-    let mut strict = target(alloc);
-    let ended = run_check(
-        alloc,
-        &mut source(alloc, stream)?,
-        &mut strict,
-        &patient(Rules::Bep),
-    );
-    add_refused(ended, &strict, digest)?;
-    let mut lenient = target(alloc);
-    let ended = run_check(
-        alloc,
-        &mut source(alloc, stream)?,
-        &mut lenient,
-        &patient(Rules::Free),
-    );
-    if is_broken {
-        add_refused(ended, &lenient, digest)
-    } else {
-        add(ended, &lenient, digest)
-    }
-}
-
-/// Shows and checks a stream by the lenient rules.
-///
-/// # Errors
-/// `Stopped` if the stream is refused, or when out of memory.
-pub fn read_leniently(alloc: Global, stream: &[u8], digest: &mut Digest) -> Result<(), Stopped> {
-    let own = receiver(Rules::Free, false);
-    show(alloc, stream, &own, digest)?;
-    check(alloc, stream, &own, digest)
+    let unpack = Reading(Command::Unpack, Rules::Bep, Receiver::Knowing, false);
+    let script = read(alloc, stream, unpack, digest)?;
+    pack(alloc, script.bytes(), digest)
 }

@@ -5,17 +5,18 @@
 ghost use Rattle.std.specs.Prelude.{◌≤◌, length, IfOk};
 
 use crate::digest::Digest;
+use crate::draft::Draft;
 use crate::draw::Draw;
 use crate::peers::{
-    BLOCK, GREATEST, NAMES, crowd, great_seed, hellos, leecher, nuisance, opening, renamings, seed,
+    BLOCK, GREATEST, NAMES, great_seed, hellos, leecher, nuisance, opening, renamings, seed,
 };
-use crate::receivers::receiver;
+use crate::receivers::{Receiver, receiver_of};
 use crate::stopped::Stopped;
 use bt_bencode::check;
 use bt_end::{Announce, Config, End, EndError, Role, Turn, TurnError, Window};
 use bt_ext::{ExtId, Rules, Table};
 use sha1::Sha1;
-use std::alloc::{AllocError, Global};
+use std::alloc::Global;
 
 /// From how many waiting bytes on they are taken from an end.
 const PORTION: usize = 65_536;
@@ -70,19 +71,9 @@ fn bring(end: &mut End, bytes: &[u8], digest: &mut Digest) -> Result<(), Stopped
     Ok(())
 }
 
-/// Returns metadata of `size` bytes.
-fn metadata(alloc: Global, size: u32, draw: &mut Draw) -> Result<Vec<u8>, AllocError> {
-    let mut bytes = Vec::with_capacity(alloc, size as usize)?;
-    for _byte in 0..size {
-        let [first, ..] = draw.next().to_be_bytes();
-        bytes.push(first)?;
-    }
-    Ok(bytes)
-}
-
 /// Makes an end in this role, under the strict rules or the lenient ones.
 fn made(alloc: Global, hash: [u8; 20], rules: Rules, role: Role) -> Result<End, Stopped> {
-    let mut own = receiver(rules, false);
+    let mut own = receiver_of(rules, Receiver::Plain);
     own.info_hash = Some(hash);
     let config = Config {
         own,
@@ -106,8 +97,12 @@ fn number(id: Option<ExtId>) -> u64 {
     }
 }
 
-/// Adds the ids under which the peer wants metadata messages and `lt_donthave`.
-fn add_names(end: &End, digest: &mut Digest) {
+/// Adds the metadata that an end has, and the ids under which the peer wants metadata messages and `lt_donthave`.
+fn add_known(end: &End, digest: &mut Digest) {
+    match end.metadata() {
+        Some(metadata) => digest.add_bytes(metadata),
+        None => digest.add(0),
+    }
     let reg = end.belief().reg;
     digest.add(number(reg.metadata()));
     digest.add(number(reg.donthave()));
@@ -116,17 +111,13 @@ fn add_names(end: &End, digest: &mut Digest) {
 /// Brings two parts of what a peer sends.
 fn bring_both(
     end: &mut End,
-    first: &[u8],
-    second: &[u8],
+    first: &Draft,
+    second: &Draft,
     digest: &mut Digest,
 ) -> Result<(), Stopped> {
-    bring(end, first, digest)?;
-    bring(end, second, digest)?;
-    match end.metadata() {
-        Some(metadata) => digest.add_bytes(metadata),
-        None => digest.add(0),
-    }
-    add_names(end, digest);
+    bring(end, first.whole()?, digest)?;
+    bring(end, second.whole()?, digest)?;
+    add_known(end, digest);
     Ok(())
 }
 
@@ -136,8 +127,8 @@ fn run(
     hash: [u8; 20],
     rules: Rules,
     role: Role,
-    first: &[u8],
-    second: &[u8],
+    first: &Draft,
+    second: &Draft,
     digest: &mut Digest,
 ) -> Result<(), Stopped> {
     let mut end = made(alloc, hash, rules, role)?;
@@ -152,6 +143,13 @@ fn rules(draw: &mut Draw) -> Rules {
     }
 }
 
+/// Returns drawn metadata.
+fn metadata(alloc: Global, size: u32, draw: &mut Draw) -> Draft {
+    let mut bytes = Draft::new(alloc);
+    bytes.put_drawn(size, draw);
+    bytes
+}
+
 /// Serves metadata of two blocks to a peer.
 fn serve_one(
     alloc: Global,
@@ -160,110 +158,78 @@ fn serve_one(
     draw: &mut Draw,
     digest: &mut Digest,
 ) -> Result<(), Stopped> {
-    let first = opening(alloc, &hash, 0, draw)?;
-    let second = leecher(alloc, 2, draw)?;
+    let first = opening(alloc, &hash, 0, draw);
+    let second = leecher(alloc, draw);
     let role = Role::Serve(served.to_vec(alloc)?);
     run(alloc, hash, rules(draw), role, &first, &second, digest)
 }
 
 /// Serves metadata of two blocks to `count` peers, one after the other.
-///
-/// # Errors
-/// `Stopped` if an end refuses or can't be made, or when out of memory.
-pub fn serve(
-    alloc: Global,
-    count: u32,
-    draw: &mut Draw,
-    digest: &mut Digest,
-) -> Result<(), Stopped> {
-    let served = metadata(alloc, 16_385 + draw.below(16_000), draw)?;
-    let hash = Sha1::digest(&served);
+fn serve(alloc: Global, count: u32, draw: &mut Draw, digest: &mut Digest) -> Result<(), Stopped> {
+    let size = 16_385 + draw.below(16_000);
+    let served = metadata(alloc, size, draw);
+    let served = served.whole()?;
+    let hash = Sha1::digest(served);
     for _peer in 0..count {
-        serve_one(alloc, &served, hash, draw, digest)?;
+        serve_one(alloc, served, hash, draw, digest)?;
     }
     Ok(())
 }
 
-/// Fetches the metadata from a peer.
-fn fetch_one(
+/// Fetches metadata from `count` peers that send this after their openings, one after the other.
+fn fetch(
     alloc: Global,
     hash: [u8; 20],
     size: u32,
-    blocks: &[u8],
-    draw: &mut Draw,
-    digest: &mut Digest,
-) -> Result<(), Stopped> {
-    let first = opening(alloc, &hash, size, draw)?;
-    run(
-        alloc,
-        hash,
-        rules(draw),
-        Role::Fetch,
-        &first,
-        blocks,
-        digest,
-    )
-}
-
-/// Fetches metadata of 31,000 bytes from `count` peers, one after the other.
-///
-/// # Errors
-/// `Stopped` if an end refuses or can't be made, or when out of memory.
-pub fn fetch(
-    alloc: Global,
+    blocks: &Draft,
     count: u32,
     draw: &mut Draw,
     digest: &mut Digest,
 ) -> Result<(), Stopped> {
-    let size = 31_000;
-    let wanted = metadata(alloc, size, draw)?;
-    let hash = Sha1::digest(&wanted);
-    let blocks = seed(alloc, &wanted)?;
     for _peer in 0..count {
-        fetch_one(alloc, hash, size, &blocks, draw, digest)?;
+        let first = opening(alloc, &hash, size, draw);
+        let rules = rules(draw);
+        run(alloc, hash, rules, Role::Fetch, &first, blocks, digest)?;
     }
     Ok(())
 }
 
-/// Fetches from a peer that announces the greatest size and goes away after `count` blocks.
-///
-/// # Errors
-/// `Stopped` if an end refuses or can't be made, or when out of memory.
-pub fn fetch_much(
-    alloc: Global,
-    count: u32,
-    draw: &mut Draw,
-    digest: &mut Digest,
-) -> Result<(), Stopped> {
-    let block = metadata(alloc, BLOCK as u32, draw)?;
-    let blocks = great_seed(alloc, 0, count, &block)?;
-    fetch_one(alloc, [7; 20], GREATEST, &blocks, draw, digest)
+/// Fetches metadata of 31,000 bytes from 20 honest peers, and metadata of the greatest size from one that sends 400 messages
+/// that are no help.
+fn fetch_all(alloc: Global, draw: &mut Draw, digest: &mut Digest) -> Result<(), Stopped> {
+    let wanted = metadata(alloc, 31_000, draw);
+    let wanted = wanted.whole()?;
+    let blocks = seed(alloc, wanted, 31_000);
+    fetch(
+        alloc,
+        Sha1::digest(wanted),
+        31_000,
+        &blocks,
+        20,
+        draw,
+        digest,
+    )?;
+    let messages = nuisance(alloc, 400, draw);
+    fetch(alloc, [8; 20], GREATEST, &messages, 1, draw, digest)
 }
 
-/// Fetches from a peer that announces the greatest size, and sends `count` messages that are no help.
-///
-/// # Errors
-/// `Stopped` if an end refuses or can't be made, or when out of memory.
-pub fn fetch_nothing(
+/// Fetches from a peer that announces the greatest size and goes away after `count` blocks.
+fn fetch_much(
     alloc: Global,
     count: u32,
     draw: &mut Draw,
     digest: &mut Digest,
 ) -> Result<(), Stopped> {
-    let messages = nuisance(alloc, count, draw)?;
-    fetch_one(alloc, [8; 20], GREATEST, &messages, draw, digest)
+    let block = metadata(alloc, BLOCK as u32, draw);
+    let blocks = great_seed(alloc, count, &block);
+    fetch(alloc, [7; 20], GREATEST, &blocks, 1, draw, digest)
 }
 
 /// Adds the ids that a table of a peer's names has after it heard these dictionaries.
-fn look_up(
-    alloc: Global,
-    dicts: &[Vec<u8>],
-    first: u32,
-    digest: &mut Digest,
-) -> Result<(), Stopped> {
+fn look_up(alloc: Global, dicts: &[Draft], first: u32, digest: &mut Digest) -> Result<(), Stopped> {
     let mut table = Table::new(alloc);
     for dict in dicts {
-        match check(dict) {
+        match check(dict.whole()?) {
             Ok((dict, _)) => table.apply_ref(&dict)?,
             Err(_) => return Err(Stopped::Unmade),
         }
@@ -275,16 +241,18 @@ fn look_up(
     Ok(())
 }
 
-/// Hears a peer that sends these dictionaries as extended handshakes, in an end and in a table.
+/// Hears a peer that announces `count` names, and then `changes` times 1 to 4 of them and of others, in an end and in a table.
 fn hear(
     alloc: Global,
-    dicts: &[Vec<u8>],
-    first: u32,
+    count: u32,
+    changes: u32,
     draw: &mut Draw,
     digest: &mut Digest,
 ) -> Result<(), Stopped> {
-    let begin = opening(alloc, &[9; 20], 0, draw)?;
-    let messages = hellos(alloc, dicts)?;
+    let name = draw.next();
+    let dicts = renamings(alloc, name, count, changes, draw)?;
+    let begin = opening(alloc, &[9; 20], 0, draw);
+    let messages = hellos(alloc, &dicts);
     run(
         alloc,
         [9; 20],
@@ -294,30 +262,26 @@ fn hear(
         &messages,
         digest,
     )?;
-    look_up(alloc, dicts, first, digest)
+    look_up(alloc, &dicts, name, digest)
 }
 
-/// Hears a peer that announces 256 names, and then `count` times 1 to 4 of them and of others.
+/// Serves, fetches and hears, `rounds` times; and fetches from a peer that goes away.
 ///
 /// # Errors
 /// `Stopped` if an end refuses or can't be made, or when out of memory.
-pub fn hear_names(
+pub fn ends(
     alloc: Global,
-    count: u32,
+    rounds: u32,
     draw: &mut Draw,
     digest: &mut Digest,
 ) -> Result<(), Stopped> {
-    let name = draw.next();
-    let dicts = renamings(alloc, name, count, draw)?;
-    hear(alloc, &dicts, name, draw, digest)
-}
-
-/// Hears a peer that announces 10,000 names at once.
-///
-/// # Errors
-/// `Stopped` if an end refuses or can't be made, or when out of memory.
-pub fn hear_many_names(alloc: Global, draw: &mut Draw, digest: &mut Digest) -> Result<(), Stopped> {
-    let name = draw.next();
-    let dicts = crowd(alloc, name)?;
-    hear(alloc, &dicts, name, draw, digest)
+    for _round in 0..rounds {
+        for _torrent in 0..8 {
+            serve(alloc, 25, draw, digest)?;
+        }
+        fetch_all(alloc, draw, digest)?;
+        hear(alloc, 256, 100, draw, digest)?;
+        hear(alloc, 10_000, 0, draw, digest)?;
+    }
+    fetch_much(alloc, rounds.saturating_mul(60).min(4_095), draw, digest)
 }

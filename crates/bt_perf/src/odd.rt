@@ -1,78 +1,80 @@
 //! Streams of 1 MiB that end in a fault, as a hostile peer sends them again and again.
 
-use crate::bytes::put;
-use crate::commands::refuse;
-use crate::dicts::put_many_pairs;
+use crate::commands::{Command, Reading, read_all};
+use crate::dicts::put_pairs;
 use crate::digest::Digest;
+use crate::draft::Draft;
 use crate::draw::Draw;
-use crate::segments::put_extended;
+use crate::messages::{put_extended, put_handshake};
+use crate::receivers::Receiver;
 use crate::stopped::Stopped;
-use crate::streams::put_handshake;
-use std::alloc::{AllocError, Global};
+use bt_ext::Rules;
+use std::alloc::Global;
 
 /// How many pairs a dictionary of nearly 1 MiB has.
 const PAIRS: u32 = 69_000;
+
+/// How a stream is read that both rule sets refuse.
+const BROKEN: [Reading; 2] = [
+    Reading(Command::Check, Rules::Bep, Receiver::Patient, true),
+    Reading(Command::Check, Rules::Free, Receiver::Patient, true),
+];
+
+/// How a stream is read that only the strict rules refuse.
+const UNSORTED: [Reading; 2] = [
+    Reading(Command::Check, Rules::Bep, Receiver::Patient, true),
+    Reading(Command::Check, Rules::Free, Receiver::Patient, false),
+];
 
 /// The streams: an extended handshake each, whose dictionary has a fault at its end.
 #[derive(Drop)]
 pub struct Flawed {
     /// The dictionary doesn't end.
-    cut: Vec<u8>,
+    cut: Draft,
     /// Its last byte can't be part of a dictionary.
-    wrong: Vec<u8>,
+    wrong: Draft,
     /// Its last key is below the one before.
-    unsorted: Vec<u8>,
+    unsorted: Draft,
     /// That dictionary as the innermost of 31.
-    deep: Vec<u8>,
+    deep: Draft,
 }
 
-/// Returns a stream of an extended handshake with this dictionary, and 30 around it.
-fn stream(
-    alloc: Global,
-    dict: &[u8],
-    is_deep: bool,
-    draw: &mut Draw,
-) -> Result<Vec<u8>, AllocError> {
-    let depth = if is_deep { 30 } else { 0 };
-    let mut whole = Vec::new(alloc);
+/// Returns a stream of an extended handshake with this dictionary, and `depth` around it.
+fn stream(alloc: Global, dict: &Draft, depth: u32, draw: &mut Draw) -> Draft {
+    let mut whole = Draft::new(alloc);
     for _level in 0..depth {
-        put(&mut whole, b"d1:a")?;
+        whole.put(b"d1:a");
     }
-    put(&mut whole, dict)?;
+    whole.put_draft(dict);
     for _level in 0..depth {
-        put(&mut whole, b"e")?;
+        whole.put(b"e");
     }
-    let mut bytes = Vec::new(alloc);
-    put_handshake(&mut bytes, b"01234567890123456789", draw)?;
-    put_extended(&mut bytes, 0, &whole, &[])?;
-    Ok(bytes)
+    let mut bytes = Draft::new(alloc);
+    put_handshake(&mut bytes, b"01234567890123456789", draw);
+    put_extended(&mut bytes, 0, &whole, &[]);
+    bytes
 }
 
-/// Returns the pairs of a dictionary, without its end, and then these bytes.
-fn pairs(alloc: Global, end: &[u8], draw: &mut Draw) -> Result<Vec<u8>, AllocError> {
-    let mut dict = Vec::new(alloc);
-    put_many_pairs(alloc, &mut dict, PAIRS, draw)?;
-    let _end = dict.pop();
-    put(&mut dict, end)?;
-    Ok(dict)
+/// Returns the pairs of a dictionary, and then these bytes.
+fn pairs(alloc: Global, end: &[u8], draw: &mut Draw) -> Draft {
+    let mut dict = Draft::new(alloc);
+    put_pairs(&mut dict, PAIRS, end, draw);
+    dict
 }
 
 impl Flawed {
     /// Makes the streams.
-    ///
-    /// # Errors
-    /// `AllocError` when out of memory.
-    pub fn new(alloc: Global, seed: u32) -> Result<Flawed, AllocError> {
+    pub fn new(alloc: Global, seed: u32) -> Flawed {
         let mut draw = Draw::new(seed);
-        let cut = pairs(alloc, b"", &mut draw)?;
-        let wrong = pairs(alloc, b"x", &mut draw)?;
-        let unsorted = pairs(alloc, b"1:0i0ee", &mut draw)?;
-        Ok(Flawed {
-            cut: stream(alloc, &cut, false, &mut draw)?,
-            wrong: stream(alloc, &wrong, false, &mut draw)?,
-            unsorted: stream(alloc, &unsorted, false, &mut draw)?,
-            deep: stream(alloc, &unsorted, true, &mut draw)?,
-        })
+        let cut = pairs(alloc, b"", &mut draw);
+        let wrong = pairs(alloc, b"x", &mut draw);
+        let unsorted = pairs(alloc, b"1:0i0ee", &mut draw);
+        Flawed {
+            cut: stream(alloc, &cut, 0, &mut draw),
+            wrong: stream(alloc, &wrong, 0, &mut draw),
+            unsorted: stream(alloc, &unsorted, 0, &mut draw),
+            deep: stream(alloc, &unsorted, 30, &mut draw),
+        }
     }
 }
 
@@ -81,8 +83,8 @@ impl Flawed {
 /// # Errors
 /// `Stopped` if a verdict is another one, or when out of memory.
 pub fn refuse_all(alloc: Global, flawed: &Flawed, digest: &mut Digest) -> Result<(), Stopped> {
-    refuse(alloc, &flawed.cut, true, digest)?;
-    refuse(alloc, &flawed.wrong, true, digest)?;
-    refuse(alloc, &flawed.unsorted, false, digest)?;
-    refuse(alloc, &flawed.deep, false, digest)
+    read_all(alloc, flawed.cut.whole()?, &BROKEN, digest)?;
+    read_all(alloc, flawed.wrong.whole()?, &BROKEN, digest)?;
+    read_all(alloc, flawed.unsorted.whole()?, &UNSORTED, digest)?;
+    read_all(alloc, flawed.deep.whole()?, &UNSORTED, digest)
 }

@@ -1,36 +1,36 @@
 //! The receivers by which the streams are read.
-ghost use Rattle.std.specs.Prelude.{◌≡◌};
+ghost use Rattle.std.specs.Prelude.{◌≤◌};
 
-use crate::segments::{METADATA_ID, PIECES};
+use crate::messages::{METADATA_ID, PIECES};
 use bt_ext::{ExtId, Registered, Rules};
 use bt_wire::{Own, Reserved};
 
-/// The limit of a message in bytes.
-const LIMIT: u32 = 262_144;
+/// What a receiver knows and takes.
+#[derive(Clone, Copy)]
+pub enum Receiver {
+    /// It doesn't know how many pieces there are.
+    Plain,
+    /// It knows how many pieces there are.
+    Knowing,
+    /// It doesn't know how many pieces there are, and takes the longest messages.
+    Patient,
+}
 
-/// The limit of a receiver that takes the longest messages.
-const GREATEST_LIMIT: u32 = 1_048_576;
-
-/// Returns a receiver with these rules, which knows how many pieces there are or doesn't.
-pub fn receiver(rules: Rules, knows_pieces: bool) -> Own
-    ensures { result.limit ≡ 262144 }
+/// Returns a receiver with these rules.
+pub fn receiver_of(rules: Rules, kind: Receiver) -> Own
+    ensures { (1 ≤ result.limit) × (result.limit ≤ 1048576) }
 {
-    let pieces = if knows_pieces { Some(PIECES) } else { None };
+    let (pieces, limit) = match kind {
+        Receiver::Plain => (None, 262_144),
+        Receiver::Knowing => (Some(PIECES), 262_144),
+        Receiver::Patient => (None, 1_048_576),
+    };
     Own {
         reserved: Reserved(0x10_0005),
         info_hash: None,
         pieces,
         reg: Registered::metadata_only(ExtId::new(METADATA_ID)),
         rules,
-        limit: LIMIT,
+        limit,
     }
-}
-
-/// Returns a receiver with these rules that takes the longest messages.
-pub fn patient(rules: Rules) -> Own
-    ensures { result.limit ≡ 1048576 }
-{
-    let mut own = receiver(rules, false);
-    own.limit = GREATEST_LIMIT;
-    own
 }

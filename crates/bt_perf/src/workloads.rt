@@ -1,14 +1,16 @@
 //! The workloads: what each does, and how much of it.
 
 use crate::client::parse;
-use crate::commands::{as_json, judge, look_at, read_leniently, there_and_back};
+use crate::commands::{Command, Reading, read_all, there_and_back};
 use crate::digest::Digest;
 use crate::draw::Draw;
-use crate::ends::{fetch, fetch_much, fetch_nothing, hear_many_names, hear_names, serve};
+use crate::ends::ends;
+use crate::messages::Kind;
 use crate::odd::{Flawed, refuse_all};
-use crate::segments::Kind;
+use crate::receivers::Receiver;
 use crate::stopped::Stopped;
 use crate::streams::{Part, Streams};
+use bt_ext::Rules;
 use std::alloc::Global;
 
 /// A job that users wait for.
@@ -30,110 +32,124 @@ pub enum Workload {
     Odd,
 }
 
-/// Segments of one kind.
-fn part(kind: Kind, count: u32) -> Part {
-    Part { kind, count }
+/// The names of the workloads.
+pub const WORKLOADS: [(&str, Workload); 7] = [
+    ("show", Workload::Show),
+    ("json", Workload::Json),
+    ("script", Workload::Script),
+    ("client", Workload::Client),
+    ("dicts", Workload::Dicts),
+    ("ends", Workload::Ends),
+    ("odd", Workload::Odd),
+];
+
+const SHOW: [Part; 3] = [
+    Part(Kind::Greetings, 1),
+    Part(Kind::Small, 60),
+    Part(Kind::Blocks, 2),
+];
+
+const JSON: [Part; 4] = [
+    Part(Kind::Greetings, 2),
+    Part(Kind::Small, 20),
+    Part(Kind::Blocks, 1),
+    Part(Kind::Askings, 5),
+];
+
+const SCRIPT: [Part; 3] = [
+    Part(Kind::Greetings, 1),
+    Part(Kind::Small, 40),
+    Part(Kind::Askings, 5),
+];
+
+const CLIENT: [Part; 3] = [
+    Part(Kind::Greetings, 1),
+    Part(Kind::Small, 40),
+    Part(Kind::Blocks, 2),
+];
+
+const DICTS: [Part; 4] = [
+    Part(Kind::Greetings, 10),
+    Part(Kind::Askings, 20),
+    Part(Kind::ManyPairs, 4),
+    Part(Kind::Nested, 2),
+];
+
+const SORTED: [Part; 2] = [Part(Kind::Strange, 40), Part(Kind::Greatest, 40)];
+
+const UNSORTED: [Part; 1] = [Part(Kind::Unsorted, 40)];
+
+/// `show` and `check` by both rule sets, with the piece count and without.
+const LOOK_AT: [Reading; 4] = [
+    Reading(Command::Show, Rules::Free, Receiver::Plain, false),
+    Reading(Command::Check, Rules::Bep, Receiver::Plain, false),
+    Reading(Command::Check, Rules::Free, Receiver::Knowing, false),
+    Reading(Command::Show, Rules::Bep, Receiver::Knowing, false),
+];
+
+const AS_JSON: [Reading; 1] = [Reading(Command::Json, Rules::Free, Receiver::Plain, false)];
+
+/// `check` by both rule sets.
+const JUDGE: [Reading; 2] = [
+    Reading(Command::Check, Rules::Bep, Receiver::Knowing, false),
+    Reading(Command::Check, Rules::Free, Receiver::Plain, false),
+];
+
+/// `show` and `check` by the lenient rules.
+const LENIENTLY: [Reading; 2] = [
+    Reading(Command::Show, Rules::Free, Receiver::Plain, false),
+    Reading(Command::Check, Rules::Free, Receiver::Plain, false),
+];
+
+/// The inputs' seed and numbers, how many rounds are done, and what came of them.
+#[derive(Drop)]
+struct Job {
+    alloc: Global,
+    seed: u32,
+    rounds: u32,
+    draw: Draw,
+    digest: Digest,
 }
 
-fn show(alloc: Global, seed: u32, rounds: u32, digest: &mut Digest) -> Result<(), Stopped> {
-    let parts = [
-        part(Kind::Greetings, 1),
-        part(Kind::Small, 60),
-        part(Kind::Blocks, 2),
-    ];
-    let mut streams = Streams::new(alloc, seed, &parts)?;
-    for _round in 0..rounds {
-        look_at(alloc, &streams.next()?, digest)?;
-    }
-    Ok(())
-}
-
-fn json(alloc: Global, seed: u32, rounds: u32, digest: &mut Digest) -> Result<(), Stopped> {
-    let parts = [
-        part(Kind::Greetings, 2),
-        part(Kind::Small, 20),
-        part(Kind::Blocks, 1),
-        part(Kind::Askings, 5),
-    ];
-    let mut streams = Streams::new(alloc, seed, &parts)?;
-    for _round in 0..rounds {
-        as_json(alloc, &streams.next()?, digest)?;
-    }
-    Ok(())
-}
-
-fn script(alloc: Global, seed: u32, rounds: u32, digest: &mut Digest) -> Result<(), Stopped> {
-    let parts = [
-        part(Kind::Greetings, 1),
-        part(Kind::Small, 40),
-        part(Kind::Askings, 5),
-    ];
-    let mut streams = Streams::new(alloc, seed, &parts)?;
-    for _round in 0..rounds {
-        there_and_back(alloc, &streams.next()?, digest)?;
-    }
-    Ok(())
-}
-
-fn client(alloc: Global, seed: u32, rounds: u32, digest: &mut Digest) -> Result<(), Stopped> {
-    let parts = [
-        part(Kind::Greetings, 1),
-        part(Kind::Small, 40),
-        part(Kind::Blocks, 2),
-    ];
-    let mut streams = Streams::new(alloc, seed, &parts)?;
-    let mut draw = Draw::new(seed);
-    for _round in 0..rounds {
-        parse(alloc, &streams.next()?, &mut draw, digest)?;
-    }
-    Ok(())
-}
-
-fn dicts(alloc: Global, seed: u32, rounds: u32, digest: &mut Digest) -> Result<(), Stopped> {
-    let parts = [
-        part(Kind::Greetings, 10),
-        part(Kind::Askings, 20),
-        part(Kind::ManyPairs, 4),
-        part(Kind::Nested, 2),
-    ];
-    let mut streams = Streams::new(alloc, seed, &parts)?;
-    for _round in 0..rounds {
-        judge(alloc, &streams.next()?, digest)?;
-    }
-    Ok(())
-}
-
-fn ends(alloc: Global, seed: u32, rounds: u32, digest: &mut Digest) -> Result<(), Stopped> {
-    let mut draw = Draw::new(seed);
-    for _round in 0..rounds {
-        for _torrent in 0..8 {
-            serve(alloc, 25, &mut draw, digest)?;
+impl Job {
+    /// Does a round of a workload with this stream.
+    fn round(&mut self, workload: Workload, stream: &[u8]) -> Result<(), Stopped> {
+        match workload {
+            Workload::Show => read_all(self.alloc, stream, &LOOK_AT, &mut self.digest),
+            Workload::Json => read_all(self.alloc, stream, &AS_JSON, &mut self.digest),
+            Workload::Script => there_and_back(self.alloc, stream, &mut self.digest),
+            Workload::Client => parse(self.alloc, stream, &mut self.draw, &mut self.digest),
+            _ => read_all(self.alloc, stream, &JUDGE, &mut self.digest),
         }
-        fetch(alloc, 20, &mut draw, digest)?;
-        fetch_nothing(alloc, 400, &mut draw, digest)?;
-        hear_names(alloc, 100, &mut draw, digest)?;
-        hear_many_names(alloc, &mut draw, digest)?;
     }
-    fetch_much(
-        alloc,
-        rounds.saturating_mul(60).min(4_095),
-        &mut draw,
-        digest,
-    )
-}
 
-fn odd(alloc: Global, seed: u32, rounds: u32, digest: &mut Digest) -> Result<(), Stopped> {
-    let legal = [part(Kind::Strange, 40), part(Kind::Greatest, 40)];
-    let unsorted = [part(Kind::Unsorted, 40)];
-    let mut sorted = Streams::new(alloc, seed, &legal)?;
-    let mut unsorted = Streams::new(alloc, seed, &unsorted)?;
-    let flawed = Flawed::new(alloc, seed)?;
-    for _round in 0..rounds {
-        judge(alloc, &sorted.next()?, digest)?;
-        read_leniently(alloc, &unsorted.next()?, digest)?;
-        refuse_all(alloc, &flawed, digest)?;
+    /// Does the rounds of a workload, each with a stream of these parts.
+    fn rounds(&mut self, workload: Workload, parts: &[Part]) -> Result<(), Stopped> {
+        let mut streams = Streams::new(self.alloc, self.seed, parts)?;
+        for _round in 0..self.rounds {
+            self.round(workload, streams.next().whole()?)?;
+        }
+        Ok(())
     }
-    Ok(())
+
+    /// Reads odd streams and refused ones.
+    fn odd(&mut self) -> Result<(), Stopped> {
+        let alloc = self.alloc;
+        let mut sorted = Streams::new(alloc, self.seed, &SORTED)?;
+        let mut unsorted = Streams::new(alloc, self.seed, &UNSORTED)?;
+        let flawed = Flawed::new(alloc, self.seed);
+        for _round in 0..self.rounds {
+            read_all(alloc, sorted.next().whole()?, &JUDGE, &mut self.digest)?;
+            read_all(
+                alloc,
+                unsorted.next().whole()?,
+                &LENIENTLY,
+                &mut self.digest,
+            )?;
+            refuse_all(alloc, &flawed, &mut self.digest)?;
+        }
+        Ok(())
+    }
 }
 
 /// Does so many rounds of a workload on inputs of this seed.
@@ -141,15 +157,21 @@ fn odd(alloc: Global, seed: u32, rounds: u32, digest: &mut Digest) -> Result<(),
 /// # Errors
 /// `Stopped` if an input is refused, or when out of memory.
 pub fn work(alloc: Global, workload: Workload, seed: u32, rounds: u32) -> Result<Digest, Stopped> {
-    let mut digest = Digest::new();
+    let mut job = Job {
+        alloc,
+        seed,
+        rounds,
+        draw: Draw::new(seed),
+        digest: Digest::new(),
+    };
     match workload {
-        Workload::Show => show(alloc, seed, rounds, &mut digest)?,
-        Workload::Json => json(alloc, seed, rounds, &mut digest)?,
-        Workload::Script => script(alloc, seed, rounds, &mut digest)?,
-        Workload::Client => client(alloc, seed, rounds, &mut digest)?,
-        Workload::Dicts => dicts(alloc, seed, rounds, &mut digest)?,
-        Workload::Ends => ends(alloc, seed, rounds, &mut digest)?,
-        Workload::Odd => odd(alloc, seed, rounds, &mut digest)?,
+        Workload::Show => job.rounds(workload, &SHOW)?,
+        Workload::Json => job.rounds(workload, &JSON)?,
+        Workload::Script => job.rounds(workload, &SCRIPT)?,
+        Workload::Client => job.rounds(workload, &CLIENT)?,
+        Workload::Dicts => job.rounds(workload, &DICTS)?,
+        Workload::Ends => ends(alloc, rounds, &mut job.draw, &mut job.digest)?,
+        Workload::Odd => job.odd()?,
     }
-    Ok(digest)
+    Ok(job.digest)
 }

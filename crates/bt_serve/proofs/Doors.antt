@@ -41,6 +41,12 @@ enough_all (Some m) inside rounds rounds' a b c e h i = elim h [
   | inr p ↦ inr (omega arith)
 ]
 
+-- after one call and another, and a third that tells of nobody
+pub more_twice : {N : Type 0} → (m n l k : ℕ) (a b c d d' : Option (List (N × Parting))) → k ≡ m + (n + l) → AreMore m a b → AreMore n b c
+    → AreMore l c d → d' ≡ d → AreMore k a d'
+more_twice m n l k a b c d d' e h i j q =
+    subst (λ x. AreMore k a x) (sym q) (more_both m (n + l) k a b d e h (more_both n l (n + l) b c d refl i j))
+
 -- nobody was told of at first, and then of n more
 pub more_on : {N : Type 0} → (m n k : ℕ) (a b b' c c' : Option (List (N × Parting))) → k ≡ m + n → AreMore m a b → b' ≡ b → AreMore n b' c → c' ≡ c
     → AreMore k a c'
@@ -53,10 +59,10 @@ within_less None m n e h = tt
 within_less (Some k) m n e h = omega arith
 
 -- the next one entered, or none
-pub within_next : (asked : Option ℕ) (n k : ℕ) (came may : Bool) → k ≡ n + (if came then 1 else 0) → (came ≡ true → may ≡ true)
+pub within_next : (asked : Option ℕ) (n k came : ℕ) (may : Bool) → k ≡ n + came → came ≤ (if may then 1 else 0)
     → (may ≡ true → IsWithin asked (n + 1)) → IsWithin asked n → IsWithin asked k
-within_next asked n k true may e h i j = within_less asked k (n + 1) (omega arith) (i (h refl))
-within_next asked n k false may e h i j = within_less asked k n (omega arith) j
+within_next asked n k came true e h i j = within_less asked k (n + 1) (omega arith) (i refl)
+within_next asked n k came false e h i j = within_less asked k n (omega arith) j
 
 -- there was no memory for the one that entered last
 pub within_unserved : {N : Type 0} → (asked : Option ℕ) (left inside inside' entered : ℕ) (may : Bool) (a b c : Option (List (N × Parting)))

@@ -1,4 +1,5 @@
 pub mod Doors
+pub mod LastTold
 pub mod Services
 pub mod Reacting
 pub mod Tallies

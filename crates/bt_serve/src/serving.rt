@@ -3,7 +3,7 @@ ghost use Rattle.std.specs.Prelude.{◌≡◌, ◌+◌, ◌-◌, ◌<◌, ◌≤
 ghost use Rattle.std.specs.Result.{is_ok};
 ghost use Rattle.bt_exchange.specs.Boths.{capped};
 ghost use Rattle.bt_exchange.specs.Courses.{Moment};
-ghost use Rattle.bt_serve.specs.Doors.{AreEnough, AreMore, AreServed, AreTold, AreWithin, IsWithin, leaving};
+ghost use Rattle.bt_serve.specs.Doors.{AreAdmitted, AreEnough, AreMore, AreServed, AreTold, AreToldOf, AreToldUpTo, AreWithin, IsWithin, leaving};
 ghost use Rattle.bt_serve.specs.Guests.{IsHospitality, IsServed, IsTurned};
 
 use crate::door::{Door, Parting};
@@ -42,7 +42,7 @@ fn let_in<D: Door>(
     ensures guests { IfOk result (λ came. vec_len guests.new ≡ vec_len guests.old + (if came then 1 else 0)) }
     ensures may { IfOk result (λ came. came ≡ true → may_enter ≡ true) }
     ensures told { OnOk result (D.told door.new ≡ D.told door.old) }
-    ensures unserved { OnErr result (AreTold (D.told door.old) (D.told door.new) false) }
+    ensures unserved { OnErr result (AreToldOf (D.told door.old) (D.told door.new) false) }
     ensures left { OnErr result ((may_enter ≡ true) × (vec_len guests.new ≡ vec_len guests.old) × AreMore 1 (D.told door.old) (D.told door.new)) }
     ensures rounds { D.rounds door.new ≡ D.rounds door.old }
 {
@@ -62,6 +62,46 @@ fn let_in<D: Door>(
     }
     tell_place(door, guests, guests.len() - 1);
     Ok(true)
+}
+
+/// Lets a connection in, as [`let_in`] does. If its buffers were refused it is gone at once, and the others inside go on.
+///
+/// It returns how many came, and how many of them are gone.
+///
+/// # Errors
+/// `Memory` if nobody else is inside: no end of a connection would give memory back.
+fn admit<D: Door>(
+    alloc: Global,
+    hospitality: &Hospitality,
+    pieces: Option<u32>,
+    metadata: &Rc<Vec<u8>>,
+    may_enter: bool,
+    door: &mut D,
+    guests: &mut Guests<D>,
+) -> Result<(u64, u64), Memory>
+    requires { IsHospitality hospitality.now }
+    ensures inside { D.inside door.new + vec_len guests.old ≡ D.inside door.old + vec_len guests.new }
+    ensures guests { IfOk result (λ r. vec_len guests.new + r.1 ≡ vec_len guests.old + r.0) }
+    ensures may { IfOk result (λ r. r.0 ≤ (if may_enter then 1 else 0)) }
+    ensures told { IfOk result (λ r. AreAdmitted r.1 (vec_len guests.new) (D.told door.old) (D.told door.new)) }
+    ensures more { IfOk result (λ r. AreMore r.1 (D.told door.old) (D.told door.new)) }
+    ensures unserved { OnErr result (AreToldOf (D.told door.old) (D.told door.new) false) }
+    ensures left { OnErr result ((may_enter ≡ true) × (vec_len guests.old ≡ 0) × (vec_len guests.new ≡ 0) × AreMore 1 (D.told door.old) (D.told door.new)) }
+    ensures rounds { D.rounds door.new ≡ D.rounds door.old }
+{
+    match let_in(
+        alloc,
+        hospitality,
+        pieces,
+        metadata,
+        may_enter,
+        door,
+        guests,
+    ) {
+        Ok(came) => Ok((u64::from(came), 0)),
+        Err(_) if guests.is_empty() => Err(Memory),
+        Err(_) => Ok((1, 1)),
+    }
 }
 
 /// Tells the door which connection has this index, if one has it.
@@ -236,7 +276,7 @@ fn serve_all<D: Door>(
     requires inside { vec_len guests.old ≤ D.inside door.old }
     requires nobody { vec_len guests.old ≡ 0 }
     ensures inside { D.inside door.new + vec_len guests.old ≡ D.inside door.old + vec_len guests.new }
-    ensures told { AreTold (D.told door.old) (D.told door.new) (is_ok result) }
+    ensures told { AreToldUpTo (vec_len guests.new) (D.told door.old) (D.told door.new) (is_ok result) }
     ensures enough { OnOk result (AreServed connections (vec_len guests.new) (D.told door.old) (D.told door.new) (D.rounds door.new)) }
     ensures within { AreWithin connections (D.told door.old) (D.told door.new) (vec_len guests.new) }
 {
@@ -247,7 +287,7 @@ fn serve_all<D: Door>(
             return Ok(());
         }
         let may_enter = may_enter(connections, entered);
-        let came = let_in(
+        let (came, gone) = admit(
             alloc,
             hospitality,
             pieces,
@@ -256,10 +296,10 @@ fn serve_all<D: Door>(
             door,
             guests,
         )?;
-        entered += u64::from(came);
+        entered += came;
         let (ended, is_busy) = tend_all(door, guests);
-        left += ended;
-        door.rest(!came && !is_busy && ended == 0);
+        left += gone + ended;
+        door.rest(came == 0 && !is_busy && ended == 0);
     }
     Ok(())
 }
@@ -267,10 +307,11 @@ fn serve_all<D: Door>(
 /// Serves metadata to `connections` connections, or without end.
 ///
 /// At most as many are served at the same time as the door has places. Each connection that entered has ended when it
-/// returns, and [`Door::ended`] was called for it.
+/// returns, and [`Door::ended`] was called for it. One for whose buffers there is no memory ends at once, and is reported to the door
+/// as `Unserved`; the others go on.
 ///
 /// # Errors
-/// `Memory` if there is no memory for a connection's buffers. It is reported to the door as `Unserved`.
+/// `Memory` if there is no memory for the buffers of a connection while no other is inside.
 pub fn serve<D: Door>(
     alloc: Global,
     hospitality: &Hospitality,
@@ -280,7 +321,8 @@ pub fn serve<D: Door>(
 ) -> Result<(), Memory>
     requires hospitality { IsHospitality hospitality.now }
     ensures inside { D.inside door.new ≡ D.inside door.old }
-    ensures told { AreTold (D.told door.old) (D.told door.new) (is_ok result) }
+    // A connection without memory for its buffers is no error while others are inside: the last end that is told is one that was served.
+    ensures told { AreToldOf (D.told door.old) (D.told door.new) (is_ok result) }
     ensures enough { OnOk result (AreEnough connections (D.told door.old) (D.told door.new) (D.rounds door.new)) }
     ensures within { AreWithin connections (D.told door.old) (D.told door.new) 0 }
 {

@@ -1,5 +1,5 @@
 -- What the front of a text is, read as a line of a script.
-use Rattle.std.specs.Prelude.{◌≡◌, ℕ, ◌+◌, ◌*◌, ◌^◌, ◌<◌, ◌≤◌, Bool, true, false, List, ◌∷◌, ◌++◌, length, Some, None}
+use Rattle.std.specs.Prelude.{◌≡◌, ℕ, ◌+◌, ◌*◌, ◌^◌, ◌<◌, ◌≤◌, Bool, true, false, List, [], ◌∷◌, ◌++◌, length, Some, None}
 use Rattle.std.specs.Fmt.{decimal}
 use Rattle.bt_wire.specs.Numbers.{be32}
 use Rattle.bt_text.specs.declared.script.reading.LineFront.{LineFront}
@@ -28,11 +28,15 @@ IsFront first limit text old new (front.Line rest) = IsLineFront first limit tex
 IsFront first limit text old new front.Syntax = IsNoLine first limit text old new
 IsFront first limit text old new front.Unended = IsCut text None × (new ≡ old)
 
--- ---- for private contracts alone: a line of numbers only, what stands before the line feed, and the message that is put after the old bytes
+-- ---- for private contracts alone: a line of numbers only or of a name, what stands before the line feed, and the message that is put after the old bytes
 
 -- the text's first line is a message's and short, and its bytes are put after the old ones
 abbrev pub IsShortLine : List ℕ → List ℕ → List ℕ → List ℕ → Type 0
 IsShortLine text rest old new = IsLineFront false 0 text rest old new
+
+-- a text that begins with a line of no fields
+abbrev pub AddsBare : ℕ → (line text rest old new : List ℕ) → Type 0
+AddsBare id line text rest old new = (text ≡ line ++ rest) × (new ≡ old ++ framed_by id [])
 
 abbrev pub AddsIndex : ℕ → List ℕ → List ℕ → List ℕ → List ℕ → Type 0
 AddsIndex id text rest old new = (n : ℕ) × (n < 2 ^ 32) × (text ≡ decimal n ++ 10 ∷ rest) × (new ≡ old ++ framed_by id (be32 n))

@@ -1,5 +1,5 @@
 -- What a report's verdicts come to.
-use Rattle.std.specs.Prelude.{Bool, true, false, ◌||◌, not, Option, Some, is_some, if◌then◌else◌}
+use Rattle.std.specs.Prelude.{Bool, true, false, ◌||◌, not, nat_lt, Option, Some, is_some, if◌then◌else◌}
 use Rattle.bt_remarks.specs.declared.events.Side.{Side}
 use Rattle.bt_remarks.specs.declared.events.Side.TheVariants.{A, B}
 use Rattle.bt_text.specs.declared.ended.Ended.{Ended}
@@ -11,6 +11,8 @@ use Rattle.bt_told.specs.declared.finding.Finding.TheVariants as finding
 use Rattle.bt_told.specs.declared.report.Body.{Body}
 use Rattle.bt_told.specs.declared.report.Body.TheVariants as body
 use Rattle.bt_told.specs.declared.report.Direction.{Direction}
+use Rattle.bt_told.specs.declared.report.Left.{Left}
+use Rattle.bt_told.specs.declared.report.Left.TheVariants.{Open, Unread, Replaced}
 use Rattle.bt_told.specs.declared.report.Report.{Report}
 use Rattle.bt_told.specs.declared.report.Sender.{Sender}
 use Rattle.bt_told.specs.declared.report.Sender.TheVariants.{Unknown, Known}
@@ -53,3 +55,30 @@ body_finding (body.Told t) = told_finding t
 
 abbrev pub finding_of : Report → Finding
 finding_of r = body_finding r.body
+
+-- ---- what was read in part only
+
+-- It wasn't read further.
+abbrev pub is_left_unread : Left → Bool
+is_left_unread Open = false
+is_left_unread Unread = true
+is_left_unread Replaced = false
+
+-- bytes and no whole handshake
+abbrev pub is_sender_unread : Sender → Bool
+is_sender_unread (Unknown sent) = nat_lt 0 sent
+is_sender_unread (Known j) = false
+
+abbrev pub is_partly_read : Direction → Bool
+is_partly_read d = is_sender_unread d.sender || is_some d.gaps.first
+
+abbrev pub told_partial : Told → Bool
+told_partial t = (is_left_unread t.left || is_partly_read t.a) || is_partly_read t.b
+
+abbrev pub body_partial : Body → Bool
+body_partial body.NotBitTorrent = false
+body_partial (body.Told t) = told_partial t
+
+-- Only a part of a BitTorrent connection was read: a direction has a gap, or bytes and no whole handshake; or it wasn't read further.
+abbrev pub is_partial : Report → Bool
+is_partial r = body_partial r.body

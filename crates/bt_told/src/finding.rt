@@ -1,9 +1,9 @@
 //! What a report's verdicts come to.
 ghost use Rattle.std.specs.Prelude.{◌≡◌};
-ghost use Rattle.bt_told.specs.Findings.{closes_first, finding_of, is_refusal, is_refused_by, may_be_cut, told_finding};
+ghost use Rattle.bt_told.specs.Findings.{closes_first, finding_of, is_left_unread, is_partial, is_partly_read, is_refusal, is_refused_by, may_be_cut, told_finding, told_partial};
 
 use crate::printing::closer_of;
-use crate::report::{Body, Direction, Report, Sender, Told};
+use crate::report::{Body, Direction, Left, Report, Sender, Told};
 use bt_remarks::Side;
 use bt_text::ended::Ended;
 use bt_wire::Reason;
@@ -75,7 +75,47 @@ fn finding_in(told: &Told) -> Finding
     }
 }
 
+/// Returns whether a connection wasn't read further.
+fn is_unread(left: Left) -> bool
+    ensures { result ≡ is_left_unread left }
+{
+    match left {
+        Left::Open | Left::Replaced => false,
+        Left::Unread => true,
+    }
+}
+
+/// Returns whether only a part of what a side sent was read: it has a gap, or it sent bytes and no whole handshake.
+fn is_partly_read_of(direction: &Direction) -> bool
+    ensures { result ≡ is_partly_read direction.now }
+{
+    let is_unread = match &direction.sender {
+        Sender::Unknown(sent) => *sent > 0,
+        Sender::Known(_) => false,
+    };
+    is_unread || direction.gaps.first.is_some()
+}
+
+/// Returns whether only a part of a BitTorrent connection was read.
+fn is_partial_in(told: &Told) -> bool
+    ensures { result ≡ told_partial told.now }
+{
+    is_unread(told.left) || is_partly_read_of(&told.a) || is_partly_read_of(&told.b)
+}
+
 impl Report {
+    /// Returns whether it is on a BitTorrent connection of which only a part was read.
+    ///
+    /// A direction has a gap, or bytes and no whole handshake; or the connection wasn't read further.
+    pub fn is_partial(&self) -> bool
+        ensures { result ≡ is_partial self.now }
+    {
+        match &self.body {
+            Body::NotBitTorrent => false,
+            Body::Told(told) => is_partial_in(told),
+        }
+    }
+
     /// Returns what the report's verdicts come to.
     pub fn finding(&self) -> Finding
         ensures { result ≡ finding_of self.now }

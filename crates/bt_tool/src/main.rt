@@ -4,11 +4,13 @@
 mod piped;
 mod program;
 mod sources;
+mod standard;
 
 use bt_cli::options::{NO_TEXT, asked};
 use bt_text::ended::ToolFault;
 use program::Program;
 use sources::SOURCES;
+use standard::stand_in;
 use std::cell::Cell;
 use std::io::IsTerminal;
 use std::process::ExitCode;
@@ -25,6 +27,8 @@ fn words<R: Env + AllocGlobal>(rt: &R) -> io::Result<Vec<String>> {
 }
 
 fn main(rt: HostRuntime) -> ExitCode {
+    // No file or socket that is opened later gets the number of a standard stream.
+    let _standing = stand_in(&rt);
     let stderr = rt.stderr();
     let is_gone = Cell::new(false);
     let is_terminal = rt.stdin().is_terminal();

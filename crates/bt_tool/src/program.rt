@@ -5,7 +5,7 @@ ghost use Rattle.bt_cli.specs.Commands.{IsLimited};
 ghost use Rattle.bt_fetch.specs.Wishes.{IsWish};
 
 use crate::piped::Piped;
-use bt_capture::{CaptureJob, run_capture};
+use bt_capture::{CaptureEnd, CaptureFault, CaptureJob, Ending, run_capture};
 use bt_cli::capture::{CaptureRequest, end_capture};
 use bt_cli::commands::{Asked, Job, Notice, Request};
 use bt_cli::ending::{end_by_fault, end_job, end_link, end_loop, end_text};
@@ -15,6 +15,7 @@ use bt_cli::hints::{are_wanted, say_hint};
 use bt_cli::notice::refuse_words;
 use bt_cli::options::{is_input, long_list, no_handshake, no_peer};
 use bt_cli::other::receiver_by;
+use bt_cli::packed::packed_line;
 use bt_cli::peers::{NoPeers, list_from, peers_in};
 use bt_cli::reading::{Shown, is_long};
 use bt_cli::run::{JobEnd, do_job, say};
@@ -26,6 +27,7 @@ use bt_jobs::output::write_out;
 use bt_jobs::{OtherError, run_check_after};
 use bt_link::run_rig;
 use bt_loop::{open_tcp, run_loop};
+use bt_pcap::FileFault;
 use bt_run::hint::Kept;
 use bt_text::ended::ToolFault;
 use bt_wire::Own;
@@ -58,6 +60,20 @@ const METADATA_AWAITED: &[u8] = b"bt_tool: metadata is awaited on standard input
 
 /// What is printed if a list of peers is expected from a terminal.
 const PEERS_AWAITED: &[u8] = b"bt_tool: a list of peers is awaited on standard input\n";
+
+/// The exit status if an input can't be read.
+const UNREAD: u8 = 3;
+
+/// Returns the line on a capture that is compressed, if it ended as no capture and its first bytes tell.
+fn packed_in(end: &Result<CaptureEnd, CaptureFault>, front: &[u8]) -> Option<&'static [u8]> {
+    match end {
+        Ok(end) => match end.ending {
+            Ending::Broken(FileFault::NoCapture) => packed_line(front),
+            _ => None,
+        },
+        Err(_) => None,
+    }
+}
 
 /// The host's devices, and what is known of them.
 #[derive(Drop)]
@@ -107,6 +123,8 @@ impl<'a, R: Files + Input + Net + Clock + RandomSource + AllocGlobal, W: Write, 
     }
 
     /// Does what the words ask for, and returns the exit status.
+    ///
+    /// Each command has a frame of its own, so that the buffers of one take no stack of another one.
     pub fn answer(&mut self, asked: &Asked) -> u8
         requires { IsLimited asked.now }
     {
@@ -135,16 +153,51 @@ impl<'a, R: Files + Input + Net + Clock + RandomSource + AllocGlobal, W: Write, 
         end_by_fault(fault, b"", false, &mut self.errors)
     }
 
-    /// Opens an input; if it is a terminal, prints what is expected.
-    fn open(&mut self, name: &str, awaited: &[u8]) -> Option<Opened<R>> {
+    /// Says why a file can't be read, and returns the exit status.
+    fn fail_to_read(&mut self, line: Result<String, AllocError>) -> u8 {
+        match line {
+            Ok(line) => {
+                say(line.as_bytes(), &mut self.errors);
+                UNREAD
+            }
+            Err(_) => self.fail(ToolFault::Memory),
+        }
+    }
+
+    /// Tells whether a name is that of a folder.
+    fn is_folder(&self, name: &str) -> bool {
+        match fs::metadata(self.host, name) {
+            Ok(found) => found.is_dir(),
+            Err(_) => false,
+        }
+    }
+
+    /// Opens a file. If it can't be read, says why, and returns the exit status.
+    fn open_file(&mut self, name: &str) -> Result<<R as Files>::File, u8> {
+        let alloc = self.host.alloc();
+        match fs::open(self.host, name) {
+            Ok(_) if self.is_folder(name) => {
+                let line = format!(in alloc; "{name}: fault: read: it is a directory\n");
+                Err(self.fail_to_read(line))
+            }
+            Ok(file) => Ok(file),
+            Err(error) => {
+                let line = format!(in alloc; "{name}: fault: read: {error}\n");
+                Err(self.fail_to_read(line))
+            }
+        }
+    }
+
+    /// Opens an input; if it is a terminal, prints what is expected. If it can't be read, says why, and returns the exit status.
+    fn open(&mut self, name: &str, awaited: &[u8]) -> Result<Opened<R>, u8> {
         if !is_input(name) {
-            let file = fs::open(self.host, name).ok()?;
-            return Some(Host::new(Either::Right(file)));
+            let file = self.open_file(name)?;
+            return Ok(Host::new(Either::Right(file)));
         }
         if self.is_terminal {
             say(awaited, &mut self.errors);
         }
-        Some(Host::new(Either::Left(self.host.reader())))
+        Ok(Host::new(Either::Left(self.host.reader())))
     }
 
     /// Returns what stands before the line of a failed read: a file's name.
@@ -168,9 +221,7 @@ impl<'a, R: Files + Input + Net + Clock + RandomSource + AllocGlobal, W: Write, 
         requires { HasLimit request.now.own }
         ensures { IfOk result HasLimit }
     {
-        let Some(mut reader) = self.open(name, STREAM_AWAITED) else {
-            return Err(end_by_fault(ToolFault::Read, prefix, false, &mut self.errors));
-        };
+        let mut reader = self.open(name, STREAM_AWAITED)?;
         match receiver_by(self.host.alloc(), &request.own, request.given, &mut reader) {
             Ok(own) => Ok(own),
             Err(OtherError::Fault(fault)) => {
@@ -181,6 +232,7 @@ impl<'a, R: Files + Input + Net + Clock + RandomSource + AllocGlobal, W: Write, 
     }
 
     /// Returns the receiver, with what the other direction announces; or the exit status if that can't be read.
+    #[inline(never)]
     fn receiver(&mut self, request: &Request) -> Result<Own, u8>
         requires { HasLimit request.now.own }
         ensures { IfOk result HasLimit }
@@ -195,6 +247,7 @@ impl<'a, R: Files + Input + Net + Clock + RandomSource + AllocGlobal, W: Write, 
     }
 
     /// Does a job, and returns the exit status.
+    #[inline(never)]
     fn run(&mut self, request: &Request) -> u8
         requires { HasLimit request.now.own }
     {
@@ -233,8 +286,8 @@ impl<'a, R: Files + Input + Net + Clock + RandomSource + AllocGlobal, W: Write, 
             Job::Show | Job::Json | Job::Check | Job::Unpack => STREAM_AWAITED,
         };
         match self.open(name, awaited) {
-            Some(reader) => self.run_over(prefix, reader, request, own),
-            None => end_by_fault(ToolFault::Read, prefix, false, &mut self.errors),
+            Ok(reader) => self.run_over(prefix, reader, request, own),
+            Err(status) => status,
         }
     }
 
@@ -267,11 +320,9 @@ impl<'a, R: Files + Input + Net + Clock + RandomSource + AllocGlobal, W: Write, 
     fn check_after(&mut self, prefix: &[u8], name: &str, own: &Own) -> (u8, bool)
         requires { HasLimit own.now }
     {
-        let Some(mut reader) = self.open(name, STREAM_AWAITED) else {
-            return (
-                end_by_fault(ToolFault::Read, prefix, false, &mut self.errors),
-                true,
-            );
+        let mut reader = match self.open(name, STREAM_AWAITED) {
+            Ok(reader) => reader,
+            Err(status) => return (status, true),
         };
         let end = run_check_after(
             self.host.alloc(),
@@ -303,8 +354,9 @@ impl<'a, R: Files + Input + Net + Clock + RandomSource + AllocGlobal, W: Write, 
 
     /// As `link`; `prefix` stands before the line of a fault.
     fn link_after(&mut self, prefix: &[u8], name: &str) -> u8 {
-        let Some(mut reader) = self.open(name, SCRIPT_AWAITED) else {
-            return end_by_fault(ToolFault::Read, prefix, false, &mut self.errors);
+        let mut reader = match self.open(name, SCRIPT_AWAITED) {
+            Ok(reader) => reader,
+            Err(status) => return status,
         };
         let end = run_rig(self.host.alloc(), &mut reader, &mut self.writer);
         let is_gone = self.is_gone.get();
@@ -312,6 +364,7 @@ impl<'a, R: Files + Input + Net + Clock + RandomSource + AllocGlobal, W: Write, 
     }
 
     /// Runs the link that a script describes, and returns the exit status.
+    #[inline(never)]
     fn link(&mut self, files: &[String]) -> u8 {
         let name = match files {
             [] => "-",
@@ -337,25 +390,40 @@ impl<'a, R: Files + Input + Net + Clock + RandomSource + AllocGlobal, W: Write, 
     }
 
     /// As `capture`; `prefix` stands before the line of a fault.
-    fn capture_after(&mut self, prefix: &[u8], name: &str, job: &CaptureJob) -> u8 {
-        let Some(mut reader) = self.open(name, CAPTURE_AWAITED) else {
-            return end_by_fault(ToolFault::Read, prefix, false, &mut self.errors);
+    fn capture_after(
+        &mut self,
+        prefix: &[u8],
+        name: &str,
+        job: &CaptureJob,
+        is_strict: bool,
+    ) -> u8 {
+        let reader = match self.open(name, CAPTURE_AWAITED) {
+            Ok(reader) => reader,
+            Err(status) => return status,
         };
         let Ok(keys) = RandomState::new(self.host) else {
             return end_by_fault(ToolFault::Read, prefix, false, &mut self.errors);
         };
         let alloc = self.host.alloc();
-        let end = match self.long_size(name) {
+        let (end, line) = match self.long_size(name) {
             Some(size) => {
                 let mut shown = Shown::new(self.host, alloc, reader, &mut self.errors, size);
                 let end = run_capture(alloc, keys, &mut shown, &mut self.writer, job);
                 shown.clear();
-                end
+                (end, None)
             }
-            None => run_capture(alloc, keys, &mut reader, &mut self.writer, job),
+            None => {
+                let mut kept = Kept::new(alloc, reader);
+                let end = run_capture(alloc, keys, &mut kept, &mut self.writer, job);
+                (end, packed_in(&end, kept.window()))
+            }
         };
         let is_gone = self.is_gone.get();
-        end_capture(alloc, end, prefix, is_gone, &mut self.errors)
+        let status = end_capture(alloc, end, prefix, is_gone, is_strict, &mut self.errors);
+        if let Some(line) = line {
+            say(line, &mut self.errors);
+        }
+        status
     }
 
     /// As `capture_job`; `prefix` stands before the line of a fault.
@@ -365,9 +433,7 @@ impl<'a, R: Files + Input + Net + Clock + RandomSource + AllocGlobal, W: Write, 
         name: &str,
         job: &CaptureJob,
     ) -> Result<CaptureJob, u8> {
-        let Some(mut reader) = self.open(name, TORRENT_AWAITED) else {
-            return Err(end_by_fault(ToolFault::Read, prefix, false, &mut self.errors));
-        };
+        let mut reader = self.open(name, TORRENT_AWAITED)?;
         match job_for(self.host.alloc(), job, &mut reader) {
             Ok(job) => Ok(job),
             Err(why) => Err(end_torrent(why, prefix, &mut self.errors)),
@@ -386,6 +452,7 @@ impl<'a, R: Files + Input + Net + Clock + RandomSource + AllocGlobal, W: Write, 
     }
 
     /// Reports on the connections of a capture, and returns the exit status.
+    #[inline(never)]
     fn capture(&mut self, request: &CaptureRequest) -> u8 {
         let job = match self.capture_job(request) {
             Ok(job) => job,
@@ -396,20 +463,22 @@ impl<'a, R: Files + Input + Net + Clock + RandomSource + AllocGlobal, W: Write, 
             [name, ..] => name.as_str(),
         };
         match self.prefix(name) {
-            Ok(prefix) => self.capture_after(prefix.as_bytes(), name, &job),
+            Ok(prefix) => self.capture_after(prefix.as_bytes(), name, &job, request.is_strict),
             Err(_) => self.fail(ToolFault::Memory),
         }
     }
 
     /// Runs two ends over a connection of the process to itself, and returns the exit status.
+    #[inline(never)]
     fn run_loop(&mut self, rules: Rules, limit: u32) -> u8
         requires { HasLoopLimit limit }
     {
         let Ok(mut wire) = open_tcp(self.host) else {
             return self.fail(ToolFault::Net);
         };
-        let Some(mut reader) = self.open("-", METADATA_AWAITED) else {
-            return self.fail(ToolFault::Read);
+        let mut reader = match self.open("-", METADATA_AWAITED) {
+            Ok(reader) => reader,
+            Err(status) => return status,
         };
         let end = run_loop(
             self.host.alloc(),
@@ -440,9 +509,7 @@ impl<'a, R: Files + Input + Net + Clock + RandomSource + AllocGlobal, W: Write, 
 
     /// As `peers_of`; `prefix` stands before the line of a fault.
     fn peers_after(&mut self, prefix: &[u8], name: &str) -> Result<Vec<String>, u8> {
-        let Some(mut reader) = self.open(name, PEERS_AWAITED) else {
-            return Err(end_by_fault(ToolFault::Read, prefix, false, &mut self.errors));
-        };
+        let mut reader = self.open(name, PEERS_AWAITED)?;
         let alloc = self.host.alloc();
         let listed = match list_from(alloc, &mut reader) {
             Ok(text) => peers_in(alloc, text.as_slice()),
@@ -484,6 +551,7 @@ impl<'a, R: Files + Input + Net + Clock + RandomSource + AllocGlobal, W: Write, 
     }
 
     /// Fetches metadata from peers, and returns the exit status.
+    #[inline(never)]
     fn fetch(&mut self, job: &FetchJob) -> u8
         requires { IsWish job.now.wish }
     {
@@ -497,6 +565,7 @@ impl<'a, R: Files + Input + Net + Clock + RandomSource + AllocGlobal, W: Write, 
     }
 
     /// Serves metadata to peers, and returns the exit status.
+    #[inline(never)]
     fn serve(&mut self, job: &ServeJob) -> u8
         requires { HasLoopLimit job.now.limit }
     {

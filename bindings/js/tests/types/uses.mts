@@ -1,5 +1,5 @@
 // Right uses of the package, and wrong ones after @ts-expect-error: `tsc` has to find each of these.
-import { Columns, FAST, Id, Item, Kind, load, Reason, Refused } from 'bt-peer-wire';
+import { Columns, FAST, Id, Item, Kind, load, Reason, Refused, Verdict } from 'bt-peer-wire';
 import { End, Event, fetch, FetchError } from 'bt-peer-wire/end';
 
 const bt = await load(), hash = new Uint8Array(20);
@@ -15,6 +15,12 @@ for (const item of bt.read(hash, { strict: true, pieces: null, reserved: FAST })
 const columns: Columns = bt.columns(hash), ids: Uint16Array = columns.id, refused: Refused | null = columns.refused;
 const reason: Reason | undefined = refused?.reason, kind: number = Kind.EXT_RAW;
 const whole: number = bt.check(new ArrayBuffer(68)), feed = bt.feed({ limit: 32768 }), first: Item | undefined = feed.push(hash).next().value;
+const verdict: Verdict = bt.verdict(hash), line: string | undefined = first?.jsonLine(), offset: number | undefined = first?.toJSON().offset;
+if (verdict.verdict === 'ok') console.log(verdict.messages, verdict.bytes);
+else console.log(verdict.message, verdict.offset, verdict.reason, refused?.toJSON().message, refused?.jsonLine());
+// @ts-expect-error: a verdict that isn't known to be `ok` has no number of messages
+verdict.messages;
+const byPath = await load('bt.wasm'), byUrl = await load(new URL('bt.node', import.meta.url));
 const writer = bt.writer({ metadataId: 3 }, FAST), bytes: Uint8Array = writer.message(Id.HAVE, { index: 3 });
 writer.metadataData(0, 2n, writer.have(3));
 // @ts-expect-error: no such reason

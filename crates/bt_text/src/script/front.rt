@@ -1,9 +1,11 @@
-//! The line in front of a text, if it is one of `have`, `request`, `cancel` or `reject`, read and encoded in one pass.
+//! The line in front of a text, if it is one of `have`, `request`, `cancel` or `reject`, or of a message without fields, read and encoded
+//! in one pass.
 //!
 //! It may give up on any line: [`append_front`](crate::script::reading::append_front) goes on.
-ghost use Rattle.std.specs.Prelude.{◌≡◌, ◌<◌, ◌^◌, ◌++◌, ◌∷◌, None, IfOk, IfSome};
+ghost use Rattle.std.specs.Prelude.{◌≡◌, ◌<◌, ◌^◌, ◌++◌, ◌∷◌, [], None, IfOk, IfSome};
+ghost use Rattle.bt_text.specs.Script.{framed_by};
 ghost use Rattle.std.specs.Fmt.{decimal};
-ghost use Rattle.bt_text.specs.Fronts.{IsShortLine, AddsIndex, HasPart, AddsPart};
+ghost use Rattle.bt_text.specs.Fronts.{IsShortLine, AddsBare, AddsIndex, HasPart, AddsPart};
 
 use crate::script::numbers::leading_number;
 use crate::script::reading::push_begin;
@@ -28,6 +30,33 @@ fn number_until(text: &[u8], stop: u8) -> Option<(u32, &[u8])>
     match rest.split_first() {
         Some((byte, rest)) if *byte == stop => Some((n, rest)),
         _ => None,
+    }
+}
+
+/// Appends the message of an id that has no fields.
+#[inline(never)]
+fn append_id<'a>(id: u8, rest: &'a [u8], out: &mut Vec<u8>) -> Result<Option<&'a [u8]>, AllocError>
+    ensures none { IfOk result (λ found. found ≡ None → out.new.items ≡ out.old.items) }
+    ensures added { IfOk result (λ found. IfSome found (λ after. (after.now ≡ rest.now) × (out.new.items ≡ out.old.items ++ framed_by id []))) }
+{
+    push_begin(id, b"", 0, out)?;
+    Ok(Some(rest))
+}
+
+/// Appends the message of an id that has no fields, if the text begins with its line.
+#[inline(always)]
+fn append_bare<'a, const N: usize>(
+    id: u8,
+    line: &[u8; N],
+    text: &'a [u8],
+    out: &mut Vec<u8>,
+) -> Result<Option<&'a [u8]>, AllocError>
+    ensures none { IfOk result (λ found. found ≡ None → out.new.items ≡ out.old.items) }
+    ensures added { IfOk result (λ found. IfSome found (λ rest. AddsBare id line.now text.now rest.now out.old.items out.new.items)) }
+{
+    match after(text, line) {
+        Some(rest) => append_id(id, rest, out),
+        None => Ok(None),
     }
 }
 
@@ -81,7 +110,51 @@ fn append_part<'a>(
     Ok(Some(rest))
 }
 
-/// Does what [`append_numbers`] does for `request` and `reject`.
+/// Does what [`append_short`] does for `unchoke`, `interested`, `not-interested` and `keep-alive`.
+#[inline(never)]
+fn append_state<'a>(text: &'a [u8], out: &mut Vec<u8>) -> Result<Option<&'a [u8]>, AllocError>
+    ensures none { IfOk result (λ found. found ≡ None → out.new.items ≡ out.old.items) }
+    ensures added { IfOk result (λ found. IfSome found (λ rest. IsShortLine text.now rest.now out.old.items out.new.items)) }
+{
+    match text.first() {
+        Some(b'u') => append_bare(1, b"unchoke\n", text, out),
+        Some(b'i') => append_bare(2, b"interested\n", text, out),
+        Some(b'n') => append_bare(3, b"not-interested\n", text, out),
+        _ => match after(text, b"keep-alive\n") {
+            Some(rest) => {
+                out.extend_from_slice(&[0; 4])?;
+                Ok(Some(rest))
+            }
+            None => Ok(None),
+        },
+    }
+}
+
+/// Does what [`append_short`] does for `have-all` and `have-none`.
+#[inline(never)]
+fn append_all<'a>(text: &'a [u8], out: &mut Vec<u8>) -> Result<Option<&'a [u8]>, AllocError>
+    ensures none { IfOk result (λ found. found ≡ None → out.new.items ≡ out.old.items) }
+    ensures added { IfOk result (λ found. IfSome found (λ rest. IsShortLine text.now rest.now out.old.items out.new.items)) }
+{
+    match after(text, b"have-all\n") {
+        Some(rest) => append_id(14, rest, out),
+        None => append_bare(15, b"have-none\n", text, out),
+    }
+}
+
+/// Does what [`append_short`] does for `cancel` and `choke`.
+#[inline(always)]
+fn append_cancel<'a>(text: &'a [u8], out: &mut Vec<u8>) -> Result<Option<&'a [u8]>, AllocError>
+    ensures none { IfOk result (λ found. found ≡ None → out.new.items ≡ out.old.items) }
+    ensures added { IfOk result (λ found. IfSome found (λ rest. IsShortLine text.now rest.now out.old.items out.new.items)) }
+{
+    match after(text, b"cancel ") {
+        Some(rest) => append_part(8, rest, out),
+        None => append_bare(0, b"choke\n", text, out),
+    }
+}
+
+/// Does what [`append_short`] does for `request` and `reject`.
 #[inline(always)]
 fn append_request<'a>(text: &'a [u8], out: &mut Vec<u8>) -> Result<Option<&'a [u8]>, AllocError>
     ensures none { IfOk result (λ found. found ≡ None → out.new.items ≡ out.old.items) }
@@ -96,11 +169,12 @@ fn append_request<'a>(text: &'a [u8], out: &mut Vec<u8>) -> Result<Option<&'a [u
     }
 }
 
-/// Appends the bytes of the line in front, if it is `have`, `request`, `cancel` or `reject`; returns what follows it.
+/// Appends the bytes of the line in front, if it is `have`, `request`, `cancel` or `reject`, or of a message without fields; returns what
+/// follows it.
 ///
 /// The line isn't the first of its script. `None` promises nothing, and `out` is then unchanged.
 #[inline(always)]
-pub(super) fn append_numbers<'a>(
+pub(super) fn append_short<'a>(
     text: &'a [u8],
     out: &mut Vec<u8>,
 ) -> Result<Option<&'a [u8]>, AllocError>
@@ -111,13 +185,11 @@ pub(super) fn append_numbers<'a>(
     match text.first() {
         Some(b'h') => match after(text, b"have ") {
             Some(rest) => append_index(4, rest, out),
-            None => Ok(None),
+            None => append_all(text, out),
         },
         Some(b'r') => append_request(text, out),
-        Some(b'c') => match after(text, b"cancel ") {
-            Some(rest) => append_part(8, rest, out),
-            None => Ok(None),
-        },
+        Some(b'c') => append_cancel(text, out),
+        Some(b'u' | b'i' | b'n' | b'k') => append_state(text, out),
         _ => Ok(None),
     }
 }

@@ -22,7 +22,7 @@ ghost use Rattle.bt_text.specs.ScriptReading.{
   Adds,
 };
 
-use crate::script::front::append_numbers;
+use crate::script::front::append_short;
 pub use crate::script::numbers::plain_number;
 use crate::script::numbers::{is, number_following, split_word, three_numbers, two_numbers};
 use crate::splitting::split_line;
@@ -399,7 +399,7 @@ pub fn append_front<'a>(
     ensures { IfOk result (IsFront first limit text.now out.old.items out.new.items) }
 {
     if !first {
-        if let Some(rest) = append_numbers(text, out)? {
+        if let Some(rest) = append_short(text, out)? {
             return Ok(LineFront::Line(rest));
         }
     }

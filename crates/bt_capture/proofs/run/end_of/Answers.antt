@@ -29,6 +29,7 @@ returns c o seen before now i empty ended added =
       calm = added.1 ∙ known.tells.calm;
       torrents = c.torrents.ensures o.target before (reports_of fs) written known.tells;
       refused = c.is_refused.ensures o.target before (reports_of fs) written known.tells;
+      partial = c.is_partial.ensures o.target before (reports_of fs) written known.tells;
       lost = ap (λ (l : Losses). l.memory) known.lost;
       unread = ap (λ (l : Losses). l.crowd) known.lost;
       early = ap (λ (l : Losses). l.early) known.lost;

@@ -19,8 +19,9 @@ pub returns-clause-log : goal.returns-clause-log
 returns-clause-log g c =
     let start = g.D.Device.log c.args.device.now in
     let q = c.fetch_at-fetched.new.queue in
-    course_logged c.args.addresses q.next q.again.items start (g.D.Device.log c.leave_all.new.device) (stage_when c.fetch_at-fetched.result)
+    course_logged c.args.addresses q.next q.again.items start (g.D.Device.log c.leave_dials.new.device) (stage_when c.fetch_at-fetched.result)
     c.write_out-written.result (omega (arith, q.again.ok.0, c.fetch_at-fetched.ensures.len, c.in_ok-queue.ensures.len)) (omega (arith, q.within, q.again.ok.0))
     (λ e. omega (arith, c.fetch_at-fetched.ensures.all (c.write_out-written.ensures.missing e), q.again.ok.0)) c.write_out-written.ensures.stage
+    (c.leave_dials.ensures.log (stage_when c.fetch_at-fetched.result) start (dials_of q.next q.again.items)
     (c.leave_all.ensures.log (stage_when c.fetch_at-fetched.result) start (dials_of q.next q.again.items)
-    (c.fetch_at-fetched.ensures.log start (course_first start (dials_of c.in_ok-queue.queue.next c.in_ok-queue.queue.again.items) c.in_ok-queue.ensures.none)))
+    (c.fetch_at-fetched.ensures.log start (course_first start (dials_of c.in_ok-queue.queue.next c.in_ok-queue.queue.again.items) c.in_ok-queue.ensures.none))))

@@ -1,6 +1,6 @@
-use Rattle.std.proofs.Common.{◌++◌, ◌∙◌, List, ℕ, ap, append_assoc, arith, length, sym, take}
+use Rattle.std.proofs.Common.{◌++◌, ◌∙◌, List, ℕ, ap, append_assoc, arith, drop, length, length-drop, sym, take}
 use Rattle.std.proofs.lemmas.List.{length-take-le}
-use Rattle.bt_json.proofs.EscapeLaws.{any_err, next_size, plain_and_next, plain_size}
+use Rattle.bt_json.proofs.EscapeLaws.{any_err, few_size, plain_size, run_and_few}
 use Rattle.bt_json.proofs.texts.push_front.Goals as goal
 
 pub returns-in_err-extend_from_slice-clause-full : goal.returns-in_err-extend_from_slice-clause-full
@@ -13,8 +13,9 @@ returns-in_err-extend_from_slice-clause-full c =
 pub returns-in_err-extend_from_slice-2-clause-full : goal.returns-in_err-extend_from_slice-2-clause-full
 returns-in_err-extend_from_slice-2-clause-full c =
     let run = c.plain_run-run in
-    let size = next_size c.args.bytes.now run.result (omega arith) run.ensures.plain in
-    let same = ap length c.escape_of-size.ensures.value in
+    let put = c.put_few-taken in
+    let size = few_size c.args.bytes.now run.result put.result.0 run.ensures.within run.ensures.plain in
+    let same = ap length put.ensures.text in
     let more = c.in_ok-extend_from_slice.ensures in
     let long = length-take-le run.result c.args.bytes.now run.ensures.within in
     any_err c.from_residual-in_err-extend_from_slice-2.result
@@ -23,11 +24,12 @@ returns-in_err-extend_from_slice-2-clause-full c =
 pub returns-clause-taken : goal.returns-clause-taken
 returns-clause-taken c =
     let run = c.plain_run-run in
-    let next = plain_and_next c.args.bytes.now run.result (omega arith) run.ensures.plain in
+    let put = c.put_few-taken in
+    let next = run_and_few c.args.bytes.now run.result put.result.0 run.ensures.within run.ensures.plain in
     let old = c.args.lines.now.items in (
-      omega arith,
-      omega arith,
-      c.in_ok-extend_from_slice-2.ensures.items ∙ ap (λ (l : List ℕ). l ++ take c.escape_of-size.result.1 c.escape_of-size.result.0) c.in_ok-extend_from_slice.ensures.items
-          ∙ append_assoc old _ _ ∙ ap (λ (l : List ℕ). old ++ (take run.result c.args.bytes.now ++ l)) c.escape_of-size.ensures.value
+      omega (arith, put.ensures.taken.0),
+      omega (arith, put.ensures.taken.1, length-drop run.result c.args.bytes.now, run.ensures.within),
+      c.in_ok-extend_from_slice-2.ensures.items ∙ ap (λ (l : List ℕ). l ++ take put.result.1 put.new.text) c.in_ok-extend_from_slice.ensures.items
+          ∙ append_assoc old _ _ ∙ ap (λ (l : List ℕ). old ++ (take run.result c.args.bytes.now ++ l)) put.ensures.text
           ∙ ap (λ (l : List ℕ). old ++ l) (sym next),
     )

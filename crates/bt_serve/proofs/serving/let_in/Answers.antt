@@ -1,11 +1,10 @@
-use Rattle.std.proofs.Common.{false, refl, rules}
-use Rattle.bt_exchange.proofs.Lists.{added_on, added_one, added_same}
+use Rattle.std.proofs.Common.{refl, rules}
 use Rattle.bt_serve.proofs.Doors.{more_after}
+use Rattle.bt_serve.proofs.LastTold.{of_after}
 use Rattle.bt_serve.proofs.serving.let_in.Goals as goal
 
 pub returns-then-is_err-clause-unserved : goal.returns-then-is_err-clause-unserved
-returns-then-is_err-clause-unserved g c = added_on _ _ _ _ _ (added_same _ _ _ c.enter.ensures.told)
-    (added_one _ _ _ _ false c.ended-then-is_err.ensures.told refl)
+returns-then-is_err-clause-unserved g c = of_after _ _ _ _ _ c.enter.ensures.told c.ended-then-is_err.ensures.told refl
 
 pub returns-then-is_err-clause-left : goal.returns-then-is_err-clause-left
 returns-then-is_err-clause-left g c =

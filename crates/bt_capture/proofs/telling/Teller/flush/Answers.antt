@@ -12,8 +12,13 @@ returns-in-Ok-clause-written g c start reports written t =
     let calm : after.failed ≡ before.failed = search rules in
     let empty : c.clear.new.self.items ≡ [] = search rules in
     let old = c.args.self.now in
-    all_written start before after old (record { text = c.clear.new.self; form = old.form; torrents = old.torrents; is_refused = old.is_refused }) reports
-    written held calm empty refl refl refl t
+    all_written start before after old (record {
+      text = c.clear.new.self;
+      form = old.form;
+      torrents = old.torrents;
+      is_refused = old.is_refused;
+      is_partial = old.is_partial;
+    }) reports written held calm empty refl refl refl refl t
 
 pub returns-in-Err-clause-stopped : goal.returns-in-Err-clause-stopped
 returns-in-Err-clause-stopped g c start reports written t =

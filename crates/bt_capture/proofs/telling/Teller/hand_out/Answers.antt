@@ -8,4 +8,4 @@ returns-clause-told c start now reports written t =
     let old = c.args.self.now in
     let wants : is_some (wanted_by old.form c.args.number) ≡ true = search rules in
     let stream : is_stream old.form ≡ true = wants_stream c.args.number old.form.stream wants in
-    bytes_more start now old _ reports written c.sent.result.now stream c.in_ok-extend_from_slice.ensures.items refl refl refl t
+    bytes_more start now old _ reports written c.sent.result.now stream c.in_ok-extend_from_slice.ensures.items refl refl refl refl t

@@ -1,7 +1,7 @@
 use Rattle.std.proofs.Common.{◌≡◌, ℕ, ◌+◌, ◌-◌, List, [], ◌++◌, length, length-append, append-nil, take, drop, refl, sym, ap, ◌∙◌, arith, subst}
 use Rattle.std.proofs.lemmas.Grind.{common_steps}
 use Rattle.bt_tcp.specs.History.{IsHistory}
-use Rattle.bt_flow.specs.Memory.{next_of, seen}
+use Rattle.bt_flow.specs.Wide.{next_of, seen}
 use Rattle.bt_flow.specs.Views.{Takes}
 use Rattle.bt_flow.proofs.Streams.{advance, advance_lost}
 use Rattle.bt_flow.proofs.stream.Stream.go_on.Goals as goal
