@@ -100,13 +100,6 @@ impl<'a, R: Clock, S, E: Target> Shown<'a, R, S, E> {
         }
     }
 
-    /// Returns the file, as it was read.
-    pub fn into_source(self) -> S
-        ensures { result ≡ source_of self.entry }
-    {
-        self.source
-    }
-
     /// Draws the line again, if it wasn't drawn just now.
     fn show(&mut self)
         ensures { source_of self.new ≡ source_of self.old }

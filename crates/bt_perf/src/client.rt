@@ -89,7 +89,7 @@ fn take_copies(
         match item {
             Ok((at, item)) => {
                 digest.add(at);
-                add_item(&item, digest);
+                add_item(alloc, &item, digest);
             }
             Err(ItemError::Refused(refusal)) => return Err(Stopped::Refused(refusal)),
             Err(ItemError::Memory) => return Err(Stopped::Memory),

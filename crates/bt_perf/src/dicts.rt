@@ -80,6 +80,15 @@ pub fn put_pairs(dict: &mut Draft, count: u32, end: &[u8], draw: &mut Draw) {
     dict.put(end);
 }
 
+/// Appends `count` pairs of 11 bytes in front of the end of a dictionary.
+pub fn put_short_pairs(dict: &mut Draft, count: u32, end: &[u8]) {
+    dict.put(b"d");
+    for k in 0..count {
+        dict.put_form(&[b"6:", b"i5e"], &[k.saturating_add(100_000)]);
+    }
+    dict.put(end);
+}
+
 /// Appends a handshake's dictionary whose lists and dictionaries nest 31 deep, with pairs at each depth.
 pub fn put_nested(dict: &mut Draft, draw: &mut Draw) {
     dict.put(b"d");

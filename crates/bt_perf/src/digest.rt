@@ -4,6 +4,8 @@
 #[derive(Clone, Copy)]
 pub struct Digest {
     pub messages: u64,
+    /// Whether all bytes of blocks and of dictionaries are added. Once is enough, and each time would cost more than to read them.
+    pub is_whole: bool,
     state: u64,
 }
 
@@ -12,6 +14,7 @@ impl Digest {
     pub fn new() -> Digest {
         Digest {
             messages: 0,
+            is_whole: true,
             state: 0,
         }
     }

@@ -1,7 +1,7 @@
-//! Streams of 1 MiB that end in a fault, as a hostile peer sends them again and again.
+//! Streams of up to 1 MiB that end in a fault, as a hostile peer sends them again and again, and a long legal one.
 
 use crate::commands::{Command, Reading, read_all};
-use crate::dicts::put_pairs;
+use crate::dicts::{put_pairs, put_short_pairs};
 use crate::digest::Digest;
 use crate::draft::Draft;
 use crate::draw::Draw;
@@ -13,6 +13,18 @@ use std::alloc::Global;
 
 /// How many pairs a dictionary of nearly 1 MiB has.
 const PAIRS: u32 = 69_000;
+
+/// How many pairs the dictionaries of at most 128 KiB have.
+const SHORT: [u32; 3] = [20, 1_000, 9_000];
+
+/// How many pairs a legal dictionary of more than 128 KiB has.
+const LEGAL: u32 = 13_000;
+
+/// How a stream is read that both rule sets accept.
+const WHOLE: [Reading; 2] = [
+    Reading(Command::Check, Rules::Bep, Receiver::Patient, false),
+    Reading(Command::Check, Rules::Free, Receiver::Patient, false),
+];
 
 /// How a stream is read that both rule sets refuse.
 const BROKEN: [Reading; 2] = [
@@ -26,7 +38,7 @@ const UNSORTED: [Reading; 2] = [
     Reading(Command::Check, Rules::Free, Receiver::Patient, false),
 ];
 
-/// The streams: an extended handshake each, whose dictionary has a fault at its end.
+/// The streams: an extended handshake each, whose dictionary has a fault at its end but for one.
 #[derive(Drop)]
 pub struct Flawed {
     /// The dictionary doesn't end.
@@ -37,6 +49,10 @@ pub struct Flawed {
     unsorted: Draft,
     /// That dictionary as the innermost of 31.
     deep: Draft,
+    /// Some of at most 128 KiB, whose last byte can't be part of a dictionary.
+    short: [Draft; 3],
+    /// A legal one.
+    legal: Draft,
 }
 
 /// Returns a stream of an extended handshake with this dictionary, and `depth` around it.
@@ -62,6 +78,13 @@ fn pairs(alloc: Global, end: &[u8], draw: &mut Draw) -> Draft {
     dict
 }
 
+/// Returns a stream of a dictionary with so many pairs of 11 bytes, and then these bytes.
+fn short_pairs(alloc: Global, count: u32, end: &[u8], draw: &mut Draw) -> Draft {
+    let mut dict = Draft::new(alloc);
+    put_short_pairs(&mut dict, count, end);
+    stream(alloc, &dict, 0, draw)
+}
+
 impl Flawed {
     /// Makes the streams.
     pub fn new(alloc: Global, seed: u32) -> Flawed {
@@ -74,6 +97,8 @@ impl Flawed {
             wrong: stream(alloc, &wrong, 0, &mut draw),
             unsorted: stream(alloc, &unsorted, 0, &mut draw),
             deep: stream(alloc, &unsorted, 30, &mut draw),
+            short: SHORT.map(|count| short_pairs(alloc, count, b"x", &mut draw)),
+            legal: short_pairs(alloc, LEGAL, b"e", &mut draw),
         }
     }
 }
@@ -86,5 +111,9 @@ pub fn refuse_all(alloc: Global, flawed: &Flawed, digest: &mut Digest) -> Result
     read_all(alloc, flawed.cut.whole()?, &BROKEN, digest)?;
     read_all(alloc, flawed.wrong.whole()?, &BROKEN, digest)?;
     read_all(alloc, flawed.unsorted.whole()?, &UNSORTED, digest)?;
-    read_all(alloc, flawed.deep.whole()?, &UNSORTED, digest)
+    read_all(alloc, flawed.deep.whole()?, &UNSORTED, digest)?;
+    for short in &flawed.short {
+        read_all(alloc, short.whole()?, &BROKEN, digest)?;
+    }
+    read_all(alloc, flawed.legal.whole()?, &WHOLE, digest)
 }

@@ -1,14 +1,18 @@
-//! What a digest has of an item: its id and all its fields, of bytes their number and both ends.
+//! What a digest has of an item: its id and all its fields, of bytes their number and both ends, in the first round all of them.
 
 use crate::digest::Digest;
-use bt_bencode::ben_len;
+use bt_bencode::{Value, ben_len, spell};
 use bt_ext::{Ext, ExtView};
 use bt_feed::View;
 use bt_wire::{Fields, Handshake, Item, Message, MessageView};
+use std::alloc::Global;
 
-/// Adds bytes: how many they are, the first eight and the last eight.
+/// Adds bytes: how many they are, the first eight and the last eight; or all.
 #[inline(always)]
 fn add_ends(bytes: &[u8], digest: &mut Digest) {
+    if digest.is_whole {
+        return digest.add_bytes(bytes);
+    }
     digest.add(bytes.len() as u64);
     if let Some(first) = bytes.first_chunk::<8>() {
         digest.add(u64::from_le_bytes(*first));
@@ -133,11 +137,21 @@ fn add_fields(fields: &Fields, digest: &mut Digest) {
     }
 }
 
+/// Adds the copy of a dictionary: how long it is, or all of it.
+fn add_dict(alloc: Global, dict: &Value, digest: &mut Digest) {
+    digest.add(ben_len(dict));
+    if digest.is_whole
+        && let Ok(bytes) = spell(alloc, dict)
+    {
+        digest.add_bytes(bytes.as_slice());
+    }
+}
+
 /// Adds the copy of an extended payload.
-fn add_ext_copy(ext: &Ext, digest: &mut Digest) {
+fn add_ext_copy(alloc: Global, ext: &Ext, digest: &mut Digest) {
     match ext {
         Ext::Handshake { dict, rest } | Ext::Metadata { dict, rest } => {
-            digest.add(ben_len(dict));
+            add_dict(alloc, dict, digest);
             add_ends(rest.as_slice(), digest);
         }
         Ext::DontHave(index) => digest.add(u64::from(*index)),
@@ -149,10 +163,10 @@ fn add_ext_copy(ext: &Ext, digest: &mut Digest) {
 }
 
 /// Adds an item's copy.
-pub fn add_item(item: &Item, digest: &mut Digest) {
+pub fn add_item(alloc: Global, item: &Item, digest: &mut Digest) {
     match item {
         Item::Handshake(handshake) => add_handshake(handshake, digest),
-        Item::Message(Message::Extended(ext)) => add_ext_copy(ext, digest),
+        Item::Message(Message::Extended(ext)) => add_ext_copy(alloc, ext, digest),
         Item::Message(message) => {
             digest.add(u64::from(message.id().unwrap_or(255)));
             if let Some(fields) = message.fields() {

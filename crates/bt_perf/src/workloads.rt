@@ -128,6 +128,7 @@ impl Job {
         let mut streams = Streams::new(self.alloc, self.seed, parts)?;
         for _round in 0..self.rounds {
             self.round(workload, streams.next().whole()?)?;
+            self.digest.is_whole = false;
         }
         Ok(())
     }
