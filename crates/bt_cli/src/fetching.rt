@@ -10,7 +10,7 @@ use crate::fetch::FetchJob;
 use crate::report::{Form, Lines, NO_TRY, Tally, counted, say_end};
 use bt_feed::Target;
 use bt_fetch::{DIALS, Ending, FetchError, Outcome, TcpSwarm, fetch};
-use bt_magnet::Passed;
+use bt_magnet::Magnet;
 use bt_run::ending::end_by_fault;
 use bt_run::run::say;
 use bt_text::ended::ToolFault;
@@ -42,7 +42,7 @@ pub fn drawn_peer_id<R: RandomSource>(random: &R) -> [u8; 20] {
 }
 
 /// Says what of a link isn't used.
-fn say_passed<E: Target>(form: Form, passed: Passed, errors: &mut E) {
+fn say_passed<E: Target>(form: Form, magnet: &Magnet, errors: &mut E) {
     let (trackers, others): (&[u8], &[u8]) = match form {
         Form::Json => (
             b"{\"note\":\"trackers aren't asked\"}\n",
@@ -53,10 +53,10 @@ fn say_passed<E: Target>(form: Form, passed: Passed, errors: &mut E) {
             b"bt_tool: other keys of the link aren't used\n",
         ),
     };
-    if passed.trackers {
+    if !magnet.trackers.is_empty() {
         say(trackers, errors);
     }
-    if passed.others {
+    if magnet.passed.others {
         say(others, errors);
     }
 }
@@ -166,7 +166,7 @@ pub fn run_fetch<R: Net + Clock + RandomSource, W: Target, E: Target>(
     wish.peer_id = drawn_peer_id(rt);
     let begun = seconds_of(rt);
     let form = form_of(job.json, is_terminal);
-    say_passed(form, job.magnet.passed, errors);
+    say_passed(form, &job.magnet, errors);
     let Ok((targets, tally)) = targets_of(rt, alloc, form, job, listed, errors) else {
         return Err(FetchError::Memory);
     };

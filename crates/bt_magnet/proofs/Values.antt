@@ -2,13 +2,15 @@
 use Rattle.std.proofs.Common.{◌≡◌, ℕ, Bool, true, false, List, [], ◌∷◌, ◌++◌, ◌+◌, ◌<◌, length, map, drop, get_or, codes, ap, sym, ◌∙◌, refl, Some}
 use Rattle.std.proofs.Common.{add-one, drop-cons, arith}
 use Rattle.std.proofs.lemmas.Grind.{common_steps}
+use Rattle.std.proofs.lemmas.List.{map-append}
 use Rattle.std.proofs.lemmas.Option.{slice_get-get_or}
 use Rattle.std.proofs.Math.Nat.{add-sub_cancel}
 use Rattle.std.specs.Prelude.{Any}
+use Rattle.std.specs.Str.Lossy.{utf8_lossy}
 use Rattle.bt_magnet.specs.declared.link.MagnetError.{MagnetError}
 use Rattle.bt_magnet.specs.declared.link.MagnetError.TheVariants as errors
 use Rattle.bt_magnet.specs.declared.pairs.Pair.{Pair}
-use Rattle.bt_magnet.specs.Links.{has_key, pair_of, values_of, IsNoPeer, IsPeerError, IsUnsaid}
+use Rattle.bt_magnet.specs.Links.{has_key, pair_of, trackers_in, values_of, IsNoPeer, IsPeerError, IsUnsaid}
 use Rattle.bt_magnet.specs.Lists.{entries_of, entry_of, has_text, IsWrongLine}
 use Rattle.bt_magnet.specs.Peers.{IsPeer}
 
@@ -45,6 +47,17 @@ pub values_at : (key : List ℕ) (pairs : List Pair) (i : ℕ) (p : Pair) (front
 values_at key pairs i p front l is h =
     let cut : drop i pairs ≡ p ∷ drop (i + 1) pairs = grind (arith, common_steps) in
     h ∙ ap (λ x. front ++ values_of key (map pair_of x)) cut ∙ ap (λ x. front ++ x) (values_split key (pair_of p) (map pair_of (drop (i + 1) pairs)))
+
+trackers_split : (p : List ℕ × List ℕ) (ps : List (List ℕ × List ℕ)) → trackers_in (p ∷ ps) ≡ trackers_in (p ∷ []) ++ trackers_in ps
+trackers_split p ps = ap (map utf8_lossy) (values_split (codes "tr") p ps) ∙ map-append utf8_lossy (values_of (codes "tr") (p ∷ [])) (values_of (codes "tr") ps)
+
+-- likewise of the trackers
+pub trackers_at : (pairs : List Pair) (i : ℕ) (p : Pair) (front : List (List ℕ)) → i < length pairs → p ≡ get_or pairs i p
+    → trackers_in (map pair_of pairs) ≡ front ++ trackers_in (map pair_of (drop i pairs))
+    → trackers_in (map pair_of pairs) ≡ front ++ (trackers_in (pair_of p ∷ []) ++ trackers_in (map pair_of (drop (i + 1) pairs)))
+trackers_at pairs i p front l is h =
+    let cut : drop i pairs ≡ p ∷ drop (i + 1) pairs = grind (arith, common_steps) in
+    h ∙ ap (λ x. front ++ trackers_in (map pair_of x)) cut ∙ ap (λ x. front ++ x) (trackers_split (pair_of p) (map pair_of (drop (i + 1) pairs)))
 
 -- one more line after those in front of it
 pub entries_at : (ls : List (List ℕ)) (i : ℕ) (l : List ℕ) (front : List (List ℕ)) → i < length ls → l ≡ get_or ls i []

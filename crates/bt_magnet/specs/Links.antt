@@ -4,6 +4,7 @@ use Rattle.std.specs.Prelude.{if◌then◌else◌, string_bytes, All, Any, Match
 use Rattle.std.specs.Char.{to_ascii_lowercase}
 use Rattle.std.specs.List.{list_any}
 use Rattle.std.specs.Str.{bytes_eq}
+use Rattle.std.specs.Str.Lossy.{utf8_lossy}
 use Rattle.percent_encoding.specs.Percent.{percent_decode}
 use Rattle.form_urlencoded.specs.Form.{raw_pairs}
 use Rattle.bt_magnet.specs.Hashes.{hash_of}
@@ -56,17 +57,22 @@ hash_in pairs = option_and_then hash_of (first_topic pairs)
 abbrev pub is_other : List ℕ × List ℕ → Bool
 is_other p = not (has_key (codes "xt") p || (has_key (codes "x.pe") p || (has_key (codes "tr") p || has_key (codes "dn") p)))
 
+-- the trackers of a link, in order: the values of `tr` as text, in which U+FFFD stands for what isn't UTF-8
+abbrev pub trackers_in : List (List ℕ × List ℕ) → List (List ℕ)
+trackers_in pairs = map utf8_lossy (values_of (codes "tr") pairs)
+
 -- what the pairs of a link say
 pub record IsSaid (pairs : List (List ℕ × List ℕ)) (m : Magnet) : Type 0 where
   pub hash : hash_in pairs ≡ Some m.info_hash
   pub peers : map string_bytes m.peers.items ≡ values_of (codes "x.pe") pairs
   pub are_peers : All IsPeer (values_of (codes "x.pe") pairs)
-  pub trackers : m.passed.trackers ≡ list_any (has_key (codes "tr")) pairs
+  pub trackers : map string_bytes m.trackers.items ≡ trackers_in pairs
   pub others : m.passed.others ≡ list_any is_other pairs
 
--- a link has an info hash and peers; a text that is no link is an info hash alone
+-- a link has an info hash, peers and trackers; a text that is no link is an info hash alone
 abbrev pub IsMagnet : List ℕ → Magnet → Type 0
-IsMagnet t m = MatchOption (query_of t) ((hash_of t ≡ Some m.info_hash) × (m.peers.items ≡ [])) (λ query. IsSaid (pairs_of query) m)
+IsMagnet t m =
+    MatchOption (query_of t) ((hash_of t ≡ Some m.info_hash) × (m.peers.items ≡ []) × (m.trackers.items ≡ [])) (λ query. IsSaid (pairs_of query) m)
 
 -- ---- errors
 

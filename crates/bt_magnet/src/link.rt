@@ -3,7 +3,7 @@ ghost use Rattle.std.specs.Prelude.{◌≡◌, ◌++◌, ◌∷◌, [], All, IfE
 ghost use Rattle.std.specs.Char.{to_ascii_lowercase};
 ghost use Rattle.std.specs.List.{list_any};
 ghost use Rattle.bt_magnet.specs.Links.{IsMagnet, IsNone, IsPeerError, IsUnsaid, has_key as has_key_by_rule, hash_in, is_other as is_other_by_rule};
-ghost use Rattle.bt_magnet.specs.Links.{after_word as after_word_by_rule, pair_of, topic_of, values_of};
+ghost use Rattle.bt_magnet.specs.Links.{after_word as after_word_by_rule, pair_of, topic_of, trackers_in, values_of};
 ghost use Rattle.bt_magnet.specs.Peers.{IsPeer};
 
 use crate::hash::info_hash_of;
@@ -22,8 +22,6 @@ const TOPIC: &[u8] = b"urn:btih:";
 /// What a link has that a fetch doesn't use.
 #[derive(Clone, Copy, PartialEq, Eq, Debug)]
 pub struct Passed {
-    /// Trackers: `tr`.
-    pub trackers: bool,
     /// Keys other than `xt`, `x.pe`, `tr` and `dn`.
     pub others: bool,
 }
@@ -34,6 +32,10 @@ pub struct Magnet {
     pub info_hash: [u8; 20],
     /// Its peers, in order: IP:PORT, [IPv6]:PORT or HOST:PORT.
     pub peers: Vec<String>,
+    /// Its trackers, in order: each `tr`, decoded, with U+FFFD for what isn't UTF-8.
+    ///
+    /// Whether they are URLs isn't looked at.
+    pub trackers: Vec<String>,
     pub passed: Passed,
 }
 
@@ -162,16 +164,27 @@ fn peers_of(alloc: Global, pairs: &[Pair]) -> Result<Vec<String>, MagnetError>
     Ok(peers)
 }
 
-/// Returns whether a pair has the key of a tracker.
-fn has_tracker(pairs: &[Pair]) -> bool
-    ensures { result ≡ list_any (has_key_by_rule (codes "tr")) (map pair_of pairs.now) }
+/// Adds the tracker of a pair, if it has that key.
+fn add_tracker_of(alloc: Global, pair: &Pair, trackers: &mut Vec<String>) -> Result<(), AllocError>
+    ensures { OnOk result (map string_bytes trackers.new.items ≡ map string_bytes trackers.old.items ++ trackers_in (pair_of pair.now ∷ [])) }
 {
-    for pair in pairs {
-        if has_key(pair, b"tr") {
-            return true;
-        }
+    if !has_key(pair, b"tr") {
+        return Ok(());
     }
-    false
+    let text = String::from_utf8_lossy(alloc, pair.value.as_slice())?;
+    trackers.push(text)?;
+    Ok(())
+}
+
+/// Returns the trackers of a link.
+fn trackers_of(alloc: Global, pairs: &[Pair]) -> Result<Vec<String>, AllocError>
+    ensures { IfOk result (λ trackers. map string_bytes trackers.items ≡ trackers_in (map pair_of pairs.now)) }
+{
+    let mut trackers = Vec::new(alloc);
+    for pair in pairs {
+        add_tracker_of(alloc, pair, &mut trackers)?;
+    }
+    Ok(trackers)
 }
 
 /// Returns whether a pair has a key that isn't used.
@@ -199,10 +212,8 @@ pub fn read_magnet(alloc: Global, text: &str) -> Result<Magnet, MagnetError>
             Some(info_hash) => Ok(Magnet {
                 info_hash,
                 peers: Vec::new(alloc),
-                passed: Passed {
-                    trackers: false,
-                    others: false,
-                },
+                trackers: Vec::new(alloc),
+                passed: Passed { others: false },
             }),
             None => Err(MagnetError::NoDigits),
         };
@@ -213,11 +224,12 @@ pub fn read_magnet(alloc: Global, text: &str) -> Result<Magnet, MagnetError>
         Ok(peers) => peers,
         Err(error) => return Err(error),
     };
+    let trackers = trackers_of(alloc, pairs.as_slice())?;
     Ok(Magnet {
         info_hash,
         peers,
+        trackers,
         passed: Passed {
-            trackers: has_tracker(pairs.as_slice()),
             others: has_other(pairs.as_slice()),
         },
     })
