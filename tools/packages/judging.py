@@ -15,8 +15,6 @@ FUNCTION = re.compile(r"( *)(?:pub(?:\([^)]*\))? )?(?:const )?(?:unsafe )?(?:ext
 IMPL = re.compile(r"impl(?:<.*?>)? (?:(?P<trait>[\w:]+)(?:<(?P<words>[^>]*)>)? for )?(?P<type>\w+)")
 # The checks that run now.
 RUNNING = set()
-# Of a crate with more mutants than this some are tried beside one another.
-MOST_IN_A_ROW = 60
 
 
 class Fault(Exception):
@@ -113,8 +111,10 @@ class Edit:
 
 
 class Crate:
+    """A crate and its mutants. The prover is called with `words`; `keep` gets the sums of those that were refused, as soon as they are."""
+
     def __init__(self, name, edits):
-        self.name, self.folder, self.edits, self.words = name, CRATES / name, edits, []
+        self.name, self.folder, self.edits, self.words, self.keep = name, CRATES / name, edits, [], lambda sums: None
 
     def check(self, room, edits):
         """Checks the functions of these mutants with their bodies in place, and gives what the prover says."""
@@ -175,30 +175,28 @@ class Crate:
         said = self.check(room, group)
         half = len(group) // 2
         if len(group) == 1:
-            found = {group[0]: self.against(group[0], said)}
+            found = self.noted({group[0]: self.against(group[0], said)})
         elif "error[" in said or not re.search(r"^only=", said, re.M):
             # one of them can't be compiled, or the check was cut off
             found = {**self.tried(room, group[:half]), **self.tried(room, group[half:])}
         else:
-            found = {it: "" for it in group if self.is_refused_itself(it, said)}
+            found = self.noted({it: "" for it in group if self.is_refused_itself(it, said)})
             # of a function that calls a refused one the prover may not say more
             others = [it for it in group if it not in found]
             half = len(others) // 2 if len(others) == len(group) else len(others)
             found = {**found, **self.tried(room, others[:half]), **self.tried(room, others[half:])}
         return {**found, **self.tried(room, [it for it in edits if it not in group])}
 
-    def parts(self):
-        """The mutants in as many parts as are tried beside one another. Those of one function stand in a row, so they are spread."""
-        count = -(-len(self.edits) // MOST_IN_A_ROW)
-        return [self.edits[at::count] for at in range(count)]
+    def noted(self, found):
+        """Keeps which of these mutants were refused."""
+        self.keep({edit.sum() for edit, why in found.items() if not why})
+        return found
 
-    def tried_part(self, edits, kept):
-        """Tries these mutants, and keeps which were refused."""
+    def tried_all(self):
+        """Tries the mutants in a row, since what they call is then proved once."""
         with tempfile.TemporaryDirectory() as name:
             room = pathlib.Path(name)
             for part in ("specs", "proofs"):
                 if (self.folder / part).is_dir():
                     shutil.copytree(self.folder / part, room / part)
-            found = self.tried(room, edits)
-        kept.keep(self.kept, {edit.sum() for edit, why in found.items() if not why})
-        return found
+            return self.tried(room, self.edits)
