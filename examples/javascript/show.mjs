@@ -1,11 +1,11 @@
 // Prints the items of a stream as `bt_tool show` does.
 //
-// usage: node bindings/js/examples/show.mjs [FILE..], or <STREAM
+// usage: node examples/javascript/show.mjs [FILE..], or <STREAM
 //
 // The options of `show` are read from the environment: RULES=free or bep, LIMIT, PIECES, INFO_HASH in hex. PIECE is how many bytes are fed
 // at once. With BT_WASM it reads through that WebAssembly, for which Node 20 and 22 need --experimental-wasm-memory64.
 import fs from 'node:fs';
-import { Id, Kind, load, Refused } from '../bt.mjs';
+import { Id, Kind, load, Refused } from '../../bindings/js/bt.mjs';
 
 const { RULES, LIMIT, PIECES, INFO_HASH, PIECE, BT_WASM } = process.env;
 const bt = await load(BT_WASM);

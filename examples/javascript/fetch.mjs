@@ -1,8 +1,8 @@
 // Fetches the metadata of a torrent from a peer, with a socket of its own, and prints each event. bindings/js/end.mjs has this as `fetch`.
 //
-// usage: node bindings/js/examples/fetch.mjs INFO-HASH HOST:PORT >METADATA
+// usage: node examples/javascript/fetch.mjs INFO-HASH HOST:PORT >METADATA
 import net from 'node:net';
-import { End, Event } from '../end.mjs';
+import { End, Event } from '../../bindings/js/end.mjs';
 
 const [digits, address] = process.argv.slice(2), [, host, port] = /^\[?(.*?)\]?:(\d+)$/.exec(address);
 const eventNames = Object.keys(Event);

@@ -1,5 +1,5 @@
-// Prints the messages that a peer sent, as they come. usage: node bindings/js/examples/read.mjs <STREAM
-import { Id, load, Refused } from '../bt.mjs';
+// Prints the messages that a peer sent, as they come. usage: node examples/javascript/read.mjs <STREAM
+import { Id, load, Refused } from '../../bindings/js/bt.mjs';
 
 const bt = await load(), feed = bt.feed();
 

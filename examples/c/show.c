@@ -3,7 +3,7 @@
  * The options of `show` are read from the environment: RULES=free or bep, LIMIT, PIECES, INFO_HASH in hex. PIECE is how many
  * bytes are read at once.
  *
- * build: cc -O2 -I dist/x86_64-linux crates/bt_c/examples/show.c dist/x86_64-linux/libbt.a -o show
+ * build: cc -O2 -I dist/x86_64-linux examples/c/show.c dist/x86_64-linux/libbt.a -o show
  */
 #include "bt.h"
 

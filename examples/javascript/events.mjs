@@ -1,6 +1,6 @@
-// Prints the events of an end that fetches, by what peers sent, and its answers. usage: node bindings/js/examples/events.mjs INFO-HASH FILE..
+// Prints the events of an end that fetches, by what peers sent, and its answers. usage: node examples/javascript/events.mjs INFO-HASH FILE..
 import fs from 'node:fs';
-import { End, Event, Refused } from '../end.mjs';
+import { End, Event, Refused } from '../../bindings/js/end.mjs';
 
 const [digits, ...files] = process.argv.slice(2), CHUNK = Number(process.env.PIECE ?? 65536), eventNames = Object.keys(Event);
 

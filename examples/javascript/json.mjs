@@ -1,8 +1,8 @@
-// Prints the items of streams as `bt_tool show --json` does. usage: node bindings/js/examples/json.mjs [FILE..], or <STREAM
+// Prints the items of streams as `bt_tool show --json` does. usage: node examples/javascript/json.mjs [FILE..], or <STREAM
 //
 // Options are read from the environment: RULES=free or bep, LIMIT, PIECES and DONTHAVE_ID.
 import fs from 'node:fs';
-import { load, Refused } from '../bt.mjs';
+import { load, Refused } from '../../bindings/js/bt.mjs';
 
 const { RULES, LIMIT = 262144, PIECES, DONTHAVE_ID = 0 } = process.env, files = process.argv.slice(2);
 const bt = await load();

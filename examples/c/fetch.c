@@ -3,7 +3,7 @@
  * It ends within SECONDS, 1 to 86400, or else 30; only the look-up of the host's name may take longer. If it fails, the status is
  * 1, and standard error says why.
  *
- * build: cc -O2 -I dist/x86_64-linux crates/bt_c/examples/fetch.c dist/x86_64-linux/libbt.a -o fetch */
+ * build: cc -O2 -I dist/x86_64-linux examples/c/fetch.c dist/x86_64-linux/libbt.a -o fetch */
 #include "bt.h"
 
 #include <errno.h>

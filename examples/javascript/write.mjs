@@ -1,7 +1,7 @@
-// Answers a peer: reads what it sent, and writes what it is to get. usage: node bindings/js/examples/write.mjs <STREAM >ANSWER
+// Answers a peer: reads what it sent, and writes what it is to get. usage: node examples/javascript/write.mjs <STREAM >ANSWER
 //
 // Both handshakes are exchanged, and then a block of the torrent's metadata is asked for, and one of the first piece.
-import { EXTENSIONS, FAST, Id, Kind, load } from '../bt.mjs';
+import { EXTENSIONS, FAST, Id, Kind, load } from '../../bindings/js/bt.mjs';
 
 const bt = await load(), own = { reserved: FAST | EXTENSIONS, metadataId: 3 }, peerId = Buffer.from('-XX0001-000000000000');
 const feed = bt.feed(own);

@@ -1,10 +1,10 @@
 // Serves the metadata of a torrent to peers that connect: the info dictionary, whose SHA-1 is the info hash.
 //
-// usage: node bindings/js/examples/serve.mjs FILE [PORT]. It prints its info hash and its address; fetch.mjs fetches from it.
+// usage: node examples/javascript/serve.mjs FILE [PORT]. It prints its info hash and its address; fetch.mjs fetches from it.
 import crypto from 'node:crypto';
 import fs from 'node:fs';
 import net from 'node:net';
-import { End, Event, Refused } from '../end.mjs';
+import { End, Event, Refused } from '../../bindings/js/end.mjs';
 
 const [file, port = 0] = process.argv.slice(2), metadata = fs.readFileSync(file), infoHash = crypto.createHash('sha1').update(metadata).digest();
 
