@@ -17,13 +17,17 @@ const NUMBERS_BY_HAND = `if (item.id === 20 && item.body[0] === 0) {
   }`;
 const pair = (name, stream, body, byHand, ours) => [name, stream, job(byHand, body), job(ours, body)];
 
-function rowsOf(bt, { small, blocks, ext }) {
-  function* fed(stream, size = CHUNK) {
-    const feed = bt.feed();
-    for (let at = 0; at < stream.length; at += size) yield* feed.push(stream.subarray(at, at + size));
-    yield* feed.finish();
-  }
+// The same of a feed, as one reads a socket.
+const fed = (bt, size, body) => new Function('bt', 'size', `return stream => {
+  const feed = bt.feed();
+  let sum = 0;
+  for (let at = 0; at < stream.length; at += size) for (const item of feed.push(stream.subarray(at, at + size))) ${body};
+  for (const item of feed.finish()) ${body};
+  return sum;
+}`)(bt, size);
+const fedByHand = (size, body) => job(stream => hand.feed(stream, size), body);
 
+function rowsOf(bt, { small, blocks, ext }) {
   /** A sum over columns, as FIELDS is one over items. */
   function summed(stream) {
     const { start, id, index } = bt.columns(stream);
@@ -32,14 +36,13 @@ function rowsOf(bt, { small, blocks, ext }) {
     return sum;
   }
 
-  const read = stream => bt.read(stream), fedByHand = stream => hand.feed(stream, CHUNK);
+  const read = stream => bt.read(stream);
   return [
     pair('read small, start', small, START, hand.read, read), pair('read small, start id index', small, FIELDS, hand.read, read),
-    pair('feed small', small, FIELDS, fedByHand, fed),
-    pair('feed small, 40 bytes', small, FIELDS, stream => hand.feed(stream, SHORT), stream => fed(stream, SHORT)),
+    ['feed small', small, fedByHand(CHUNK, FIELDS), fed(bt, CHUNK, FIELDS)], ['feed small, 40 bytes', small, fedByHand(SHORT, FIELDS), fed(bt, SHORT, FIELDS)],
     ['columns small', small, job(hand.read, FIELDS), summed],
-    pair('read blocks', blocks, BODY, hand.read, read), pair('feed blocks', blocks, BODY, fedByHand, fed), pair('read ext', ext, START, hand.read, read),
-    ['read ext, fields', ext, job(hand.read, NUMBERS_BY_HAND), job(read, NUMBERS)],
+    pair('read blocks', blocks, BODY, hand.read, read), ['feed blocks', blocks, fedByHand(CHUNK, BODY), fed(bt, CHUNK, BODY)],
+    pair('read ext', ext, START, hand.read, read), ['read ext, fields', ext, job(hand.read, NUMBERS_BY_HAND), job(read, NUMBERS)],
   ];
 }
 
