@@ -67,6 +67,11 @@ def shows(room, given):
         peeked = passes([room / "target/debug/examples/peek"], given, input=(EXAMPLES / "first.bin").read_bytes())
         if peeked != b"0 handshake\n68 keep-alive\n72 have\n":
             sys.exit("bindings: failed: examples/rust/peek.rs prints %r" % peeked)
+        # (the bytes that Python writes are tested by its own tests)
+        one, two = (passes(words, given, input=(EXAMPLES / "serving.bin").read_bytes())
+                    for words in ([room / "target/debug/examples/write"], [sys.executable, EXAMPLES / "python/write.py"]))
+        if one != two:
+            sys.exit("bindings: failed: examples/rust/write.rs writes %r, and Python %r" % (one, two))
     if shutil.which("node") and WASM.is_file():
         for test in sorted((BINDINGS / "js/tests").glob("*.mjs")):
             tests([*NODE, *(["--expose-gc"] if test.stem == "ends" else []), test], given)
