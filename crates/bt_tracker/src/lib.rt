@@ -5,7 +5,11 @@
 #![tactic(auto)]
 
 mod announce;
+mod question;
 mod udp;
+mod url;
 
 pub use announce::{Announce, Event};
+pub use question::http_question;
 pub use udp::{UdpAnswer, announce_question, connect_question, read_answer};
+pub use url::{Tracker, UrlError, read_tracker};
