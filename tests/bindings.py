@@ -26,7 +26,7 @@ import time
 ROOT = pathlib.Path(__file__).resolve().parent.parent
 LIBRARIES = pathlib.Path(sys.argv[1] if len(sys.argv) > 1 else ROOT / "dist/x86_64-linux").resolve()
 WASM, ADDON = LIBRARIES.parent / "bt.wasm", LIBRARIES / "bt.node"
-BINDINGS = ROOT / "bindings"
+BINDINGS, EXAMPLES = ROOT / "bindings", ROOT / "examples"
 # The addon needs no flag, and WebAssembly one in Node 20 and 22.
 NODE, NODE_WASM = ["node"], ["node", "--experimental-wasm-memory64", "--no-warnings"]
 WASM_NAME = "WebAssembly"
@@ -57,19 +57,27 @@ def tests(words, given):
 
 def shows(room, given):
     """The commands that show streams, by language, for the tools that are installed. Each language's own tests have passed."""
-    found = {"Python": [sys.executable, BINDINGS / "python/examples/show.py"]}
+    found = {"Python": [sys.executable, EXAMPLES / "python/show.py"]}
     for test in sorted((BINDINGS / "python/tests").glob("*.py")):
         tests([sys.executable, "-W", "error", test, SECONDS], given)
     if shutil.which("cargo"):
         passes(["cargo", "test", "--offline", "--quiet"], given, cwd=BINDINGS / "rust")
         passes(["cargo", "build", "--offline", "--quiet", "--examples"], given, cwd=BINDINGS / "rust")
         found["Rust"] = [room / "target/debug/examples/show"]
+        peeked = passes([room / "target/debug/examples/peek"], given, input=(EXAMPLES / "first.bin").read_bytes())
+        if peeked != b"0 handshake\n68 keep-alive\n72 have\n":
+            sys.exit("bindings: failed: examples/rust/peek.rs prints %r" % peeked)
+        # (the bytes that Python writes are tested by its own tests)
+        one, two = (passes(words, given, input=(EXAMPLES / "serving.bin").read_bytes())
+                    for words in ([room / "target/debug/examples/write"], [sys.executable, EXAMPLES / "python/write.py"]))
+        if one != two:
+            sys.exit("bindings: failed: examples/rust/write.rs writes %r, and Python %r" % (one, two))
     if shutil.which("node") and WASM.is_file():
         for test in sorted((BINDINGS / "js/tests").glob("*.mjs")):
             tests([*NODE, *(["--expose-gc"] if test.stem == "ends" else []), test], given)
         tests([*NODE_WASM, BINDINGS / "js/tests/streams.mjs", WASM], given)
-        found["JavaScript"] = ["env", "-u", "BT_WASM", *NODE, BINDINGS / "js/examples/show.mjs"]
-        found[WASM_NAME] = [*NODE_WASM, BINDINGS / "js/examples/show.mjs"]
+        found["JavaScript"] = ["env", "-u", "BT_WASM", *NODE, EXAMPLES / "javascript/show.mjs"]
+        found[WASM_NAME] = [*NODE_WASM, EXAMPLES / "javascript/show.mjs"]
     for language in {"Rust", "JavaScript"} - {*found}:
         print("bindings: %s is left out, since its tool isn't installed" % language)
     return found
@@ -210,7 +218,7 @@ def as_the_program(given):
 
 
 def example_streams():
-    return [it.read_bytes() for it in sorted((ROOT / "examples").glob("*.bin"))]
+    return [it.read_bytes() for it in sorted(EXAMPLES.glob("*.bin"))]
 
 
 def changed(chosen, examples):
@@ -326,13 +334,12 @@ def objects(room, given):
         return 0
     sys.path.insert(0, str(ROOT / "tests"))
     import json_lines
-    examples = [it.read_bytes() for it in sorted((ROOT / "examples").glob("*.bin"))]
-    streams = [data for _, data, _ in json_lines.ROWS] + list(itertools.islice(changed(random.Random(44), examples), 60))
+    streams = [data for _, data, _ in json_lines.ROWS] + list(itertools.islice(changed(random.Random(44), example_streams()), 60))
     large = json_lines.hand(json_lines.PEER) + b"".join(json_lines.extended(0, b"d13:metadata_sizei%dee" % size)
                                                         for size in (0, 2 ** 53 - 1, 2 ** 53, 2 ** 53 + 1, 2 ** 63 - 1))
     paths = kept(room, "json", [*streams, large])
     for words, more in OBJECTS:
-        said = subprocess.run([*NODE, BINDINGS / "js/examples/json.mjs", *paths], env={**given, **more}, capture_output=True)
+        said = subprocess.run([*NODE, EXAMPLES / "javascript/json.mjs", *paths], env={**given, **more}, capture_output=True)
         wanted = b"".join(subprocess.run([tool, "show", "--json", *words, path], capture_output=True).stdout for path in paths)
         if said.stdout != wanted or said.stderr:
             pairs = zip(said.stdout.decode().split("\n"), wanted.decode().split("\n"))
@@ -354,17 +361,17 @@ def examples_in_javascript(room, given):
     """How many of JavaScript's examples printed what they have to: those that read, that write, and that have an end."""
     if not shutil.which("node"):
         return 0
-    place, stream = BINDINGS / "js/examples", (ROOT / "examples/serving.bin").read_bytes()
+    place, stream = EXAMPLES / "javascript", (EXAMPLES / "serving.bin").read_bytes()
 
     def lines(words, text):
         return passes([*map(str, words)], given, input=text).decode().split("\n")[:-1]
 
     for text, wanted in ((stream, READ), (stream[:400], REFUSED)):
         if lines([*NODE, place / "read.mjs"], text) != wanted:
-            sys.exit("bindings: failed: examples/read.mjs prints %s" % lines([*NODE, place / "read.mjs"], text))
+            sys.exit("bindings: failed: examples/javascript/read.mjs prints %s" % lines([*NODE, place / "read.mjs"], text))
     answer = passes([*NODE, str(place / "write.mjs")], given, input=stream)
     if (LIBRARIES / "bt_tool").is_file() and lines([LIBRARIES / "bt_tool", "show", "--metadata-id", "2"], answer)[2:] != WRITTEN:
-        sys.exit("bindings: failed: examples/write.mjs writes %r" % answer)
+        sys.exit("bindings: failed: examples/javascript/write.mjs writes %r" % answer)
     (room / "info").write_bytes(SERVED)
     server = subprocess.Popen([*NODE, place / "serve.mjs", room / "info"], env=given, stdout=subprocess.PIPE, stderr=subprocess.DEVNULL)
     try:
@@ -372,7 +379,7 @@ def examples_in_javascript(room, given):
         for _ in range(2):
             done = subprocess.run([*NODE, place / "fetch.mjs", digits, address], env=given, capture_output=True, timeout=60)
             if (digits, done.stdout) != (hashlib.sha1(SERVED).hexdigest(), SERVED):
-                sys.exit("bindings: failed: examples/fetch.mjs from serve.mjs: %s" % done.stderr.decode())
+                sys.exit("bindings: failed: examples/javascript/fetch.mjs from serve.mjs: %s" % done.stderr.decode())
     finally:
         server.kill()
         server.communicate()
@@ -420,7 +427,7 @@ def main():
         fetchers = others(commands, "fetch")
         if shutil.which("cc"):
             fetchers["C"] = [room / "fetch"]
-            passes(["cc", "-D_GNU_SOURCE", "-I", ROOT / "crates/bt_c", ROOT / "crates/bt_c/examples/fetch.c", LIBRARIES / "libbt.a",
+            passes(["cc", "-D_GNU_SOURCE", "-I", ROOT / "crates/bt_c", EXAMPLES / "c/fetch.c", LIBRARIES / "libbt.a",
                     "-o", room / "fetch"], given)
             print("bindings: C tells %d failures" % told_by_c(room / "fetch"))
         print("bindings: %d streams with the objects of `show --json`" % as_json(room, random.Random(44), example_streams()))

@@ -310,7 +310,7 @@ def reads_all(at, words, folder, environment=None):
 def in_c(at):
     if not which("cc"):
         return
-    compile = ["cc", "-O2", "-std=c11", "-Wall", "-Werror", "-I", "dist/x86_64-linux", "crates/bt_c/examples/show.c", "-o", at / "shower"]
+    compile = ["cc", "-O2", "-std=c11", "-Wall", "-Werror", "-I", "dist/x86_64-linux", "examples/c/show.c", "-o", at / "shower"]
     for words in (["dist/x86_64-linux/libbt.a"], ["-Ldist/x86_64-linux", "-lbt", "-Wl,-rpath,%s/dist/x86_64-linux" % at]):
         passes([*compile, *words], at)
         reads_all(at, [at / "shower"], at)
@@ -323,7 +323,7 @@ def in_python(at):
         room = pathlib.Path(name)
         found, = (at / "dist").glob("*.whl")
         # (above the copy there is no package)
-        shutil.copyfile(at / "bindings/python/examples/show.py", room / "show.py")
+        shutil.copyfile(at / "examples/python/show.py", room / "show.py")
         if run([sys.executable, "-m", "venv", room / "venv"], room).returncode != 0:
             SKIPPED.append("python's venv isn't installed: the wheel was unpacked by hand")
             zipfile.ZipFile(found).extractall(room / "unpacked")
@@ -351,7 +351,7 @@ def in_javascript(at):
             return
     imports = passes([*node, "-p", "WebAssembly.Module.imports(%s).length" % module], at)
     assert imports == b"0\n", "bt.wasm wants imports"
-    reads_all(at, [*node, "bindings/js/examples/show.mjs"], at, {"BT_WASM": "dist/bt.wasm"})
+    reads_all(at, [*node, "examples/javascript/show.mjs"], at, {"BT_WASM": "dist/bt.wasm"})
 
 
 def in_node(at):
@@ -367,7 +367,16 @@ def in_node(at):
     if which("node"):
         code = "import { End } from './bindings/js/end.mjs'; console.log(new End({ infoHash: new Uint8Array(20) }).take().length)"
         assert passes([shutil.which("node"), "--input-type=module", "-e", code], at) == b"68\n"
-        reads_all(at, [shutil.which("node"), "bindings/js/examples/show.mjs"], at)
+        reads_all(at, [shutil.which("node"), "examples/javascript/show.mjs"], at)
+
+
+def examples(at):
+    """The lines of examples/README.md, each by the tool that it begins with."""
+    block = re.search(r"^```sh\n(.*?)^```$", (at / "examples/README.md").read_text(), re.M | re.S)[1]
+    user = {name: os.environ[name] for name in ("PATH", "HOME", "CARGO_HOME", "RUSTUP_HOME") if name in os.environ}
+    for line in block.splitlines():
+        if which(line.split()[0]):
+            assert passes(["sh", "-c", line], at, environment=user) == FIRST, line
 
 
 def addon_again(at):
@@ -404,7 +413,7 @@ def installed(at):
         python = shutil.which("python3", path=CLEAN["PATH"])
         if python:
             place, = prefix.glob("lib/python3*/site-packages")
-            shutil.copyfile(at / "bindings/python/examples/show.py", room / "show.py")
+            shutil.copyfile(at / "examples/python/show.py", room / "show.py")
             reads_all(at, [python, "-B", room / "show.py"], room, {"PYTHONPATH": str(place)})
             (room / "show.py").unlink()
         passes(["tools/install", "--uninstall", prefix], at)
@@ -540,7 +549,7 @@ def packaged(at):
         passes(["tools/install", room / "here"], at)
         for place in (room / "here/lib/pkgconfig", at / "dist/x86_64-linux"):
             flags = passes(["pkg-config", "--cflags", "--libs", "bt"], room, environment={"PKG_CONFIG_PATH": str(place)}).decode()
-            passes(["cc", at / "crates/bt_c/examples/show.c", *shlex.split(flags), "-o", room / "shower"], room)
+            passes(["cc", at / "examples/c/show.c", *shlex.split(flags), "-o", room / "shower"], room)
             libraries = place.parent if place.name == "pkgconfig" else place
             reads_all(at, [room / "shower"], room, {"LD_LIBRARY_PATH": str(libraries)})
 
@@ -569,7 +578,7 @@ def texts(at):
 
 
 CHECKS = [first_run, version, sources, page, package, tampered, other_machines, built_here, not_writable, all_files, in_c, in_python, in_javascript,
-          in_node, addon_again, installed, odd_prefixes, modes, fails_midway, packaged, texts]
+          in_node, examples, addon_again, installed, odd_prefixes, modes, fails_midway, packaged, texts]
 
 
 def main():

@@ -11,6 +11,7 @@ repository, which builds the program if it has to.
 It also looks whether these are right:
 
 - links lead to files and headings, each path of the repository that a document names is there, and no document is too long;
+- the table of examples/README.md has the programs of each language;
 - the picture of a stream has its bytes, and examples/small.pcap the two directions of which it was made;
 - the blocks of docs/RATTLE.md are parts of the examples, and those of doc comments parts of a crate's code;
 - the mutants, laws, calls, files and names of docs/PROVED.md, docs/API.md, docs/ARCHITECTURE.md, docs/DEFINITIONS.md, docs/RATTLE.md
@@ -251,6 +252,18 @@ def unlisted():
     return ["docs/ARCHITECTURE.md: the crate %s isn't named\n" % name for name in names if "`%s`" % name not in text]
 
 
+def other_examples():
+    """The languages whose programs in examples/ aren't those of the table in its README."""
+    heads, _, *rows = [line.split("|")[2:-1] for line in content(os.path.join(ROOT, "examples/README.md")).decode().splitlines() if line.startswith("|")]
+    wrong = []
+    for head, *cells in zip(heads, *(row for row in rows if len(row) == len(heads))):
+        folder, ending = re.fullmatch(r" `(\w+)/\*(\.\w+)` ", head).groups()
+        named = re.findall(r"`(\w+)`", " ".join(cells))
+        there = [name[:-len(ending)] for name in os.listdir(os.path.join(ROOT, "examples", folder)) if name.endswith(ending)]
+        wrong += [] if sorted(named) == sorted(there) else ["examples/README.md: %s has %s\n" % (folder, ", ".join(sorted(there)))]
+    return wrong
+
+
 def no_such_paths(document):
     """The paths from the top of the repository that a document names and that aren't there. Words in capitals stand for others."""
     text = content(os.path.join(ROOT, document)).decode()
@@ -346,7 +359,7 @@ def main():
         ends: content(os.path.join(ROOT, example)) for ends, example in DIRECTIONS.items()
     } else ["examples/small.pcap: not the two directions of which it was made\n"]
     wrong += pictured() + unquoted() + uncompiled() + unproved() + uncalled()
-    wrong += misplaced("docs/ARCHITECTURE.md") + misplaced("docs/DEFINITIONS.md") + misplaced("docs/RATTLE.md") + unlisted() + misnamed()
+    wrong += misplaced("docs/ARCHITECTURE.md") + misplaced("docs/DEFINITIONS.md") + misplaced("docs/RATTLE.md") + unlisted() + misnamed() + other_examples()
     documents = sorted(os.path.relpath(path, ROOT) for path in glob.glob(os.path.join(ROOT, "**/*.md"), recursive=True))
     for name in documents:
         wrong += dead_links(name) + bare_blocks(name) + no_such_paths(name) + too_long(name) + untried(name)

@@ -605,6 +605,15 @@ def linked(program):
         peer.close()
         fetched = peer.address + " fetched\n"
         failed += differs_whole(" ".join(here), done, INFO, before + fetched + summary(fetched), 0)
+    # (its trackers are the .torrent's: the first by itself, and each in a tier of its own)
+    for trackers, pairs in (("", b""), ("&tr=udp%3A%2F%2Fa%3A1&tr=http://b/x%3Fy",
+                                        b"8:announce9:udp://a:113:announce-listll9:udp://a:1el12:http://b/x?yee")):
+        peer = Peer(honest)
+        link, fetched = "magnet:?xt=urn:btih:%s%s" % (HASH.hex(), trackers), peer.address + " fetched\n"
+        done = subprocess.run([program, "fetch", "--torrent", link, peer.address], stdin=subprocess.DEVNULL, capture_output=True, timeout=60)
+        peer.close()
+        said = (TRACKERS if trackers else "") + fetched + summary(fetched)
+        failed += differs_whole("--torrent " + link, done, b"d" + pairs + b"4:info" + INFO + b"e", said, 0)
     peers = [Peer(rejecting) for _ in range(4)]
     with tempfile.NamedTemporaryFile("w") as file:
         file.write("%s\n%s\n" % (peers[3].address, peers[2].address))
@@ -618,7 +627,7 @@ def linked(program):
         failed += differs("the link is second", done, b"", order, 1)
     for peer in peers:
         peer.close()
-    return failed, len(LINKS) + 2
+    return failed, len(LINKS) + 4
 
 
 def several_ids(program):

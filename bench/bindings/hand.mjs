@@ -48,3 +48,58 @@ export function* feed(bytes, size) {
     base += at;
   }
 }
+
+/** The bencoded value at `at`: strings as bytes, dictionaries as objects. It checks nothing. */
+export function bdecode(bytes, at) {
+  return new Bencoded(bytes, at).value();
+}
+
+class Bencoded {
+  constructor(bytes, at) {
+    this.bytes = bytes;
+    this.at = at;
+  }
+
+  value() {
+    switch (this.bytes[this.at]) {
+      case 0x64: return this.dictionary();
+      case 0x6c: return this.list();
+      case 0x69: return this.at++, this.number(0x65);
+      default: return this.string();
+    }
+  }
+
+  dictionary() {
+    const found = {};
+    for (this.at++; this.bytes[this.at] !== 0x65;) found[this.key()] = this.value();
+    this.at++;
+    return found;
+  }
+
+  list() {
+    const found = [];
+    for (this.at++; this.bytes[this.at] !== 0x65;) found.push(this.value());
+    this.at++;
+    return found;
+  }
+
+  number(stop) {
+    const isNegative = this.bytes[this.at] === 0x2d;
+    let found = 0;
+    for (this.at += isNegative; this.bytes[this.at] !== stop; this.at++) found = 10 * found + this.bytes[this.at] - 0x30;
+    this.at++;
+    return isNegative ? -found : found;
+  }
+
+  key() {
+    let found = '';
+    for (const end = this.number(0x3a) + this.at; this.at < end; this.at++) found += String.fromCharCode(this.bytes[this.at]);
+    return found;
+  }
+
+  string() {
+    const size = this.number(0x3a), at = this.at;
+    this.at += size;
+    return this.bytes.subarray(at, this.at);
+  }
+}

@@ -5,7 +5,7 @@ import { createRequire } from 'node:module';
 import { resolve } from 'node:path';
 import { fileURLToPath } from 'node:url';
 import { ITEM, ITEM_SIZE, OWN_SIZE, packOwn, READER_SIZE } from './library.mjs';
-import { EXTENDED_WORDS, fill, KEPT, Names, putItem } from './values.mjs';
+import { EXTENDED_WORDS, fill, Item, KEPT, Names, putItem } from './values.mjs';
 
 const ABI = 2, VERDICT_SIZE = 24, HEAD_WORDS = 8, ROOM = 2048, HANDSHAKE_SIZE = 68;
 const ITEMS_AT = HEAD_WORDS, EXTENDED_AT = HEAD_WORDS + KEPT * ROOM, OUT_WORDS = EXTENDED_AT + EXTENDED_WORDS * ROOM;
@@ -79,6 +79,14 @@ export class Addon {
     const { out, names } = this, words = out.slice(ITEMS_AT, ITEMS_AT + KEPT * out[0]);
     return { names, words, extended: out[1] ? out.slice(EXTENDED_AT, EXTENDED_AT + EXTENDED_WORDS * out[1]) : null, bytes, base };
   }
+
+  /** An item of a batch, by its number there. */
+  itemAt(batch, row) {
+    const { words } = batch, w = KEPT * row;
+    return new Item(batch, words[w], words[w + 3], words[w + 2]);
+  }
+
+  startAt({ words, base }, row) { return base + words[KEPT * row]; }
 
   /** Puts the items into columns, from row `from` on. */
   fill(columns, from, bytes, base) {

@@ -5,13 +5,13 @@
 //
 // end.mjs has an end of a connection, for Node. Nothing of this file is proved. A library is used by one thread.
 import { END, inNode, ITEM, Library, MORE, packOwn, REFUSED } from './library.mjs';
-import { appended, completed, content, DHT, EXTENSIONS, FAST, Id, Item, Items, KEPT, Kind, kindOf, number, Refused } from './values.mjs';
+import { appended, completed, content, DHT, EXTENSIONS, FAST, Id, Item, Items, Kind, kindOf, number, Refused } from './values.mjs';
 import { Wasm } from './wasm.mjs';
 
 export { DHT, EXTENSIONS, FAST, Id, Item, Kind, Refused };
 
 const HEAD = 17, DICT = 160;    // what a message has besides its body, and a dictionary that the library writes
-const NOTHING = new Uint8Array();
+const NOTHING = new Uint8Array(), NO_WORDS = new Uint32Array();
 
 /**
  * Loads the library, and returns its calls.
@@ -187,15 +187,15 @@ class Feed {
     this.reader = new Reader(library, own);
     /** What isn't read yet. */
     this.bytes = new Uint8Array();
-    // The items that are read, the first word of the first that isn't taken, and the end of the words.
-    this.batch = { names: library.names, words: new Uint32Array(), extended: null, bytes: this.bytes, base: 0 };
-    this.w = 0;
-    this.end = 0;
+    // The batch that is read, the number of the first of its items that isn't taken, and how many it has.
+    this.batch = { names: library.names, words: NO_WORDS, extended: null, bytes: this.bytes, base: 0 };
+    this.row = 0;
+    this.rows = 0;
   }
 
   /** Where the next item starts on the stream. */
   get start() {
-    return this.isEmpty ? this.reader.start : new Item(this.batch, this.w).start;
+    return this.isEmpty ? this.reader.start : this.reader.library.startAt(this.batch, this.row);
   }
 
   /** Takes all bytes of the chunk, and returns an iterator over the items that are whole. It throws Refused. */
@@ -212,18 +212,20 @@ class Feed {
   }
 
   get isEmpty() {
-    return this.w === this.end;
+    return this.row === this.rows;
   }
 
   /** Reads more items, and returns whether there are any. */
   fill(ended) {
     const { reader, bytes } = this, base = reader.start;
     if (reader.isDry && !ended) return false;
+    // (all are taken, so nothing is to be kept of them)
+    this.batch.words = NO_WORDS;
     const { count, used } = reader.next(bytes, 0, ended);
     if (!count) return false;
     this.batch = reader.library.kept(bytes, base);
-    this.w = 0;
-    this.end = count * KEPT;
+    this.row = 0;
+    this.rows = count;
     this.bytes = bytes.subarray(used);
     return true;
   }
@@ -242,11 +244,9 @@ class FeedItems extends Items {
   }
 
   next() {
-    const { feed } = this;
-    if (this.over || feed.w === feed.end && !this.more()) return { value: undefined, done: true };
-    const value = new Item(feed.batch, feed.w);
-    feed.w += KEPT;
-    return { value, done: false };
+    const { feed } = this, done = this.over || feed.row === feed.rows && !this.more();
+    // (with one object for both answers an engine needs none)
+    return { value: done ? undefined : feed.reader.library.itemAt(feed.batch, feed.row++), done };
   }
 
   /** Reads more items, and returns whether there are any. It is over if not, or if that throws. */

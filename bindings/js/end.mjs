@@ -7,7 +7,7 @@ import { once } from 'node:events';
 import net from 'node:net';
 import { namesOf, usualAddon } from './addon.mjs';
 import { ITEM_SIZE, OWN_SIZE, packOwn, REFUSED } from './library.mjs';
-import { allKnown, appended, batchOf, completed, content, DHT, EXTENSIONS, FAST, Id, Item, Items, Kind, number, OWN, Refused } from './values.mjs';
+import { allKnown, appended, completed, content, DHT, EXTENSIONS, FAST, Id, Item, itemOf, Items, Kind, number, OWN, Refused } from './values.mjs';
 
 export { DHT, EXTENSIONS, FAST, Id, Item, Kind, Refused };
 
@@ -129,7 +129,7 @@ export class End {
   /** What the addon has put into #heard: an item, and what it made of the end. */
   #told() {
     const view = this.#view, struct = new Uint32Array(this.#heard.buffer, 8, ITEM_SIZE / 4), EVENT = 8 + ITEM_SIZE;
-    const item = new Item(batchOf(names, struct, this.#bytes, this.#base), 0);
+    const item = itemOf({ names, words: struct, extended: [], bytes: this.#bytes, base: this.#base }, 0);
     this.#from = this.#taken;
     const event = view.getUint32(EVENT + 8, true), announced = event === Event.ANNOUNCED;
     return {

@@ -42,13 +42,13 @@ const FIELDS = ['start', 'size', 'id', 'name', 'index', 'begin', 'length', 'port
   'totalSize', 'dictSize', 'metadataSize', 'utMetadata', 'body', 'data'];
 
 // (what this file exports is slower to look up)
-const { PORT, EXTENDED, KEEP_ALIVE, HANDSHAKE } = Id, { EXT_HANDSHAKE, METADATA_DATA } = Kind, WORDS = ITEM_SIZE / 4;
+const { PORT, EXTENDED, KEEP_ALIVE, HANDSHAKE } = Id, { EXT_HANDSHAKE, METADATA_DATA } = Kind, WORDS = ITEM_SIZE / 4, HANDSHAKE_SIZE = 68;
 
 const bigAt = (words, w) => BigInt(words[w + 1]) << 32n | BigInt(words[w]);
 
 /**
- * How many words an item keeps: where it starts in the batch's bytes; its size; its index, or the number of its row of an extended message;
- * and its id with flags and the kind above it. The addon writes them so, and `batchOf` does of structs.
+ * How many words the addon writes of an item: where it starts in the batch's bytes; its size; its index, or the number of its row of an
+ * extended message; and its id with flags and the kind above it.
  */
 export const KEPT = 4;
 /** How many words a bt_extended has, and the first of a bt_item's that is one of them. */
@@ -62,37 +62,23 @@ const BODY_AT = Uint8Array.from(WITH_INDEX, (has, id) => 5 + 4 * (has + WITH_BEG
 export const u32At = (bytes, at) => (bytes[at] << 24 | bytes[at + 1] << 16 | bytes[at + 2] << 8 | bytes[at + 3]) >>> 0;
 
 /**
- * What items were read of: what each keeps, the bt_extended of extended messages, bytes of the stream, and the offset on the stream of the
- * first of these.
- * @typedef {{ names: { name(id: number, kind: number): string }, words: Uint32Array, extended: Uint32Array | null, bytes: Uint8Array,
+ * What items are made of: the words of those that weren't taken yet, by the addon or bt_items; the bt_extended of extended messages; bytes of
+ * the stream, and the offset on the stream of the first of these.
+ * @typedef {{ names: { name(id: number, kind: number): string }, words: Uint32Array, extended: ArrayLike<number> | null, bytes: Uint8Array,
  *  base: number }} Batch
  */
 
 /**
- * The batch of these bt_items, which lie in bytes that begin at the offset `base` on the stream.
- * @param {Batch['names']} names
- * @param {Uint32Array} structs
- * @param {Uint8Array} bytes
- * @param {number} base
- * @returns {Batch}
+ * The item of the bt_item that begins at this word of a batch. Its bt_extended is added to those of the batch, which are an array.
+ * @param {any} batch
+ * @param {number} w
  */
-export function batchOf(names, structs, bytes, base) {
-  const words = new Uint32Array(structs.length / WORDS * KEPT), low = base % 4294967296;
-  let extended = null, filled = 0;
-  for (let from = 0, to = 0; to < words.length; from += WORDS, to += KEPT) {
-    const id = structs[from + 11] >>> 16;
-    words[to] = structs[from] - low;
-    words[to + 1] = structs[from + 2];
-    words[to + 2] = structs[from + 8];
-    words[to + 3] = WHAT[id];
-    if (id === EXTENDED) {
-      words[to + 2] = filled / EXTENDED_WORDS;
-      words[to + 3] = id | (structs[from + 21] & 255) << 16;
-      extended ??= new Uint32Array((words.length - to) / KEPT * EXTENDED_WORDS);
-      for (let k = from + EXTENDED_AT; k < from + WORDS; k++) extended[filled++] = structs[k];
-    }
-  }
-  return { names, words, extended: extended && extended.slice(0, filled), bytes, base };
+export function itemOf(batch, w) {
+  const { words, extended, base } = batch, id = words[w + 11] >>> 16, at = words[w] - base >>> 0;
+  if (id !== EXTENDED) return new Item(batch, at, WHAT[id], words[w + 8]);
+  const row = extended.length / EXTENDED_WORDS;
+  for (let k = w + EXTENDED_AT; k < w + WORDS; k++) extended.push(words[k]);
+  return new Item(batch, at, id | (words[w + 21] & 255) << 16, row);
 }
 
 const wide = number => number <= Number.MAX_SAFE_INTEGER ? Number(number) : number;
@@ -104,25 +90,28 @@ const wide = number => number <= Number.MAX_SAFE_INTEGER ? Number(number) : numb
 export class Item {
   /**
    * @param {Batch} batch
-   * @param {number} w The first of its words.
+   * @param {number} at Where it starts in the batch's bytes.
+   * @param {number} what Its id, with flags and the kind above it.
+   * @param {number} value Its index, or the number of its row of an extended message.
    */
-  constructor(batch, w) {
+  constructor(batch, at, what, value) {
     this._batch = batch;
-    this._words = batch.words;
-    this._w = w;
+    this._at = at;
+    this._what = what;
+    this._value = value;
   }
 
   /** Its offset on the stream. */
-  get start() { return this._batch.base + this._words[this._w]; }
+  get start() { return this._batch.base + this._at; }
   /** How many bytes it has. */
-  get size() { return this._words[this._w + 1]; }
+  get size() { return this.id === HANDSHAKE ? HANDSHAKE_SIZE : 4 + u32At(this._batch.bytes, this._at); }
   /** Its `Id`, or the number of an unknown message. */
-  get id() { return this._words[this._w + 3] & 65535; }
+  get id() { return this._what & 65535; }
   /** Its name as `bt_tool show` prints it, like 'have' or 'metadata-request'. */
   get name() { return this._batch.names.name(this.id, this.kind ?? 0); }
-  get index() { return this._words[this._w + 3] & INDEX ? this._words[this._w + 2] : null; }
-  get begin() { return this._words[this._w + 3] & BEGIN ? u32At(this._batch.bytes, this._words[this._w] + 9) : null; }
-  get length() { return this._words[this._w + 3] & LENGTH ? u32At(this._batch.bytes, this._words[this._w] + 13) : null; }
+  get index() { return this._what & INDEX ? this._value : null; }
+  get begin() { return this._what & BEGIN ? u32At(this._batch.bytes, this._at + 9) : null; }
+  get length() { return this._what & LENGTH ? u32At(this._batch.bytes, this._at + 13) : null; }
   get port() {
     const { data } = this;
     return this.id === PORT ? data[5] << 8 | data[6] : null;
@@ -130,31 +119,31 @@ export class Item {
 
   /** All its bytes. */
   get data() {
-    const at = this._words[this._w];
+    const at = this._at;
     return this._batch.bytes.subarray(at, at + this.size);
   }
 
   /** The bitfield, block or payload, which is empty if the message has none. */
   get body() {
-    const { id } = this, at = this._words[this._w];
+    const { id } = this, at = this._at;
     return id === HANDSHAKE ? null : this._batch.bytes.subarray(at + BODY_AT[id], at + this.size);
   }
 
   /** The reserved bits of a handshake, as a BigInt. */
   get reserved() {
-    const { bytes } = this._batch, at = this._words[this._w] + 20;
+    const { bytes } = this._batch, at = this._at + 20;
     return this.id === HANDSHAKE ? BigInt(u32At(bytes, at)) << 32n | BigInt(u32At(bytes, at + 4)) : null;
   }
 
   get infoHash() { return this.id === HANDSHAKE ? this.data.subarray(28, 48) : null; }
   get peerId() { return this.id === HANDSHAKE ? this.data.subarray(48, 68) : null; }
   /** What an extended message is: a `Kind`. */
-  get kind() { return this._words[this._w + 3] >>> 16 & 255 || null; }
+  get kind() { return this._what >>> 16 & 255 || null; }
   /** The id within the extension protocol. */
-  get extendedId() { return this.kind && this._batch.bytes[this._words[this._w] + 5]; }
+  get extendedId() { return this.kind && this._batch.bytes[this._at + 5]; }
   /** A word of the bt_extended of an extended message. */
-  _word(number) { return this._batch.extended[this._words[this._w + 2] * EXTENDED_WORDS + number]; }
-  _big(number) { return wide(bigAt(this._batch.extended, this._words[this._w + 2] * EXTENDED_WORDS + number)); }
+  _word(number) { return this._batch.extended[this._value * EXTENDED_WORDS + number]; }
+  _big(number) { return wide(bigAt(this._batch.extended, this._value * EXTENDED_WORDS + number)); }
   /** The number of a metadata block, or the piece that the peer no longer has (lt_donthave). */
   get piece() { return WITH_PIECE[this.kind] ? this._word(6) : null; }
   /** How many bytes the metadata has, by a data message; a BigInt from 2^53 on. */
@@ -240,15 +229,15 @@ export function fill(columns, from, { words, bytes, base }) {
   }
 }
 
-/** The same for bt_items. */
-export function fillOf(columns, from, structs) {
+/** The same for bt_items, of which the first one starts at this offset. */
+export function fillOf(columns, from, structs, base) {
   const { start, size, id, kind, index, begin, length, body } = columns;
-  for (let row = from, w = 0; w < structs.length; row++, w += WORDS) {
+  for (let row = from, w = 0, at = base; w < structs.length; row++, w += WORDS) {
     const number = structs[w + 11] >>> 16, what = WHAT[number];
-    start[row] = structs[w] + structs[w + 1] * 4294967296;
-    size[row] = structs[w + 2];
+    start[row] = at;
+    at += size[row] = structs[w + 2];
     id[row] = number;
-    kind[row] = number === EXTENDED ? structs[w + 21] & 255 : 0;
+    if (number === EXTENDED) kind[row] = structs[w + 21] & 255;
     if (what & INDEX) index[row] = structs[w + 8];
     if (what & BEGIN) begin[row] = structs[w + 9];
     if (what & LENGTH) length[row] = structs[w + 10];

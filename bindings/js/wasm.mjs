@@ -1,9 +1,9 @@
 // The proved library as WebAssembly (bt.wasm), as bt.mjs wants it: addon.mjs has the same calls. Nothing of this file is proved.
 // The library sees only its own memory, so what is read or written is copied there, except what is inside long blocks.
 import { ITEM, ITEM_SIZE, MORE, OWN_SIZE, packOwn, READER_SIZE } from './library.mjs';
-import { batchOf, fillOf, Id, Names, putItem, u32At } from './values.mjs';
+import { fillOf, Id, itemOf, Names, putItem, u32At } from './values.mjs';
 
-const ROOM = 2048, WINDOW = 65536, SPAN = 1 << 20, HANDSHAKE_SIZE = 68, PIECE_HEAD = 13, LONG = 512, MANY = 64;
+const ROOM = 2048, WINDOW = 65536, SPAN = 1 << 20, HANDSHAKE_SIZE = 68, PIECE_HEAD = 13, LONG = 512, MANY = 64, WORDS = ITEM_SIZE / 4;
 const { PIECE } = Id;
 
 export class Wasm {
@@ -14,6 +14,8 @@ export class Wasm {
     this.area = library.take(SPAN);
     this.room = SPAN;
     this.count = 0;
+    // The batch whose bt_items are still in the library's memory, if items are made of them.
+    this.last = null;
     this.names = new Names((id, kind) => {
       putItem(library.view, library.bytes, library.item, { id });
       library.view.setUint8(library.item + 84, kind);
@@ -31,6 +33,7 @@ export class Wasm {
 
   batch(state, bytes, at, ended) {
     const { library } = this, rest = bytes.length - at, isOpen = state[OWN_SIZE] !== 0;
+    this.release();
     for (let least = WINDOW; ; least *= 2) {
       const n = this.put(bytes, at, isOpen, least);
       library.bytes.set(state, library.reader);
@@ -44,9 +47,17 @@ export class Wasm {
     }
   }
 
-  get structs() { return new Uint32Array(this.library.bytes.buffer, this.items, this.count * ITEM_SIZE / 4); }
-  kept(bytes, base) { return batchOf(this.names, this.structs, bytes, base); }
-  fill(columns, from) { fillOf(columns, from, this.structs); }
+  get structs() { return new Uint32Array(this.library.bytes.buffer, this.items, this.count * WORDS); }
+  kept(bytes, base) { return this.last = { names: this.names, words: this.structs, extended: [], bytes, base }; }
+  itemAt(batch, row) { return itemOf(batch, WORDS * row); }
+  startAt({ words }, row) { return words[WORDS * row] + words[WORDS * row + 1] * 4294967296; }
+  fill(columns, from, bytes, base) { fillOf(columns, from, this.structs, base); }
+
+  /** Copies the bt_items of the last batch, before something else is written there. Those that are taken already are no longer in its words. */
+  release() {
+    if (this.last) this.last.words = this.last.words.slice();
+    this.last = null;
+  }
 
   save(state) {
     const { library } = this;
@@ -113,6 +124,7 @@ export class Wasm {
 
   grow(wanted) {
     if (wanted <= this.room) return;
+    this.release();
     this.room = Math.max(wanted, 2 * this.room);
     this.area = this.library.take(this.room);
   }

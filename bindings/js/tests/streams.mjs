@@ -215,6 +215,25 @@ const TESTS = {
     assert.equal(names.filter((_, k) => k % 3 === 2).join(''), '0123456');
   },
 
+  // (in WebAssembly what isn't taken yet lies in memory that other calls write to, and that moves when it grows)
+  itemsTakenAfterOtherCalls() {
+    const request = bytesOf('0000000d 06 00000007 00004000 00000001'), writer = bt.writer({ limit: 2 ** 30 }, FAST | EXTENSIONS);
+    const parts = Array.from({ length: 5100 }, (_, k) => k % 7 ? request : writer.extended(0, Buffer.from(`d13:metadata_sizei${k + 1}ee`)));
+    const stream = joined([HELLO, ...parts]), other = joined([HELLO, ...Array.from({ length: 3000 }, () => writer.have(9))]);
+    const shown = item => [item.start, item.size, item.id, item.index, item.length, item.metadataSize].join(' ');
+    const wanted = Array.from(bt.read(stream), shown), feed = bt.feed(), found = [];
+    assert.deepEqual([1, 2, 5097, 5101].map(k => wanted[k]), ['68 27 20   1', '95 17 6 7 1 ', '96004 30 20   5097', undefined]);
+    // the first, fourth and last are the first calls after a batch of 2048 items
+    const calls = [() => [...bt.read(other)], () => bt.columns(other), () => bt.feed().push(other).next(),
+      () => bt.check(joined([other, new Uint8Array(2 << 20)])), () => bt.verdict(other), () => writer.piece(0, 0, new Uint8Array(8 << 20))];
+    for (const item of feed.push(stream)) {
+      found.push(item);
+      calls[(found.length - 1) / 1000]?.();
+      if (found.length < wanted.length) assert.equal(feed.start, Number(wanted[found.length].split(' ')[0]));
+    }
+    assert.deepEqual(found.map(shown), wanted);
+  },
+
   largeMessages() {
     const block = new Uint8Array(3 << 20).fill(7), own = { limit: 4 << 20 }, writer = bt.writer(own, 0);
     const stream = joined([HELLO, writer.piece(1, 2, block), writer.keepAlive()]);

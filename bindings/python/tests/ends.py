@@ -15,6 +15,7 @@ import unittest
 
 HERE = os.path.dirname(os.path.abspath(__file__))
 PACKAGE = os.path.dirname(HERE)
+EXAMPLES = os.path.join(PACKAGE, "..", "..", "examples")
 sys.path.insert(0, PACKAGE)
 import bt
 
@@ -201,7 +202,7 @@ class Fetches(unittest.TestCase):
 
     def test_the_example(self):
         with Peer() as address:
-            done = subprocess.run([sys.executable, "-B", os.path.join(PACKAGE, "examples", "fetch.py"), INFO_HASH.hex(), address],
+            done = subprocess.run([sys.executable, "-B", os.path.join(EXAMPLES, "python", "fetch.py"), INFO_HASH.hex(), address],
                                   capture_output=True, timeout=30)
         self.assertEqual((done.returncode, done.stdout), (0, METADATA), done.stderr)
         self.assertIn(b"FETCHED metadata-data", done.stderr)

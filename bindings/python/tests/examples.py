@@ -1,5 +1,5 @@
 #!/usr/bin/env python3
-"""Tests the examples of this package, each as a program. usage: examples.py"""
+"""Tests examples/python, each as a program. usage: examples.py"""
 import hashlib
 import os
 import subprocess
@@ -12,8 +12,7 @@ sys.path.insert(0, HERE)
 import ends
 from ends import INFO_HASH, METADATA, bt
 
-EXAMPLES = os.path.join(ends.PACKAGE, "examples")
-STREAMS = os.path.join(ends.PACKAGE, "..", "..", "examples")
+EXAMPLES = os.path.join(ends.EXAMPLES, "python")
 TESTED = set()
 
 
@@ -23,7 +22,7 @@ def words(name, *more):
 
 
 def stream(name):
-    return os.path.join(STREAMS, name + ".bin")
+    return os.path.join(ends.EXAMPLES, name + ".bin")
 
 
 class Examples(unittest.TestCase):

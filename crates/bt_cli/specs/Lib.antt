@@ -2,6 +2,7 @@ pub mod Commands
 pub mod Endings
 pub mod Options
 pub mod Fetches
+pub mod Announced
 pub mod Tallies
 pub mod Streams
 pub mod Readings

@@ -1,11 +1,13 @@
 //! The command `fetch`: the addresses of its peers, the fetch, and the exit status.
-ghost use Rattle.std.specs.Prelude.{◌≡◌, Err};
+ghost use Rattle.std.specs.Prelude.{◌≡◌, Err, IfOk, option_map};
 ghost use Rattle.bt_io.specs.Seen.{WriteFailed};
 ghost use Rattle.bt_fetch.specs.Fetches.{IsWritten};
 ghost use Rattle.bt_fetch.specs.Wishes.{IsWish};
+ghost use Rattle.bt_cli.specs.Announced.{pairs_of_job};
 ghost use Rattle.bt_cli.specs.Fetches.{fetch_status, fetch_words};
 ghost use Rattle.bt_run.specs.Runs.{IsSaid};
 
+use crate::announced::announce_pairs;
 use crate::fetch::FetchJob;
 use crate::report::{Form, Lines, NO_TRY, Tally, counted, say_end};
 use bt_feed::Target;
@@ -143,6 +145,17 @@ fn seconds_of<R: Clock>(clock: &R) -> u64 {
     }
 }
 
+/// Returns the pairs that a .torrent has in front of `info`, if one is asked for: those of the link's trackers.
+fn pairs_for(alloc: Global, job: &FetchJob) -> Result<Option<Vec<u8>>, AllocError>
+    ensures { IfOk result (λ found. option_map (λ pairs. pairs.items) found ≡ pairs_of_job job.now) }
+{
+    if !job.torrent {
+        return Ok(None);
+    }
+    let pairs = announce_pairs(alloc, job.magnet.trackers.as_slice())?;
+    Ok(Some(pairs))
+}
+
 /// Fetches what is asked for over TCP, from the peers of the words and the link, and from those of `listed`.
 ///
 /// It says on `errors` how each connection ended, how far it came if `errors` is a terminal, and at the end a summary.
@@ -159,9 +172,12 @@ pub fn run_fetch<R: Net + Clock + RandomSource, W: Target, E: Target>(
     is_terminal: bool,
 ) -> Result<usize, FetchError>
     requires { IsWish job.now.wish }
-    ensures written { IsWritten job.now.torrent job.now.wish.info_hash (W.seen writer.old).held (W.seen writer.new).held result }
+    ensures written { IsWritten (pairs_of_job job.now) job.now.wish.info_hash (W.seen writer.old).held (W.seen writer.new).held result }
     ensures fault { result ≡ Err FetchError.Write → WriteFailed (W.seen writer.old) (W.seen writer.new) }
 {
+    let Ok(pairs) = pairs_for(alloc, job) else {
+        return Err(FetchError::Memory);
+    };
     let mut wish = job.wish;
     wish.peer_id = drawn_peer_id(rt);
     let begun = seconds_of(rt);
@@ -187,7 +203,7 @@ pub fn run_fetch<R: Net + Clock + RandomSource, W: Target, E: Target>(
     let fetched = fetch(
         alloc,
         &wish,
-        job.torrent,
+        pairs.as_deref(),
         count,
         at_once,
         &mut swarm,

@@ -4,6 +4,7 @@
 //! modules are passed on.
 #![tactic(auto)]
 
+mod announced;
 pub mod capture;
 pub mod commands;
 pub mod ending;

@@ -304,7 +304,7 @@ fn fetched(alloc: Global, peers: &'static [Peer], fails_at: Option<u64>, at_once
     let answer = fetch(
         alloc,
         &wish,
-        false,
+        None,
         peers.len(),
         at_once,
         &mut peers_of,

@@ -363,27 +363,28 @@ fn places_for<D: Device>(alloc: Global, wish: &Wish, count: usize) -> Result<Pla
 fn write_out<D: Device, W: Target>(
     alloc: Global,
     wish: &Wish,
-    torrent: bool,
+    pairs: Option<&[u8]>,
     fetched: Result<Option<usize>, Memory>,
     places: &Places<D>,
     writer: &mut W,
 ) -> Result<usize, FetchError>
     requires kept { All (λ p. p.end.end.handshake ≡ handshake_of wish.now) places.now.items }
     requires won { IfOk fetched (λ o. IfSome o (λ k. (k < vec_len places.now) × HoldsAt (λ p. is_some (metadata_of p.end.end.part) ≡ true) places.now.items k)) }
-    ensures written { IsWritten torrent wish.now.info_hash (W.seen writer.old).held (W.seen writer.new).held result }
+    ensures written { IsWritten (option_map (λ p. p.now) pairs.entry) wish.now.info_hash (W.seen writer.old).held (W.seen writer.new).held result }
     ensures fault { result ≡ Err FetchError.Write → WriteFailed (W.seen writer.old) (W.seen writer.new) }
     ensures stage { IsStage result (stage_when fetched) }
     ensures missing { result ≡ Err FetchError.NotFetched → fetched ≡ Ok None }
 {
     match fetched? {
-        Some(at) => put_out(alloc, torrent, &places[at].end, writer),
+        Some(at) => put_out(alloc, pairs, &places[at].end, writer),
         None => Err(FetchError::NotFetched),
     }
 }
 
 /// Fetches metadata from addresses, from up to `at_once` at the same time, and writes its file.
 ///
-/// The file is the metadata, or a .torrent of it. While a place is free, up to [`DIALS`] addresses are dialled besides, and the first
+/// The file is the metadata; or, if there are `pairs`, a .torrent with these bencoded pairs before `info`: those of other keys, each less
+/// than `info`, in order (BEP 3). While a place is free, up to [`DIALS`] addresses are dialled besides, and the first
 /// connection that is open takes it: an address at which nobody answers takes no place. An address that failed comes again once after
 /// all others. Nothing is written before all of the metadata is there, and its SHA-1 is the info hash. All connections are closed
 /// when it returns. It returns how many bytes were written.
@@ -393,7 +394,7 @@ fn write_out<D: Device, W: Target>(
 pub fn fetch<D: Device, W: Target>(
     alloc: Global,
     wish: &Wish,
-    torrent: bool,
+    pairs: Option<&[u8]>,
     addresses: usize,
     at_once: usize,
     device: &mut D,
@@ -402,7 +403,7 @@ pub fn fetch<D: Device, W: Target>(
     requires wish { IsWish wish.now }
     requires least { 0 < at_once }
     requires places { D.inside device.old + at_once + 256 ≤ D.places device.old }
-    ensures written { IsWritten torrent wish.now.info_hash (W.seen writer.old).held (W.seen writer.new).held result }
+    ensures written { IsWritten (option_map (λ p. p.now) pairs.entry) wish.now.info_hash (W.seen writer.old).held (W.seen writer.new).held result }
     ensures fault { result ≡ Err FetchError.Write → WriteFailed (W.seen writer.old) (W.seen writer.new) }
     ensures closed { D.inside device.new ≡ D.inside device.old }
     ensures log { IsLogged addresses (D.log device.old) (D.log device.new) result }
@@ -411,7 +412,7 @@ pub fn fetch<D: Device, W: Target>(
     let mut places = places_for::<D>(alloc, wish, at_once.min(addresses))?;
     let mut dials = Dials::new(alloc, addresses, at_once)?;
     let fetched = fetch_at(wish, &mut places, &mut dials, &mut queue, device);
-    let written = write_out::<D, W>(alloc, wish, torrent, fetched, &places, writer);
+    let written = write_out::<D, W>(alloc, wish, pairs, fetched, &places, writer);
     leave_all::<D>(&mut places, device);
     leave_dials(dials, device);
     written

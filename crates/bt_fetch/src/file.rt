@@ -1,5 +1,5 @@
 //! The file that a fetch writes, and why it writes none. The module `fetching` calls it.
-ghost use Rattle.std.specs.Prelude.{◌≡◌, ◌<◌, ℕ, true, false, Err, length, take, is_some, IfOk, MatchResult};
+ghost use Rattle.std.specs.Prelude.{◌≡◌, ◌<◌, ℕ, false, Some, Err, length, take, is_some, option_map, IfOk, MatchResult};
 ghost use Rattle.std.specs.Io.KnownBytes.{Appends};
 ghost use Rattle.bt_io.specs.Seen.{WriteFailed};
 ghost use Rattle.bt_end.specs.Ends.{metadata_of};
@@ -34,12 +34,14 @@ impl From<Memory> for FetchError {
     }
 }
 
-/// Returns a .torrent whose `info` is the metadata.
-fn torrent_of(alloc: Global, metadata: &[u8]) -> Result<Vec<u8>, AllocError>
-    ensures { IfOk result (λ file. file.items ≡ file_of true metadata.now) }
+/// Returns a .torrent of these pairs, whose `info` is the metadata.
+fn torrent_of(alloc: Global, pairs: &[u8], metadata: &[u8]) -> Result<Vec<u8>, AllocError>
+    ensures { IfOk result (λ file. file.items ≡ file_of (Some pairs.now) metadata.now) }
 {
     let mut file = Vec::new(alloc);
-    file.extend_from_slice(b"d4:info")?;
+    file.extend_from_slice(b"d")?;
+    file.extend_from_slice(pairs)?;
+    file.extend_from_slice(b"4:info")?;
     file.extend_from_slice(metadata)?;
     file.extend_from_slice(b"e")?;
     Ok(file)
@@ -58,24 +60,24 @@ fn put<W: Target>(bytes: &[u8], writer: &mut W) -> Result<usize, FetchError>
     Ok(bytes.len())
 }
 
-/// Writes the file of the metadata, if the end has fetched it.
+/// Writes the file of the metadata, if the end has fetched it: a .torrent if there are pairs for it.
 pub fn put_out<W: Target>(
     alloc: Global,
-    torrent: bool,
+    pairs: Option<&[u8]>,
     end: &End,
     writer: &mut W,
 ) -> Result<usize, FetchError>
-    ensures written { IsWritten torrent end.now.end.handshake.info_hash (W.seen writer.old).held (W.seen writer.new).held result }
+    ensures written { IsWritten (option_map (λ p. p.now) pairs.entry) end.now.end.handshake.info_hash (W.seen writer.old).held (W.seen writer.new).held result }
     ensures fault { result ≡ Err FetchError.Write → WriteFailed (W.seen writer.old) (W.seen writer.new) }
     ensures missing { result ≡ Err FetchError.NotFetched → is_some (metadata_of end.now.end.part) ≡ false }
 {
     let Some(metadata) = end.metadata() else {
         return Err(FetchError::NotFetched);
     };
-    if !torrent {
+    let Some(pairs) = pairs else {
         return put(metadata, writer);
-    }
-    let Ok(file) = torrent_of(alloc, metadata) else {
+    };
+    let Ok(file) = torrent_of(alloc, pairs, metadata) else {
         return Err(FetchError::Memory);
     };
     put(file.as_slice(), writer)

@@ -1,0 +1,5 @@
+pub mod Questions
+pub mod Datagrams
+pub mod Messages
+pub mod Nodes
+pub mod Distances
