@@ -86,7 +86,10 @@ export class Addon {
     return new Item(batch, words[w], words[w + 3], words[w + 2]);
   }
 
+  /** Where an item starts on the stream. */
   startAt({ words, base }, row) { return base + words[KEPT * row]; }
+  /** Hears that all items of a batch are taken. */
+  taken() {}
 
   /** Puts the items into columns, from row `from` on. */
   fill(columns, from, bytes, base) {

@@ -11,7 +11,7 @@ import { Wasm } from './wasm.mjs';
 export { DHT, EXTENSIONS, FAST, Id, Item, Kind, Refused };
 
 const HEAD = 17, DICT = 160;    // what a message has besides its body, and a dictionary that the library writes
-const NOTHING = new Uint8Array(), NO_WORDS = new Uint32Array();
+const NOTHING = new Uint8Array();
 
 /**
  * Loads the library, and returns its calls.
@@ -188,7 +188,7 @@ class Feed {
     /** What isn't read yet. */
     this.bytes = new Uint8Array();
     // The batch that is read, the number of the first of its items that isn't taken, and how many it has.
-    this.batch = { names: library.names, words: NO_WORDS, extended: null, bytes: this.bytes, base: 0 };
+    this.batch = null;
     this.row = 0;
     this.rows = 0;
   }
@@ -218,9 +218,8 @@ class Feed {
   /** Reads more items, and returns whether there are any. */
   fill(ended) {
     const { reader, bytes } = this, base = reader.start;
+    reader.library.taken(this.batch);
     if (reader.isDry && !ended) return false;
-    // (all are taken, so nothing is to be kept of them)
-    this.batch.words = NO_WORDS;
     const { count, used } = reader.next(bytes, 0, ended);
     if (!count) return false;
     this.batch = reader.library.kept(bytes, base);

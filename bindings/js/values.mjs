@@ -62,19 +62,19 @@ const BODY_AT = Uint8Array.from(WITH_INDEX, (has, id) => 5 + 4 * (has + WITH_BEG
 export const u32At = (bytes, at) => (bytes[at] << 24 | bytes[at + 1] << 16 | bytes[at + 2] << 8 | bytes[at + 3]) >>> 0;
 
 /**
- * What items are made of: the words of those that weren't taken yet, by the addon or bt_items; the bt_extended of extended messages; bytes of
- * the stream, and the offset on the stream of the first of these.
- * @typedef {{ names: { name(id: number, kind: number): string }, words: Uint32Array, extended: ArrayLike<number> | null, bytes: Uint8Array,
- *  base: number }} Batch
+ * What items keep, beside some numbers of their own: the bt_extended of extended messages, bytes of the stream, and the offset on the stream
+ * of the first of these.
+ * @typedef {{ names: { name(id: number, kind: number): string }, extended: ArrayLike<number> | null, bytes: Uint8Array, base: number }} Batch
  */
 
 /**
- * The item of the bt_item that begins at this word of a batch. Its bt_extended is added to those of the batch, which are an array.
+ * The item of the bt_item that begins at this word. Its bt_extended is added to those of the batch, which are an array.
  * @param {any} batch
+ * @param {Uint32Array} words
  * @param {number} w
  */
-export function itemOf(batch, w) {
-  const { words, extended, base } = batch, id = words[w + 11] >>> 16, at = words[w] - base >>> 0;
+export function itemOf(batch, words, w) {
+  const { extended, base } = batch, id = words[w + 11] >>> 16, at = words[w] - base >>> 0;
   if (id !== EXTENDED) return new Item(batch, at, WHAT[id], words[w + 8]);
   const row = extended.length / EXTENDED_WORDS;
   for (let k = w + EXTENDED_AT; k < w + WORDS; k++) extended.push(words[k]);

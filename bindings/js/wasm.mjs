@@ -14,7 +14,7 @@ export class Wasm {
     this.area = library.take(SPAN);
     this.room = SPAN;
     this.count = 0;
-    // The batch whose bt_items are still in the library's memory, if items are made of them.
+    // The bt_items of the last batch, if items are made of them: in the library's memory.
     this.last = null;
     this.names = new Names((id, kind) => {
       putItem(library.view, library.bytes, library.item, { id });
@@ -48,12 +48,18 @@ export class Wasm {
   }
 
   get structs() { return new Uint32Array(this.library.bytes.buffer, this.items, this.count * WORDS); }
-  kept(bytes, base) { return this.last = { names: this.names, words: this.structs, extended: [], bytes, base }; }
-  itemAt(batch, row) { return itemOf(batch, WORDS * row); }
-  startAt({ words }, row) { return words[WORDS * row] + words[WORDS * row + 1] * 4294967296; }
+
+  kept(bytes, base) {
+    this.last = { words: this.structs };
+    return { names: this.names, structs: this.last, extended: [], bytes, base };
+  }
+
+  itemAt(batch, row) { return itemOf(batch, batch.structs.words, WORDS * row); }
+  startAt({ structs: { words } }, row) { return words[WORDS * row] + words[WORDS * row + 1] * 4294967296; }
+  taken(batch) { if (batch?.structs === this.last) this.last = null; }
   fill(columns, from, bytes, base) { fillOf(columns, from, this.structs, base); }
 
-  /** Copies the bt_items of the last batch, before something else is written there. Those that are taken already are no longer in its words. */
+  /** Copies the bt_items of the last batch if they aren't all taken, before something else is written there. */
   release() {
     if (this.last) this.last.words = this.last.words.slice();
     this.last = null;
