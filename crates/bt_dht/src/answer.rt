@@ -3,7 +3,7 @@ ghost use Rattle.std.specs.Prelude.{◌≡◌, ◌<◌, IfSome, option_map};
 ghost use Rattle.bt_bencode.specs.LookUps.{string_of};
 ghost use Rattle.bt_bencode.specs.Views.{tree_of, trees_of};
 ghost use Rattle.bt_dht.specs.Messages.{IsBody, answer_in as answer_in_by, failure_in as failure_in_by, has_kind as has_kind_by, id_in as id_in_by};
-ghost use Rattle.bt_dht.specs.Messages.{list_at as list_at_by, nodes_at as nodes_at_by, string_at as string_at_by, told, told_failure, told_in, failed_by};
+ghost use Rattle.bt_dht.specs.Messages.{failed_by, list_at as list_at_by, nodes_at as nodes_at_by, string_at as string_at_by, told, told_failure, told_in};
 ghost use Rattle.bt_dht.specs.Messages.{transaction_of, values_in as values_in_by};
 
 use bt_bencode::{Value, lookup};

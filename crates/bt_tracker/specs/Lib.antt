@@ -1,0 +1,3 @@
+pub mod Udp
+pub mod Urls
+pub mod Questions
