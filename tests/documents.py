@@ -175,7 +175,7 @@ def uncompiled():
 
 def unproved():
     """What docs/PROVED.md gets wrong: a mutant that isn't in mutants/ or must-fail/, a call that isn't there, a crate of the toolchain that it
-    doesn't name, or a law that neither it nor docs/DEFINITIONS.md names."""
+    doesn't name, a file of laws that docs/DEFINITIONS.md doesn't name, or a law without a comment that states it."""
     text = content(os.path.join(ROOT, "docs/PROVED.md")).decode()
     mutants = re.findall(r"`(bt_\w+)/([\w-]+-[\w-]+)`", text)
     wrong = ["docs/PROVED.md: no such mutant: %s/%s\n" % it for it in mutants
@@ -186,10 +186,13 @@ def unproved():
     rows = [line.partition(":") for line in crate_rows()]
     trusted = {name for crate, _, below in rows if not crate.endswith("_tests") for name in below.split() if not name.startswith("bt_")}
     wrong += ["docs/PROVED.md: `%s` isn't named as trusted\n" % name for name in sorted(trusted) if "`%s`" % name not in text]
-    named = text + content(os.path.join(ROOT, "docs/DEFINITIONS.md")).decode()
+    listed = content(os.path.join(ROOT, "docs/DEFINITIONS.md")).decode()
     for path in glob.glob(os.path.join(ROOT, "crates/bt_*/src/**/*laws.rt"), recursive=True):
-        laws = [] if "_tests/" in path else re.findall(r"^pub fn (\w+)", content(path).decode(), re.M)
-        wrong += ["docs/PROVED.md: the law %s isn't named\n" % law for law in laws if "`%s`" % law not in named]
+        file, code = os.path.relpath(path, os.path.join(ROOT, "crates")), content(path).decode()
+        laws = [] if "_tests/" in path else re.findall(r"^pub fn (\w+)", code, re.M)
+        wrong += ["docs/DEFINITIONS.md: the laws of %s aren't named\n" % file] if laws and "`%s`" % file not in listed else []
+        stated = re.findall(r"^/// \w.*\n(?:///.*\n)*pub fn (\w+)", code, re.M)
+        wrong += ["%s: nothing says what the law %s states\n" % (file, law) for law in laws if law not in stated]
     return wrong
 
 
