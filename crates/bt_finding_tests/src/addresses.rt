@@ -9,7 +9,12 @@ type Split = (Family, &'static [u8], &'static str, usize);
 const SPLIT: &[Split] = &[
     (Family::V4, b"\x7f\0\0\x01\x1a\xe1", "127.0.0.1:6881", 0),
     (Family::V4, b"\x01\x02\x03\x04\0\x50rest", "1.2.3.4:80", 4),
-    (Family::V4, b"\xff\xfe\xfd\xfc\xff\xff\0\0\0\0\0", "255.254.253.252:65535", 5),
+    (
+        Family::V4,
+        b"\xff\xfe\xfd\xfc\xff\xff\0\0\0\0\0",
+        "255.254.253.252:65535",
+        5,
+    ),
     (
         Family::V6,
         b"\x20\x01\x0d\xb8\0\0\0\0\0\0\0\0\0\0\0\x01\x1a\xe1",
@@ -45,7 +50,10 @@ const SHORT: &[(Family, &'static [u8])] = &[
     (Family::V4, b""),
     (Family::V4, b"\x01\x02\x03\x04\0"),
     (Family::V6, b""),
-    (Family::V6, b"\x20\x01\x0d\xb8\0\0\0\0\0\0\0\0\0\0\0\x01\x1a"),
+    (
+        Family::V6,
+        b"\x20\x01\x0d\xb8\0\0\0\0\0\0\0\0\0\0\0\x01\x1a",
+    ),
 ];
 
 #[test]
@@ -151,7 +159,8 @@ const JUDGED: &[Judged] = &[
 fn is_judged(row: &Judged) -> bool {
     let (text, of_all, of_local) = *row;
     match text.parse::<SocketAddr>() {
-        Ok(address) => is_takeable(address, false) == of_all && is_takeable(address, true) == of_local,
+        Ok(address) => is_takeable(address, false) == of_all
+            && is_takeable(address, true) == of_local,
         Err(_) => false,
     }
 }

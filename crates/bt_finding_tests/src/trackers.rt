@@ -1,4 +1,4 @@
-//! A tracker's URL, its messages over UDP (BEP 15), and the question over HTTP (BEP 3).
+//! A tracker's URL, its messages over UDP (BEP 15), and those over HTTP (BEP 3, BEP 7, BEP 23).
 use bt_tracker::*;
 use std::alloc::{AllocError, Global};
 
@@ -20,10 +20,12 @@ fn connect(rt: HostRuntime) -> Result<(), AllocError> {
 }
 
 /// The fields of an announce (BEP 15) up to the peer id.
-const FRONT: &[u8] = b"connecto\0\0\0\x01tranabcdefghijklmnopqrst-TZ0001-\x00\x01\x02\xfe\xff /09AZz";
+const FRONT: &[u8] =
+    b"connecto\0\0\0\x01tranabcdefghijklmnopqrst-TZ0001-\x00\x01\x02\xfe\xff /09AZz";
 
 /// Those after it: downloaded, left, uploaded, event, address, key, wanted, port.
-const BACK: &[u8] = b"\0\0\0\0\0\0\0\0\0\0\0\0\0\0\0\x01\0\0\0\0\0\0\0\0\0\0\0\x02\0\0\0\0keys\0\0\0\x32\0\x01";
+const BACK: &[u8] =
+    b"\0\0\0\0\0\0\0\0\0\0\0\0\0\0\0\x01\0\0\0\0\0\0\0\0\0\0\0\x02\0\0\0\0keys\0\0\0\x32\0\x01";
 
 #[test]
 fn announce(rt: HostRuntime) -> Result<(), AllocError> {
@@ -40,21 +42,46 @@ type Answered = (&'static [u8], Option<([u8; 4], UdpAnswer<'static>)>);
 const ANSWERED: &[Answered] = &[
     (b"", None),
     (b"\0\0\0\0tranconnect", None),
-    (b"\0\0\0\0tranconnecto", Some((*b"tran", UdpAnswer::Connected(*b"connecto")))),
-    (b"\0\0\0\0tranconnectomore", Some((*b"tran", UdpAnswer::Connected(*b"connecto")))),
+    (
+        b"\0\0\0\0tranconnecto",
+        Some((*b"tran", UdpAnswer::Connected(*b"connecto"))),
+    ),
+    (
+        b"\0\0\0\0tranconnectomore",
+        Some((*b"tran", UdpAnswer::Connected(*b"connecto"))),
+    ),
     (b"\0\0\0\x01tran\0\0\x07\x08\0\0\0\x02\0\0\0", None),
     (
         b"\0\0\0\x01tran\0\0\x07\x08\0\0\0\x02\0\0\0\x03",
-        Some((*b"tran", UdpAnswer::Announced { interval: 1800, leechers: 2, seeders: 3, peers: b"" })),
+        Some((
+            *b"tran",
+            UdpAnswer::Announced {
+                interval: 1800,
+                leechers: 2,
+                seeders: 3,
+                peers: b"",
+            },
+        )),
     ),
     (
         b"\0\0\0\x01tran\0\0\x07\x08\0\0\0\x02\0\0\0\x03\x7f\0\0\x01\x1a\xe1",
-        Some((*b"tran", UdpAnswer::Announced { interval: 1800, leechers: 2, seeders: 3, peers: b"\x7f\0\0\x01\x1a\xe1" })),
+        Some((
+            *b"tran",
+            UdpAnswer::Announced {
+                interval: 1800,
+                leechers: 2,
+                seeders: 3,
+                peers: b"\x7f\0\0\x01\x1a\xe1",
+            },
+        )),
     ),
     (b"\0\0\0\x02tran\0\0\x07\x08\0\0\0\x02\0\0\0\x03", None),
     (b"\0\0\0\x03tra", None),
     (b"\0\0\0\x03tran", Some((*b"tran", UdpAnswer::Error(b"")))),
-    (b"\0\0\0\x03tranno such torrent", Some((*b"tran", UdpAnswer::Error(b"no such torrent")))),
+    (
+        b"\0\0\0\x03tranno such torrent",
+        Some((*b"tran", UdpAnswer::Error(b"no such torrent"))),
+    ),
     (b"\x01\0\0\0tranconnecto", None),
 ];
 
@@ -69,13 +96,37 @@ fn answers(rt: HostRuntime) {
 type Read = (&'static str, Result<Tracker<'static>, UrlError>);
 
 const READ: &[Read] = &[
-    ("udp://tracker.example:1337", Ok(Tracker::Udp { host: "tracker.example", port: 1337 })),
-    ("UDP://192.0.2.1:80/announce?x", Ok(Tracker::Udp { host: "192.0.2.1", port: 80 })),
-    ("udp://[2001:db8::1]:6969/announce", Ok(Tracker::Udp { host: "2001:db8::1", port: 6969 })),
+    (
+        "udp://tracker.example:1337",
+        Ok(Tracker::Udp {
+            host: "tracker.example",
+            port: 1337,
+        }),
+    ),
+    (
+        "UDP://192.0.2.1:80/announce?x",
+        Ok(Tracker::Udp {
+            host: "192.0.2.1",
+            port: 80,
+        }),
+    ),
+    (
+        "udp://[2001:db8::1]:6969/announce",
+        Ok(Tracker::Udp {
+            host: "2001:db8::1",
+            port: 6969,
+        }),
+    ),
     ("udp://tracker.example", Err(UrlError { at: 21 })),
     ("udp://tracker.example:", Err(UrlError { at: 21 })),
     ("udp://tracker.example:0", Err(UrlError { at: 21 })),
-    ("udp://tracker.example:65535", Ok(Tracker::Udp { host: "tracker.example", port: 65535 })),
+    (
+        "udp://tracker.example:65535",
+        Ok(Tracker::Udp {
+            host: "tracker.example",
+            port: 65535,
+        }),
+    ),
     ("udp://tracker.example:65536", Err(UrlError { at: 21 })),
     ("udp://tracker.example:+80", Err(UrlError { at: 21 })),
     ("udp://:80", Err(UrlError { at: 6 })),
@@ -83,15 +134,43 @@ const READ: &[Read] = &[
     ("udp://[2001:db8::1:80", Err(UrlError { at: 6 })),
     ("udp://[tracker]:80", Err(UrlError { at: 6 })),
     ("udp://[::1]80", Err(UrlError { at: 11 })),
-    ("http://tracker.example", Ok(Tracker::Http { host: "tracker.example", port: 80, target: b"" })),
+    (
+        "http://tracker.example",
+        Ok(Tracker::Http {
+            host: "tracker.example",
+            port: 80,
+            target: b"",
+        }),
+    ),
     (
         "http://tracker.example:8080/announce?key=1#top",
-        Ok(Tracker::Http { host: "tracker.example", port: 8080, target: b"/announce?key=1" }),
+        Ok(Tracker::Http {
+            host: "tracker.example",
+            port: 8080,
+            target: b"/announce?key=1",
+        }),
     ),
-    ("http://tracker.example?key=1/2", Ok(Tracker::Http { host: "tracker.example", port: 80, target: b"?key=1/2" })),
-    ("http://[::1]/a", Ok(Tracker::Http { host: "::1", port: 80, target: b"/a" })),
+    (
+        "http://tracker.example?key=1/2",
+        Ok(Tracker::Http {
+            host: "tracker.example",
+            port: 80,
+            target: b"?key=1/2",
+        }),
+    ),
+    (
+        "http://[::1]/a",
+        Ok(Tracker::Http {
+            host: "::1",
+            port: 80,
+            target: b"/a",
+        }),
+    ),
     ("http://tracker.example/a b", Err(UrlError { at: 22 })),
-    ("http://tracker.example/a\r\nHost: b", Err(UrlError { at: 22 })),
+    (
+        "http://tracker.example/a\r\nHost: b",
+        Err(UrlError { at: 22 }),
+    ),
     ("http://tracker .example/", Err(UrlError { at: 7 })),
     ("https://tracker.example/announce", Ok(Tracker::Unasked)),
     ("wss://tracker.example", Ok(Tracker::Unasked)),
@@ -119,8 +198,20 @@ const QUERY: &str = concat!(
 type Asked = (&'static str, u16, &'static [u8], &'static str, &'static str);
 
 const ASKED: &[Asked] = &[
-    ("tracker.example", 80, b"/announce", "GET /announce?", "tracker.example\r\n\r\n"),
-    ("tracker.example", 8080, b"/a?key=1", "GET /a?key=1&", "tracker.example:8080\r\n\r\n"),
+    (
+        "tracker.example",
+        80,
+        b"/announce",
+        "GET /announce?",
+        "tracker.example\r\n\r\n",
+    ),
+    (
+        "tracker.example",
+        8080,
+        b"/a?key=1",
+        "GET /a?key=1&",
+        "tracker.example:8080\r\n\r\n",
+    ),
     ("192.0.2.1", 80, b"", "GET /?", "192.0.2.1\r\n\r\n"),
     ("::1", 6969, b"?key=1", "GET /?key=1&", "[::1]:6969\r\n\r\n"),
 ];
@@ -147,4 +238,51 @@ fn http_questions(rt: HostRuntime) -> Result<(), AllocError> {
         assert!(rt; is_asked(alloc, row)?, "{row:?}");
     }
     Ok(())
+}
+
+/// What comes over HTTP, and what it says.
+type Said = (&'static [u8], Result<HttpAnswer<'static>, HttpError>);
+
+const SAID: &[Said] = &[
+    (
+        b"HTTP/1.0 200 OK\r\n\r\nd8:intervali1800e5:peers6:\x7f\0\0\x01\x1a\xe1e",
+        Ok(HttpAnswer::Peers {
+            v4: b"\x7f\0\0\x01\x1a\xe1",
+            v6: b"",
+        }),
+    ),
+    (
+        b"HTTP/1.1 200 OK\r\nServer: x\r\n\r\nd5:peers0:6:peers618:\x20\x01\x0d\xb8abcdefghijkl\x1a\xe1e",
+        Ok(HttpAnswer::Peers {
+            v4: b"",
+            v6: b"\x20\x01\x0d\xb8abcdefghijkl\x1a\xe1",
+        }),
+    ),
+    (
+        b"HTTP/1.0 200 OK\r\n\r\nd14:failure reason15:no such torrente",
+        Ok(HttpAnswer::Failure(b"no such torrent")),
+    ),
+    (
+        b"HTTP/1.0 200 OK\r\n\r\nd14:failure reason3:bad5:peers6:abcdefe",
+        Ok(HttpAnswer::Failure(b"bad")),
+    ),
+    (
+        b"HTTP/1.0 200 OK\r\n\r\nde",
+        Ok(HttpAnswer::Peers { v4: b"", v6: b"" }),
+    ),
+    (b"HTTP/1.0 404 Not Found\r\n\r\nde", Err(HttpError::Head)),
+    (b"HTTP/1.0 200 OK\r\nServer: x", Err(HttpError::Head)),
+    (b"d5:peers0:e", Err(HttpError::Head)),
+    (b"HTTP/1.0 200 OK\r\n\r\n", Err(HttpError::Body)),
+    (
+        b"HTTP/1.0 200 OK\r\n\r\nd5:peers6:abc",
+        Err(HttpError::Body),
+    ),
+];
+
+#[test]
+fn answers_over_http(rt: HostRuntime) {
+    for (answer, said) in SAID {
+        assert!(rt; read_http_answer(answer) == *said, "{answer:?}");
+    }
 }

@@ -1,3 +1,4 @@
 pub mod Udp
 pub mod Urls
 pub mod Questions
+pub mod HttpAnswers

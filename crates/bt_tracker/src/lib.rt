@@ -5,11 +5,13 @@
 #![tactic(auto)]
 
 mod announce;
+mod answer;
 mod question;
 mod udp;
 mod url;
 
 pub use announce::{Announce, Event};
+pub use answer::{HttpAnswer, HttpError, MAX_HTTP_ANSWER, read_http_answer};
 pub use question::http_question;
 pub use udp::{UdpAnswer, announce_question, connect_question, read_answer};
 pub use url::{Tracker, UrlError, read_tracker};
