@@ -110,10 +110,16 @@ const ANSWERS: &[Told] = &[
 fn has_peers(values: &[Value], wanted: &[&str]) -> bool {
     let mut rest = values;
     for text in wanted {
-        match (next_peer(rest), text.parse::<SocketAddr>()) {
-            (Some((found, more)), Ok(address)) if found == address => rest = more,
-            _ => return false,
+        let Some((found, more)) = next_peer(rest) else {
+            return false;
+        };
+        let Ok(address) = text.parse::<SocketAddr>() else {
+            return false;
+        };
+        if found != address {
+            return false;
         }
+        rest = more;
     }
     next_peer(rest).is_none()
 }
