@@ -114,7 +114,7 @@ export class Wasm {
     return this.written('bt_write_extended_handshake', state, [metadataId, hasSize, size], null, room);
   }
 
-  /** Makes a call that writes behind its body, with these arguments before it. */
+  /** Makes a call that writes after its body, with these arguments in front. */
   written(call, state, before, body, room) {
     const { library } = this, n = body?.length ?? 0;
     this.grow(n + room);
