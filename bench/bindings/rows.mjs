@@ -3,8 +3,10 @@ import * as hand from './hand.mjs';
 
 const PASSES = 5, CHUNK = 65536, SHORT = 40;
 
-// Each job is a function of its own, so that the engine specializes it for its kind of item.
-const job = (source, body) => new Function('source', 'bdecode', `return stream => {
+// Each job is a function of its own, so that the engine specializes it for its kind of item. It has a number, since an engine specializes
+// functions of equal text as one.
+let jobs = 0;
+const job = (source, body) => new Function('source', 'bdecode', `return stream => {  // ${jobs++}
   let sum = 0;
   for (const item of source(stream)) ${body};
   return sum;
@@ -18,7 +20,7 @@ const NUMBERS_BY_HAND = `if (item.id === 20 && item.body[0] === 0) {
 const pair = (name, stream, body, byHand, ours) => [name, stream, job(byHand, body), job(ours, body)];
 
 // The same of a feed, as one reads a socket.
-const fed = (bt, size, body) => new Function('bt', 'size', `return stream => {
+const fed = (bt, size, body) => new Function('bt', 'size', `return stream => {  // ${jobs++}
   const feed = bt.feed();
   let sum = 0;
   for (let at = 0; at < stream.length; at += size) for (const item of feed.push(stream.subarray(at, at + size))) ${body};

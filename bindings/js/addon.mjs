@@ -5,11 +5,11 @@ import { createRequire } from 'node:module';
 import { resolve } from 'node:path';
 import { fileURLToPath } from 'node:url';
 import { ITEM, ITEM_SIZE, OWN_SIZE, packOwn, READER_SIZE } from './library.mjs';
-import { EXTENDED_WORDS, fill, Item, KEPT, Names, putItem } from './values.mjs';
+import { Extended, EXTENDED_WORDS, fill, Id, Item, KEPT, Names, putItem } from './values.mjs';
 
 const ABI = 2, VERDICT_SIZE = 24, HEAD_WORDS = 8, ROOM = 2048, HANDSHAKE_SIZE = 68;
 const ITEMS_AT = HEAD_WORDS, EXTENDED_AT = HEAD_WORDS + KEPT * ROOM, OUT_WORDS = EXTENDED_AT + EXTENDED_WORDS * ROOM;
-const DEFAULT_PLACES = ['./bt.node', '../../dist/x86_64-linux/bt.node'];
+const { EXTENDED } = Id, DEFAULT_PLACES = ['./bt.node', '../../dist/x86_64-linux/bt.node'];
 
 /** The calls of the addon at a path or a file URL. They throw for what doesn't fit. */
 export function addonAt(place) {
@@ -43,6 +43,8 @@ export class Addon {
     this.addon = addon;
     this.names = namesOf(addon);
     this.out = new Uint32Array(OUT_WORDS);
+    // The last batch, if its words lie in `out` and aren't all taken.
+    this.last = null;
     this.own = new Uint8Array(OWN_SIZE);
     this.item = new Uint8Array(ITEM_SIZE);
     this.view = new DataView(this.item.buffer);
@@ -70,26 +72,33 @@ export class Addon {
    * reason of a refusal. `kept` and `fill` are for the items that were read last.
    */
   batch(state, bytes, at, ended) {
+    this.release();
     const { out } = this, status = this.addon.readerBatch(state, bytes, at, ended ? 1 : 0, out);
     return { status, count: out[0], used: out[2] + out[3] * 4294967296, place: out[4] + out[5] * 4294967296, reason: out[6] };
   }
 
   /** The batch of the items, which lie in bytes that begin at the offset `base` on the stream. */
   kept(bytes, base) {
-    const { out, names } = this, words = out.slice(ITEMS_AT, ITEMS_AT + KEPT * out[0]);
-    return { names, words, extended: out[1] ? out.slice(EXTENDED_AT, EXTENDED_AT + EXTENDED_WORDS * out[1]) : null, bytes, base };
+    this.last = { names: this.names, words: this.out, bytes, base };
+    return this.last;
   }
 
   /** An item of a batch, by its number there. */
   itemAt(batch, row) {
-    const { words } = batch, w = KEPT * row;
-    return new Item(batch, words[w], words[w + 3], words[w + 2]);
+    const { words } = batch, w = ITEMS_AT + KEPT * row, what = words[w + 3], value = words[w + 2];
+    return new Item(batch, words[w], what, (what & 65535) === EXTENDED ? new Extended(words, EXTENDED_AT + EXTENDED_WORDS * value) : value);
   }
 
   /** Where an item starts on the stream. */
-  startAt({ words, base }, row) { return base + words[KEPT * row]; }
+  startAt({ words, base }, row) { return base + words[ITEMS_AT + KEPT * row]; }
   /** Hears that all items of a batch are taken. */
-  taken() {}
+  taken(batch) { if (batch === this.last) this.last = null; }
+
+  /** Copies the words of the last batch if they aren't all taken, before others are written there. */
+  release() {
+    if (this.last) this.last.words = this.out.slice(0, this.out[1] ? EXTENDED_AT + EXTENDED_WORDS * this.out[1] : ITEMS_AT + KEPT * this.out[0]);
+    this.last = null;
+  }
 
   /** Puts the items into columns, from row `from` on. */
   fill(columns, from, bytes, base) {

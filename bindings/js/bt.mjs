@@ -184,6 +184,7 @@ const MOST = 2 ** 32 - 1;
  */
 class Feed {
   constructor(library, own) {
+    this.library = library;
     this.reader = new Reader(library, own);
     /** What isn't read yet. */
     this.bytes = new Uint8Array();
@@ -195,7 +196,7 @@ class Feed {
 
   /** Where the next item starts on the stream. */
   get start() {
-    return this.isEmpty ? this.reader.start : this.reader.library.startAt(this.batch, this.row);
+    return this.isEmpty ? this.reader.start : this.library.startAt(this.batch, this.row);
   }
 
   /** Takes all bytes of the chunk, and returns an iterator over the items that are whole. It throws Refused. */
@@ -217,12 +218,12 @@ class Feed {
 
   /** Reads more items, and returns whether there are any. */
   fill(ended) {
-    const { reader, bytes } = this, base = reader.start;
-    reader.library.taken(this.batch);
+    const { library, reader, bytes } = this, base = reader.start;
+    library.taken(this.batch);
     if (reader.isDry && !ended) return false;
     const { count, used } = reader.next(bytes, 0, ended);
     if (!count) return false;
-    this.batch = reader.library.kept(bytes, base);
+    this.batch = library.kept(bytes, base);
     this.row = 0;
     this.rows = count;
     this.bytes = bytes.subarray(used);
@@ -245,7 +246,7 @@ class FeedItems extends Items {
   next() {
     const { feed } = this, done = this.over || feed.row === feed.rows && !this.more();
     // (with one object for both answers an engine needs none)
-    return { value: done ? undefined : feed.reader.library.itemAt(feed.batch, feed.row++), done };
+    return { value: done ? undefined : feed.library.itemAt(feed.batch, feed.row++), done };
   }
 
   /** Reads more items, and returns whether there are any. It is over if not, or if that throws. */

@@ -129,7 +129,7 @@ export class End {
   /** What the addon has put into #heard: an item, and what it made of the end. */
   #told() {
     const view = this.#view, struct = new Uint32Array(this.#heard.buffer, 8, ITEM_SIZE / 4), EVENT = 8 + ITEM_SIZE;
-    const item = itemOf({ names, extended: [], bytes: this.#bytes, base: this.#base }, struct, 0);
+    const item = itemOf({ names, bytes: this.#bytes, base: this.#base }, struct, 0);
     this.#from = this.#taken;
     const event = view.getUint32(EVENT + 8, true), announced = event === Event.ANNOUNCED;
     return {

@@ -62,23 +62,37 @@ const BODY_AT = Uint8Array.from(WITH_INDEX, (has, id) => 5 + 4 * (has + WITH_BEG
 export const u32At = (bytes, at) => (bytes[at] << 24 | bytes[at + 1] << 16 | bytes[at + 2] << 8 | bytes[at + 3]) >>> 0;
 
 /**
- * What items keep, beside some numbers of their own: the bt_extended of extended messages, bytes of the stream, and the offset on the stream
- * of the first of these.
- * @typedef {{ names: { name(id: number, kind: number): string }, extended: ArrayLike<number> | null, bytes: Uint8Array, base: number }} Batch
+ * What items keep, beside some numbers of their own: bytes of the stream, and the offset on the stream of the first of these.
+ * @typedef {{ names: { name(id: number, kind: number): string }, bytes: Uint8Array, base: number }} Batch
  */
 
+/** The numbers of the bt_extended that begins at this word. (An object for each costs less than memory of its own for those of a batch.) */
+export class Extended {
+  /**
+   * @param {Uint32Array} words
+   * @param {number} w
+   */
+  constructor(words, w) {
+    const flags = words[w + 7], size = (flags & 255) === METADATA_DATA ? w : w + 2;
+    this.dictSize = words[w + 4];
+    this.piece = words[w + 6];
+    /** Its kind, the id for ut_metadata, whether it has a size, and whether it has such an id: a byte each. */
+    this.flags = flags;
+    /** The size of the metadata. */
+    this.size = words[size + 1] ? wide(bigAt(words, size)) : words[size];
+  }
+}
+
 /**
- * The item of the bt_item that begins at this word. Its bt_extended is added to those of the batch, which are an array.
- * @param {any} batch
+ * The item of the bt_item that begins at this word.
+ * @param {Batch} batch
  * @param {Uint32Array} words
  * @param {number} w
  */
 export function itemOf(batch, words, w) {
-  const { extended, base } = batch, id = words[w + 11] >>> 16, at = words[w] - base >>> 0;
+  const id = words[w + 11] >>> 16, at = words[w] - batch.base >>> 0;
   if (id !== EXTENDED) return new Item(batch, at, WHAT[id], words[w + 8]);
-  const row = extended.length / EXTENDED_WORDS;
-  for (let k = w + EXTENDED_AT; k < w + WORDS; k++) extended.push(words[k]);
-  return new Item(batch, at, id | (words[w + 21] & 255) << 16, row);
+  return new Item(batch, at, id | (words[w + 21] & 255) << 16, new Extended(words, w + EXTENDED_AT));
 }
 
 const wide = number => number <= Number.MAX_SAFE_INTEGER ? Number(number) : number;
@@ -92,7 +106,7 @@ export class Item {
    * @param {Batch} batch
    * @param {number} at Where it starts in the batch's bytes.
    * @param {number} what Its id, with flags and the kind above it.
-   * @param {number} value Its index, or the number of its row of an extended message.
+   * @param {number | Extended} value Its index, or the numbers of an extended message.
    */
   constructor(batch, at, what, value) {
     this._batch = batch;
@@ -141,19 +155,16 @@ export class Item {
   get kind() { return this._what >>> 16 & 255 || null; }
   /** The id within the extension protocol. */
   get extendedId() { return this.kind && this._batch.bytes[this._at + 5]; }
-  /** A word of the bt_extended of an extended message. */
-  _word(number) { return this._batch.extended[this._value * EXTENDED_WORDS + number]; }
-  _big(number) { return wide(bigAt(this._batch.extended, this._value * EXTENDED_WORDS + number)); }
   /** The number of a metadata block, or the piece that the peer no longer has (lt_donthave). */
-  get piece() { return WITH_PIECE[this.kind] ? this._word(6) : null; }
+  get piece() { return WITH_PIECE[this.kind] ? this._value.piece : null; }
   /** How many bytes the metadata has, by a data message; a BigInt from 2^53 on. */
-  get totalSize() { return this.kind === METADATA_DATA ? this._big(0) : null; }
+  get totalSize() { return this.kind === METADATA_DATA ? this._value.size : null; }
   /** How many bytes of the body are the dictionary of an extended message. */
-  get dictSize() { return this.kind && this._word(4); }
+  get dictSize() { return this.kind && this._value.dictSize; }
   /** How many bytes the metadata has, by an extended handshake; a BigInt from 2^53 on. */
-  get metadataSize() { return this.kind === EXT_HANDSHAKE && this._word(7) >>> 16 & 255 ? this._big(2) : null; }
+  get metadataSize() { return this.kind === EXT_HANDSHAKE && this._value.flags >>> 16 & 255 ? this._value.size : null; }
   /** The id for ut_metadata that an extended handshake announces. */
-  get utMetadata() { return this.kind === EXT_HANDSHAKE && this._word(7) >>> 24 ? this._word(7) >>> 8 & 255 : null; }
+  get utMetadata() { return this.kind === EXT_HANDSHAKE && this._value.flags >>> 24 ? this._value.flags >>> 8 & 255 : null; }
 
   /** What follows the dictionary of an extended message, as the block of a data message. */
   get rest() { return this.kind ? this.body.subarray(this.dictSize) : null; }
@@ -229,19 +240,20 @@ export function fill(columns, from, { words, bytes, base }) {
   }
 }
 
-/** The same for bt_items, of which the first one starts at this offset. */
-export function fillOf(columns, from, structs, base) {
+/** The same for so many bt_items, of which the first one starts at this offset. */
+export function fillOf(columns, from, structs, count, base) {
   const { start, size, id, kind, index, begin, length, body } = columns;
-  for (let row = from, w = 0, at = base; w < structs.length; row++, w += WORDS) {
+  for (let row = from, w = 0, at = base; row < from + count; row++, w += WORDS) {
     const number = structs[w + 11] >>> 16, what = WHAT[number];
     start[row] = at;
     at += size[row] = structs[w + 2];
     id[row] = number;
     if (number === EXTENDED) kind[row] = structs[w + 21] & 255;
-    if (what & INDEX) index[row] = structs[w + 8];
-    if (what & BEGIN) begin[row] = structs[w + 9];
-    if (what & LENGTH) length[row] = structs[w + 10];
-    if (number !== HANDSHAKE) body[row] = structs[w + 4];
+    // (numbers that a message doesn't have mean nothing there; no branch of them can be foretold)
+    index[row] = structs[w + 8] & -(what >>> 24 & 1);
+    begin[row] = structs[w + 9] & -(what >>> 25 & 1);
+    length[row] = structs[w + 10] & -(what >>> 26 & 1);
+    body[row] = structs[w + 4];
   }
 }
 

@@ -1,10 +1,10 @@
 // The proved library as WebAssembly (bt.wasm), as bt.mjs wants it: addon.mjs has the same calls. Nothing of this file is proved.
 // The library sees only its own memory, so what is read or written is copied there, except what is inside long blocks.
-import { ITEM, ITEM_SIZE, MORE, OWN_SIZE, packOwn, READER_SIZE } from './library.mjs';
+import { ITEM, ITEM_SIZE, MORE, OWN_SIZE, READER_SIZE, REFUSED } from './library.mjs';
 import { fillOf, Id, itemOf, Names, putItem, u32At } from './values.mjs';
 
-const ROOM = 2048, WINDOW = 65536, SPAN = 1 << 20, HANDSHAKE_SIZE = 68, PIECE_HEAD = 13, LONG = 512, MANY = 64, WORDS = ITEM_SIZE / 4;
-const { PIECE } = Id;
+const ROOM = 2048, WINDOW = 20 * ROOM, SPAN = 1 << 20, HANDSHAKE_SIZE = 68, PIECE_HEAD = 13, LONG = 512, MANY = 64, WORDS = ITEM_SIZE / 4;
+const { PIECE } = Id, ACCEPTED = { place: 0, reason: 0 };
 
 export class Wasm {
   /** @param {import('./library.mjs').Library} library */
@@ -14,7 +14,12 @@ export class Wasm {
     this.area = library.take(SPAN);
     this.room = SPAN;
     this.count = 0;
-    // The bt_items of the last batch, if items are made of them: in the library's memory.
+    this.see();
+    // The arguments of bt_reader_batch that don't change.
+    this.given = [library.reader, this.items, ROOM, library.small].map(BigInt);
+    // The state of a reader, if it lies in the library's memory.
+    this.state = null;
+    // The last batch, if its bt_items lie in the library's memory and aren't all taken.
     this.last = null;
     this.names = new Names((id, kind) => {
       putItem(library.view, library.bytes, library.item, { id });
@@ -26,54 +31,82 @@ export class Wasm {
   reasonName(reason) { return this.library.reasonName(reason); }
 
   begin(own) {
-    const { library } = this;
-    library.begin(own);
-    return library.bytes.slice(library.reader, library.reader + READER_SIZE);
+    this.leave();
+    this.library.begin(own);
+    this.state = new Uint8Array(READER_SIZE);
+    return this.state;
   }
 
   batch(state, bytes, at, ended) {
-    const { library } = this, rest = bytes.length - at, isOpen = state[OWN_SIZE] !== 0;
     this.release();
+    this.enter(state);
+    const { library } = this, rest = bytes.length - at, isOpen = this.memory[library.reader + OWN_SIZE] !== 0;
     for (let least = WINDOW; ; least *= 2) {
-      const n = this.put(bytes, at, isOpen, least);
-      library.bytes.set(state, library.reader);
-      const { answer, count, used } = library.batch(this.area, n, this.items, ROOM);
-      // (a long message may not be whole in what was copied)
-      if (!count && answer === MORE && n < rest) continue;
-      const isLast = !count && answer === MORE && ended, status = isLast ? library.finish(this.area, n, this.items) : answer;
-      this.save(state);
+      const n = this.put(bytes, at, isOpen, least), { answer, count, used } = this.readArea(n);
+      // (only some of the bytes were copied, and a long message may not be whole there)
+      const isCut = answer === MORE && n < rest, isLast = answer === MORE && !isCut && !count && ended;
+      if (isCut && !count) continue;
+      const status = isCut ? ITEM : isLast ? library.finish(this.area, n, this.items) : answer;
+      const { place, reason } = status === REFUSED ? this.refused(this.items + count * ITEM_SIZE) : ACCEPTED;
       this.count = count;
-      return { status, count, used, ...this.refused(this.items + count * ITEM_SIZE) };
+      return { status, count, used, place, reason };
     }
   }
 
-  get structs() { return new Uint32Array(this.library.bytes.buffer, this.items, this.count * WORDS); }
+  /** Reads items of the first bytes of the area. */
+  readArea(n) {
+    const { batched, library: { calls }, given: [reader, items, room, small] } = this;
+    const answer = calls.bt_reader_batch(reader, BigInt(this.area), BigInt(n), items, room, small);
+    return { answer, count: batched[0], used: batched[2] + batched[3] * 4294967296 };
+  }
 
   kept(bytes, base) {
-    this.last = { words: this.structs };
-    return { names: this.names, structs: this.last, extended: [], bytes, base };
+    this.last = { names: this.names, words: this.structs, bytes, base };
+    return this.last;
   }
 
-  itemAt(batch, row) { return itemOf(batch, batch.structs.words, WORDS * row); }
-  startAt({ structs: { words } }, row) { return words[WORDS * row] + words[WORDS * row + 1] * 4294967296; }
-  taken(batch) { if (batch?.structs === this.last) this.last = null; }
-  fill(columns, from, bytes, base) { fillOf(columns, from, this.structs, base); }
-
-  /** Copies the bt_items of the last batch if they aren't all taken, before something else is written there. */
-  release() {
-    if (this.last) this.last.words = this.last.words.slice();
-    this.last = null;
-  }
-
-  save(state) {
-    const { library } = this;
-    state.set(library.bytes.subarray(library.reader, library.reader + READER_SIZE));
-  }
+  itemAt(batch, row) { return itemOf(batch, batch.words, WORDS * row); }
+  startAt({ words }, row) { return words[WORDS * row] + words[WORDS * row + 1] * 4294967296; }
+  taken(batch) { if (batch === this.last) this.last = null; }
+  fill(columns, from, bytes, base) { fillOf(columns, from, this.structs, this.count, base); }
 
   /** The place and the reason of a bt_item, after a refusal. */
   refused(at) {
     const { view } = this.library;
     return { place: Number(view.getBigUint64(at, true) + view.getBigUint64(at + 8, true)), reason: view.getUint8(at + 49) };
+  }
+
+  /** Copies the bt_items of the last batch if they aren't all taken, before something else is written there. */
+  release() {
+    if (this.last) this.last.words = this.structs.slice(0, WORDS * this.count);
+    this.last = null;
+  }
+
+  /** Makes the views of the library's memory, which end when it grows: of all its bytes, the bt_items and the bt_batch. */
+  see() {
+    const { bytes, small } = this.library;
+    this.memory = bytes;
+    this.structs = new Uint32Array(bytes.buffer, this.items, (ROOM + 1) * WORDS);
+    this.batched = new Uint32Array(bytes.buffer, small, 4);
+  }
+
+  /** Puts the state of a reader into the library's memory, if it isn't there. */
+  enter(state) {
+    if (this.state === state) return;
+    this.leave();
+    this.memory.set(state, this.library.reader);
+    this.state = state;
+  }
+
+  /** Takes the state of a reader out of the library's memory, before something else is written there. */
+  leave() {
+    if (this.state) this.save(this.state);
+    this.state = null;
+  }
+
+  save(state) {
+    const { reader } = this.library;
+    state.set(this.memory.subarray(reader, reader + READER_SIZE));
   }
 
   check(own, bytes) {
@@ -94,6 +127,7 @@ export class Wasm {
 
   writer(own, reserved) {
     const { library } = this, state = new Uint8Array(READER_SIZE);
+    this.leave();
     library.putOwn(library.own, own);
     library.calls.bt_writer_init(BigInt(library.reader), BigInt(library.own), reserved);
     this.save(state);
@@ -117,6 +151,7 @@ export class Wasm {
   /** Makes a call that writes after its body, with these arguments in front. */
   written(call, state, before, body, room) {
     const { library } = this, n = body?.length ?? 0;
+    this.leave();
     this.grow(n + room);
     const { bytes, view } = library, out = this.area + n;
     if (body) bytes.set(body, this.area);
@@ -133,6 +168,7 @@ export class Wasm {
     this.release();
     this.room = Math.max(wanted, 2 * this.room);
     this.area = this.library.take(this.room);
+    this.see();
   }
 
   /**
@@ -142,7 +178,7 @@ export class Wasm {
   put(bytes, at, isOpen, least) {
     const stop = Math.min(bytes.length, at + Math.max(SPAN, least)), { skips, end } = blocksIn(bytes, at, stop, isOpen, least);
     this.grow(end - at);
-    const { bytes: memory } = this.library, to = this.area - at;
+    const { memory } = this, to = this.area - at;
     let from = at;
     for (let k = 0; k < skips.length; k += 2) {
       copy(memory, to, bytes, from, skips[k]);

@@ -13,6 +13,7 @@ import prover
 CRATES = prover.CRATES
 FUNCTION = re.compile(r"( *)(?:pub(?:\([^)]*\))? )?(?:const )?(?:unsafe )?(?:extern \"C\" )?fn (\w+)")
 IMPL = re.compile(r"impl(?:<.*?>)? (?:(?P<trait>[\w:]+)(?:<(?P<words>[^>]*)>)? for )?(?P<type>\w+)")
+TYPE = re.compile(r"^(?:pub(?:\([^)]*\))? )?(?:struct|enum) (\w+)", re.M)
 # The checks that run now.
 RUNNING = set()
 
@@ -40,6 +41,7 @@ class Function:
             trait = (it["trait"] or "").split("::")[-1] + "".join(re.findall(r"(?<!')\b\w+", it["words"] or ""))
             path, self.types = [it["type"] + trait], (it["type"], it["type"] + trait)
         self.name, self.file, self.word = "::".join([*path, name]), file, name
+        self.module = "::".join(file[len("src/") : -len(".rt")].split("/"))
         end = next(i for i in range(heads[0], len(lines)) if lines[i].startswith(margin + "}"))
         # (the prover names the line of the first attribute)
         start = next(i for i in range(heads[0], -1, -1) if not lines[i - 1].lstrip().startswith("#["))
@@ -116,6 +118,11 @@ class Crate:
     def __init__(self, name, edits):
         self.name, self.folder, self.edits, self.words, self.keep = name, CRATES / name, edits, [], lambda sums: None
 
+    def asked(self, function):
+        """The name by which a check is asked for a function: with its module if the types of two modules have one name."""
+        is_twice = function.types and sum(function.types[0] in TYPE.findall(it.read_text()) for it in (self.folder / "src").rglob("*.rt")) > 1
+        return f"{self.name}::{function.module}::{function.name}" if is_twice else function.name
+
     def check(self, room, edits):
         """Checks the functions of these mutants with their bodies in place, and gives what the prover says."""
         shutil.rmtree(room / "src", ignore_errors=True)
@@ -123,7 +130,7 @@ class Crate:
         for path, old, new in [it for edit in edits for it in edit.pairs]:
             file = room / path
             file.write_text(file.read_text().replace(old, new))
-        only = [word for edit in edits for name in edit.functions for word in ("--only", name)]
+        only = [word for edit in edits for it in edit.functions.values() for word in ("--only", self.asked(it))]
         words = [*self.words, "--incremental", room / "kept", *only]
         for _ in range(2):
             with subprocess.Popen(words, cwd=room, stdout=subprocess.PIPE, stderr=subprocess.STDOUT, errors="replace") as ran:

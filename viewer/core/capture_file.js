@@ -9,6 +9,8 @@ const SECTION = 0x0a0d0d0a;
 const PCAP = { 0xd4c3b2a1: [true, 1e6], 0xa1b2c3d4: [false, 1e6], 0x4d3cb2a1: [true, 1e9], 0xa1b23c4d: [false, 1e9] };
 const HEADERS = 4096;           // link, IP and TCP headers lie within the first bytes of a packet
 const MOST_OPTIONS = 65536;
+const MOST_INTERFACES = 1024;
+const MOST_COMPARED = 1048604;   // the last length of a longer block isn't looked at, since its end needn't be read
 const TIMESTAMP_RESOLUTION = 9, TIMESTAMP_OFFSET = 14;    // the options if_tsresol and if_tsoffset
 const LATEST = (2 ** 64 - 1) / 1e9;     // the last time in seconds whose nanoseconds 64 bits hold
 
@@ -91,6 +93,9 @@ class PcapngReader {
       const kind = window.view.getUint32(window.base, this.little), size = window.view.getUint32(window.base + 4, this.little);
       if (size < 12) throw new Error('a block of the pcapng file has an impossible length');
       if (at + size > length) return { packets: this.packet.number, cut: true };
+      if (size <= MOST_COMPARED && window.show(at + size - 4, 4) && window.view.getUint32(window.base, this.little) !== size) {
+        throw new Error('the two lengths of a block of the pcapng file differ');
+      }
       this.readBlock(kind, at + 8, size - 12);
       at += size;
     }
@@ -110,15 +115,22 @@ class PcapngReader {
     if (kind === 1 && size >= 8) {
       const shown = Math.min(size, MOST_OPTIONS);
       window.show(body, shown);
-      this.faces.push(faceOf(window.view, window.base, window.base + shown, little));
+      if (this.faces.length < MOST_INTERFACES) this.faces.push(faceOf(window.view, window.base, window.base + shown, little));
     } else if ((kind === 2 || kind === 6) && size >= 20) this.readPacket(kind, body, size);
-    else if (kind === 3 && size >= 4 && this.faces.length) {
+    else if (kind === 3 && size >= 4) {
       window.show(body, 4);
       const wire = window.view.getUint32(window.base, little);
-      const [{ link, snap }] = this.faces;
+      const { link, snap } = this.face(0);
       // what follows the snap length is padding; 0 is none
       this.give(link, 0, body + 4, Math.min(wire, snap || wire, size - 4), wire);
     }
+  }
+
+  /** @param {number} number */
+  face(number) {
+    const face = this.faces[number];
+    if (!face) throw new Error("a packet of the pcapng file names an interface that isn't described, or is beyond the first 1,024");
+    return face;
   }
 
   /** @param {number} kind @param {number} body @param {number} size */
@@ -126,8 +138,7 @@ class PcapngReader {
     this.window.show(body, 20);
     const { view, base } = this.window, { little } = this;
     // the old packet block has two bytes of interface and two of drops
-    const face = this.faces[kind === 2 ? view.getUint16(base, little) : view.getUint32(base, little)];
-    if (!face) { this.packet.number++; return; }
+    const face = this.face(kind === 2 ? view.getUint16(base, little) : view.getUint32(base, little));
     const ticks = view.getUint32(base + 4, little) * 4294967296 + view.getUint32(base + 8, little);
     const captured = Math.min(view.getUint32(base + 12, little), size - 20);
     const seconds = Math.min(Math.max(ticks / face.unit + face.offset, 0), LATEST);

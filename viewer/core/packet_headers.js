@@ -1,16 +1,12 @@
-// From a captured packet to the TCP segment or UDP datagram in it: Ethernet with VLAN tags, Linux cooked (both versions), loopback,
-// raw IP.
+// From a captured packet to the TCP segment or UDP datagram in it, also in a packet in another one. `links.js` finds where IP starts.
+import { afterGre, ipStart } from './links.js';
 
 export const FIN = 1, SYN = 2, RST = 4, ACK = 16;
 export const TCP = 6, UDP = 17;
-const IPV4 = 0x0800, IPV6 = 0x86dd;
-const VLAN_TAGS = new Set([0x8100, 0x88a8, 0x9100]);
-/**
- * Link type: where the type of what is carried stands (null: the IP version says it), and the length of the header.
- * @type {Record<number, [number | null, number]>}
- */
-const LINKS = { 1: [12, 14], 113: [14, 16], 276: [0, 20], 0: [null, 4], 108: [null, 4], 12: [null, 0], 14: [null, 0],
-  101: [null, 0], 228: [null, 0], 229: [null, 0] };
+const IPV4_IN_IP = 4, IPV6_IN_IP = 41, GRE = 47, AUTHENTICATION = 51, FRAGMENT = 44;
+const EXTENSIONS = new Set([0, 43, FRAGMENT, AUTHENTICATION, 60]);
+/** How many packets may stand in one another. */
+const DEPTH = 16;
 
 /** What a packet carries. Places count in the packet; `length` is that of the payload on the wire. */
 export class Headers {
@@ -34,46 +30,46 @@ export class Headers {
    * @param {import('./capture_file.js').Packet} packet
    */
   read(packet) {
-    const { view, at, seen } = packet, end = at + seen, start = this.ipStart(packet);
-    if (start < 0 || start + 20 > end) return false;
-    const version = view.getUint8(start) >> 4, wire = packet.wire - (start - at);
-    const found = version === 4 ? this.readIpv4(view, start, wire) : version === 6 ? this.readIpv6(view, start, end, wire) : null;
-    if (!found) return false;
-    const [head, total] = found, place = start + head, last = Math.min(at + packet.captured, start + total);
-    this.isSix = version === 6;
-    if (this.protocol === TCP) return place + 20 <= Math.min(last, end) && this.readTcp(view, place, last, total - head, at);
-    return this.protocol === UDP && place + 8 <= Math.min(last, end) && this.readUdp(view, place, last, total - head, at);
-  }
-
-  /**
-   * Where the IP header starts in the view, or -1.
-   * @param {import('./capture_file.js').Packet} packet
-   */
-  ipStart({ view, link, at, seen }) {
-    const known = LINKS[link];
-    if (!known) return -1;
-    let start = at + known[1];
-    if (known[0] === null) return start;
-    if (start + 1 > at + seen) return -1;
-    let kind = view.getUint16(at + known[0]);
-    while (VLAN_TAGS.has(kind) && start + 4 <= at + seen) {
-      kind = view.getUint16(start + 2);
-      start += 4;
+    const { view, at, seen } = packet, end = at + seen;
+    let start = ipStart(packet), wire = packet.wire - (start - at), last = at + packet.captured;
+    for (let depth = 0; depth < DEPTH; depth++) {
+      if (start < 0 || start + 20 > end) return false;
+      const version = view.getUint8(start) >> 4;
+      const found = version === 4 ? this.readIpv4(view, start, end, wire) : version === 6 ? this.readIpv6(view, start, end, wire) : null;
+      if (!found) return false;
+      const [head, total] = found, place = start + head;
+      last = Math.min(last, start + total);
+      this.isSix = version === 6;
+      if (this.protocol === TCP) return place + 20 <= Math.min(last, end) && this.readTcp(view, place, last, total - head, at);
+      if (this.protocol === UDP) return place + 8 <= Math.min(last, end) && this.readUdp(view, place, last, total - head, at);
+      start = this.innerStart(view, place, Math.min(last, end));
+      wire = total - head - (start - place);
     }
-    return kind === IPV4 || kind === IPV6 ? start : -1;
+    return false;
+  }
+
+  /** Where the packet starts that is carried, or -1. @param {DataView} view @param {number} place @param {number} end */
+  innerStart(view, place, end) {
+    if (this.protocol === GRE) return afterGre(view, place, end);
+    return this.protocol === IPV4_IN_IP || this.protocol === IPV6_IN_IP ? place : -1;
   }
 
   /**
-   * The length of the header and of the packet, or null.
-   * @param {DataView} view @param {number} start @param {number} wire @returns {[number, number] | null}
+   * The length of the headers and of the packet, or null.
+   * @param {DataView} view @param {number} start @param {number} end @param {number} wire @returns {[number, number] | null}
    */
-  readIpv4(view, start, wire) {
+  readIpv4(view, start, end, wire) {
     if (view.getUint16(start + 6) & 0x3fff) return null;
+    let head = 4 * (view.getUint8(start) & 15);
     this.protocol = view.getUint8(start + 9);
     this.sourceAt = start + 12;
     this.targetAt = start + 16;
+    while (this.protocol === AUTHENTICATION && start + head + 2 <= end) {
+      this.protocol = view.getUint8(start + head);
+      head += 4 * (view.getUint8(start + head + 1) + 2);
+    }
     // if the sender's network card cuts what is sent, the length is 0
-    return [4 * (view.getUint8(start) & 15), view.getUint16(start + 2) || wire];
+    return [head, view.getUint16(start + 2) || wire];
   }
 
   /** @param {DataView} view @param {number} start @param {number} end @param {number} wire @returns {[number, number] | null} */
@@ -81,9 +77,12 @@ export class Headers {
     if (start + 40 > end) return null;
     const size = view.getUint16(start + 4);
     let kind = view.getUint8(start + 6), head = 40;
-    while ((kind === 0 || kind === 43 || kind === 60) && start + head + 2 <= end) {
+    while (EXTENSIONS.has(kind) && start + head + 4 <= end) {
+      const words = view.getUint8(start + head + 1);
+      if (kind === FRAGMENT && view.getUint16(start + head + 2) & 0xfff9) return null;
+      const size = kind === FRAGMENT ? 8 : kind === AUTHENTICATION ? 4 * (words + 2) : 8 * (words + 1);
       kind = view.getUint8(start + head);
-      head += 8 * (view.getUint8(start + head + 1) + 1);
+      head += size;
     }
     this.protocol = kind;
     this.sourceAt = start + 8;
@@ -111,8 +110,9 @@ export class Headers {
     this.sourcePort = view.getUint16(udp);
     this.targetPort = view.getUint16(udp + 2);
     this.payload = udp + 8 - at;
-    this.captured = last - udp - 8;
-    this.length = Math.max(size - 8, 0);
+    // the length in the header counts the header too
+    this.length = Math.max(Math.min(size, view.getUint16(udp + 4)) - 8, 0);
+    this.captured = Math.min(last - udp - 8, this.length);
     return true;
   }
 

@@ -25,6 +25,8 @@ class Side {
     this.deepest = 0;                   // how many requests were open at once
     this.lastAnswered = -1;             // the latest of its requests that got an answer
     this.lastChoke = -1;
+    this.lastUnchoke = -1;              // the row with which it last stopped choking
+    this.cancelled = new Set();         // the rows of its requests that it cancelled
     // from these rows on the state is: bit 0, it chokes the other; bit 1, it is interested
     this.stateRows = [0];
     this.states = [1];
@@ -33,6 +35,7 @@ class Side {
   /** @param {number} row @param {number} code */
   change(row, code) {
     const before = this.states[this.states.length - 1];
+    if (code === CODE.unchoke && this.isChoking) this.lastUnchoke = row;
     if (code < 2) this.isChoking = code === CODE.choke; else this.isInterested = code === CODE.interested;
     if (code === CODE.choke) this.lastChoke = row;
     const state = (this.isChoking ? 1 : 0) | (this.isInterested ? 2 : 0);
@@ -52,10 +55,12 @@ export class Matcher {
     this.sides = [new Side(), new Side()];
     // with one direction alone nothing can be matched
     this.isMatched = shown.every(({ count }) => count > 0);
+    // with the Fast Extension of both sides each request is answered
+    this.isFast = directions.every(it => it.isWhole && it.sender.reserved & FAST);
     // without times nobody knows what came before the place from which on a direction isn't read
     for (const event of events) if (!hasTimes && STOPS.has(event.kind)) this.sides[event.side].isStopped = true;
     for (let r = 0; r < rows.length; r++) this.take(r, rows[r]);
-    if (directions.every(it => it.isWhole && it.sender.reserved & FAST)) this.markUnanswered(firstClose(connection));
+    if (this.isFast) this.markUnanswered(firstClose(connection));
   }
 
   /**
@@ -81,7 +86,17 @@ export class Matcher {
     else if (code === CODE.cancel) {
       const asked = this.sides[side].asked.get(CODE.request, items.a[k], items.b[k]);
       if (asked >= 0) this.mate[r] = asked + 1;
+      if (asked >= 0 && this.lengthAsked(asked) === items.c[k]) this.sides[side].cancelled.add(asked);
     }
+  }
+
+  /**
+   * Whether the other side may have dropped a request: without the Fast Extension a choke rejects all that are open, and a cancel its own.
+   * @param {number} asked the row of the request @param {number} side
+   */
+  isDropped(asked, side) {
+    const { isChoking, lastUnchoke } = this.sides[1 - side];
+    return !this.isFast && (isChoking || asked < lastUnchoke || this.sides[side].cancelled.has(asked));
   }
 
   /** @param {number} r @param {number} side @param {number} k @param {number} code */
@@ -100,7 +115,8 @@ export class Matcher {
   takeRequest(r, side, k, code) {
     const mine = this.sides[side], other = this.sides[1 - side], { hasTimes, directions } = this.talk,
       { a, b } = directions[side].items;
-    if (hasTimes && mine.asked.get(code, a[k], b[k]) >= 0) this.flags[r] |= AGAIN;
+    const asked = mine.asked.get(code, a[k], b[k]), isOpen = asked >= 0 && !(code === CODE.request && this.isDropped(asked, side));
+    if (hasTimes && isOpen && this.isKnown(1 - side)) this.flags[r] |= AGAIN;
     mine.asked.set(code, a[k], b[k], r);
     if (code !== CODE.request) return;
     if (hasTimes && other.isChoking && !mine.allowed.has(a[k]) && !other.isStopped) this.flags[r] |= CHOKED;

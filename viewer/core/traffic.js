@@ -60,9 +60,9 @@ export class Traffic {
     const isRead = headers.read(packet);
     if (!isRead || headers.protocol !== TCP) {
       this.skipped++;
-      if (isRead && headers.captured >= 4) {
+      if (isRead) {
         const { view } = packet;
-        this.utp.take(view, packet.at + headers.payload, headers.captured, headers.source(view), headers.target(view));
+        this.utp.take(view, packet.at + headers.payload, headers.captured, headers.length, headers.source(view), headers.target(view));
       }
       return;
     }

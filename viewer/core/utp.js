@@ -1,6 +1,6 @@
 // Finds uTP (BEP 29) among UDP datagrams. It is counted and not read.
 
-const HEADER = 20;
+const HEADER = 20, DATA = 0, FIN = 1;
 
 /** Counts, for each two ends, the datagrams that have a uTP header. */
 export class UtpFlows {
@@ -10,11 +10,11 @@ export class UtpFlows {
   }
 
   /**
-   * Takes a datagram whose payload starts at this place of the view.
-   * @param {DataView} view @param {number} at @param {number} size @param {string} source @param {string} target
+   * Takes a datagram whose payload starts at this place of the view. Of its `size` bytes `captured` ones were captured.
+   * @param {DataView} view @param {number} at @param {number} captured @param {number} size @param {string} source @param {string} target
    */
-  take(view, at, size, source, target) {
-    if (!isUtp(view, at, size)) return;
+  take(view, at, captured, size, source, target) {
+    if (!isUtp(view, at, captured, size)) return;
     const key = source < target ? `${source} ${target}` : `${target} ${source}`, id = view.getUint16(at + 2);
     let flow = this.flows.get(key);
     if (!flow) this.flows.set(key, flow = { ends: [source, target], ids: new Map() });
@@ -41,11 +41,21 @@ export class UtpFlows {
 }
 
 /**
- * Version 1, a type from 0 to 4, and an extension that is none, selective acks or extension bits.
- * @param {DataView} view @param {number} at @param {number} size
+ * Version 1, a type from 0 to 4, a chain of extensions that fits, and a payload if the type has one: ST_DATA always, ST_FIN perhaps.
+ * @param {DataView} view @param {number} at @param {number} captured @param {number} size
  */
-function isUtp(view, at, size) {
-  if (size < HEADER || at + 4 > view.byteLength) return false;
-  const first = view.getUint8(at);
-  return (first & 15) === 1 && first >> 4 <= 4 && view.getUint8(at + 1) <= 2;
+function isUtp(view, at, captured, size) {
+  const end = Math.min(at + captured, view.byteLength);
+  if (at + HEADER > end) return false;
+  const first = view.getUint8(at), type = first >> 4;
+  if ((first & 15) !== 1 || type > 4) return false;
+  let extension = view.getUint8(at + 1), place = at + HEADER;
+  while (extension) {
+    if (place + 2 > end) return false;
+    extension = view.getUint8(place);
+    place += 2 + view.getUint8(place + 1);
+    if (place > end) return false;
+  }
+  const payload = size - (place - at);
+  return type === DATA ? payload > 0 : type === FIN || payload === 0;
 }

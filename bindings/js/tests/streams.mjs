@@ -266,6 +266,14 @@ const TESTS = {
     assert.throws(() => [...bt.read(wrong, own)], { at: stream.length + 5, reason: 'BadIndex', number: 1 + 700 + haves + 1 });
   },
 
+  // (in WebAssembly it is copied in several parts)
+  longChunks() {
+    const writer = openWriter(), parts = Array.from({ length: 5000 }, (_, k) => writer.piece(k, 0, new Uint8Array(87))), feed = bt.feed();
+    const stream = joined([HELLO, bytesOf('0000000f 07 00000001 00000000 616263646566'), ...parts]), starts = Array.from(feed.push(stream), item => item.start);
+    assert.deepEqual(starts, [0, 68, ...parts.map((_, k) => 87 + 100 * k)]);
+    assert.deepEqual([...feed.finish()], []);
+  },
+
   // A long message in short chunks: its bytes are copied a few times, and not once for each chunk.
   shortChunksOfALongMessage() {
     const size = 8 << 20, own = { limit: 9 << 20 }, feed = bt.feed(own), stream = joined([HELLO, bt.writer(own, 0).piece(1, 2, new Uint8Array(size).fill(7))]);

@@ -27,27 +27,35 @@ is_takeable_v4 is_local other = false
 
 -- ---- IPv6, by segments of 16 bits
 
--- IPv4-mapped address ::ffff:0:0/96
-abbrev pub is_mapped : (a b c d e f : ℕ) → Bool
-is_mapped a b c d e f = (a == 0) && ((b == 0) && ((c == 0) && ((d == 0) && ((e == 0) && (f == 0xffff)))))
-
--- Unspecified address :: and loopback address ::1
-abbrev pub is_own_v6 : (a b c d e f g h : ℕ) → Bool
-is_own_v6 a b c d e f g h = (a == 0) && ((b == 0) && ((c == 0) && ((d == 0) && ((e == 0) && ((f == 0) && ((g == 0) && nat_le h 1))))))
+-- IPv4-mapped address ::ffff:0:0/96, IPv4-compatible ::/96 (RFC 4291, section 2.5.5.1), of which :: and ::1 are two, and IPv4-IPv6
+-- translation 64:ff9b::/96 (RFC 6052, section 2.1)
+abbrev pub has_v4_last : (a b c d e f : ℕ) → Bool
+has_v4_last a b c d e f = (c == 0) && ((d == 0) && ((e == 0)
+    && (((a == 0) && ((b == 0) && ((f == 0) || (f == 0xffff)))) || ((a == 0x64) && ((b == 0xff9b) && (f == 0))))))
 
 -- Multicast ff00::/8 and documentation 2001:db8::/32
 abbrev pub is_no_peer_v6 : (a b : ℕ) → Bool
 is_no_peer_v6 a b = nat_le 0xff00 a || ((a == 0x2001) && (b == 0xdb8))
 
--- Unique-local fc00::/7 and linked-scoped unicast fe80::/10
-abbrev pub is_local_v6 : ℕ → Bool
-is_local_v6 a = (nat_le 0xfc00 a && nat_le a 0xfdff) || (nat_le 0xfe80 a && nat_le a 0xfebf)
+-- Unique-local fc00::/7, linked-scoped unicast fe80::/10, and local-use translation 64:ff9b:1::/48 (RFC 8215)
+abbrev pub is_local_v6 : (a b c : ℕ) → Bool
+is_local_v6 a b c = (nat_le 0xfc00 a && nat_le a 0xfdff) || ((nat_le 0xfe80 a && nat_le a 0xfebf)
+    || ((a == 0x64) && ((b == 0xff9b) && (c == 1))))
 
--- an IPv4-mapped address as its IPv4 address
+-- the octets of two segments
+abbrev pub octets_of_two : (high low : ℕ) → List ℕ
+octets_of_two high low = (high / 256) ∷ (high % 256) ∷ (low / 256) ∷ (low % 256) ∷ []
+
+-- by the first three segments; those of 6to4 hold an IPv4 address after 2002 (RFC 3056, section 2)
+abbrev pub is_takeable_front : Bool → (a b c : ℕ) → Bool
+is_takeable_front is_local a b c =
+    if a == 0x2002 then is_takeable_v4 is_local (octets_of_two b c)
+    else (not (is_no_peer_v6 a b) && (is_local || not (is_local_v6 a b c)))
+
+-- what holds an IPv4 address is judged by that one
 abbrev pub is_takeable_v6 : Bool → List ℕ → Bool
 is_takeable_v6 is_local (a ∷ b ∷ c ∷ d ∷ e ∷ f ∷ g ∷ h ∷ []) =
-    if is_mapped a b c d e f then is_takeable_v4 is_local ((g / 256) ∷ (g % 256) ∷ (h / 256) ∷ (h % 256) ∷ [])
-    else (not (is_own_v6 a b c d e f g h) && (not (is_no_peer_v6 a b) && (is_local || not (is_local_v6 a))))
+    if has_v4_last a b c d e f then is_takeable_v4 is_local (octets_of_two g h) else is_takeable_front is_local a b c
 is_takeable_v6 is_local other = false
 
 -- ---- both

@@ -2,9 +2,9 @@
 ghost use Rattle.std.specs.Prelude.{◌≡◌};
 ghost use Rattle.std.specs.Net.Addr.{ipv4_octets, ipv6_segments};
 ghost use Rattle.bt_address.specs.Takeable.{is_for_tests as is_for_tests_by, is_local_v4 as is_local_v4_by, is_local_v6 as is_local_v6_by};
-ghost use Rattle.bt_address.specs.Takeable.{is_mapped as is_mapped_by, is_no_peer_v4 as is_no_peer_v4_by, is_no_peer_v6 as is_no_peer_v6_by};
-ghost use Rattle.bt_address.specs.Takeable.{is_own_v6 as is_own_v6_by, is_takeable as is_takeable_by, is_takeable_v4 as is_takeable_v4_by};
-ghost use Rattle.bt_address.specs.Takeable.{is_takeable_v6 as is_takeable_v6_by};
+ghost use Rattle.bt_address.specs.Takeable.{has_v4_last as has_v4_last_by, is_no_peer_v4 as is_no_peer_v4_by, is_no_peer_v6 as is_no_peer_v6_by};
+ghost use Rattle.bt_address.specs.Takeable.{is_takeable as is_takeable_by, is_takeable_front as is_takeable_front_by, is_takeable_v4 as is_takeable_v4_by};
+ghost use Rattle.bt_address.specs.Takeable.{is_takeable_v6 as is_takeable_v6_by, octets_of_two};
 
 use std::net::{Ipv4Addr, Ipv6Addr, SocketAddr};
 
@@ -43,18 +43,14 @@ fn is_takeable_v4(ip: Ipv4Addr, is_local: bool) -> bool
     !is_no_peer_v4(a) && !is_for_tests(a, b, c) && (is_local || !is_local_v4(a, b))
 }
 
-/// Returns whether the first six segments are those of an IPv4-mapped address.
-fn is_mapped(a: u16, b: u16, c: u16, d: u16, e: u16, f: u16) -> bool
-    ensures { result ≡ is_mapped_by a b c d e f }
+/// Returns whether the first six segments are those of an address whose last two hold an IPv4 address.
+fn has_v4_last(a: u16, b: u16, c: u16, d: u16, e: u16, f: u16) -> bool
+    ensures { result ≡ has_v4_last_by a b c d e f }
 {
-    a == 0 && b == 0 && c == 0 && d == 0 && e == 0 && f == 0xffff
-}
-
-/// Returns whether the segments are those of the unspecified or the loopback address.
-fn is_own_v6(a: u16, b: u16, c: u16, d: u16, e: u16, f: u16, g: u16, h: u16) -> bool
-    ensures { result ≡ is_own_v6_by a b c d e f g h }
-{
-    a == 0 && b == 0 && c == 0 && d == 0 && e == 0 && f == 0 && g == 0 && h <= 1
+    c == 0
+        && d == 0
+        && e == 0
+        && (a == 0 && b == 0 && (f == 0 || f == 0xffff) || a == 0x64 && b == 0xff9b && f == 0)
 }
 
 /// Returns whether the first two segments are of multicast or documentation.
@@ -64,11 +60,34 @@ fn is_no_peer_v6(a: u16, b: u16) -> bool
     0xff00 <= a || a == 0x2001 && b == 0xdb8
 }
 
-/// Returns whether the first segment is of a unique-local address, or of one that is local to a link.
-fn is_local_v6(a: u16) -> bool
-    ensures { result ≡ is_local_v6_by a }
+/// Returns whether the first three segments are of a unique-local address, of one that is local to a link, or of one that is
+/// translated locally.
+fn is_local_v6(a: u16, b: u16, c: u16) -> bool
+    ensures { result ≡ is_local_v6_by a b c }
 {
-    0xfc00 <= a && a <= 0xfdff || 0xfe80 <= a && a <= 0xfebf
+    0xfc00 <= a && a <= 0xfdff || 0xfe80 <= a && a <= 0xfebf || a == 0x64 && b == 0xff9b && c == 1
+}
+
+/// Returns the IPv4 address of two segments.
+fn v4_of(high: u16, low: u16) -> Ipv4Addr
+    ensures { ipv4_octets result ≡ octets_of_two high low }
+{
+    Ipv4Addr::new(
+        (high / 256) as u8,
+        (high % 256) as u8,
+        (low / 256) as u8,
+        (low % 256) as u8,
+    )
+}
+
+/// Returns whether a stranger may name an IPv6 address that begins with these segments, and whose last two hold no IPv4 address.
+fn is_takeable_front(a: u16, b: u16, c: u16, is_local: bool) -> bool
+    ensures { result ≡ is_takeable_front_by is_local a b c }
+{
+    if a == 0x2002 {
+        return is_takeable_v4(v4_of(b, c), is_local);
+    }
+    !is_no_peer_v6(a, b) && (is_local || !is_local_v6(a, b, c))
 }
 
 /// Returns whether a stranger may name an IPv6 address.
@@ -76,23 +95,18 @@ fn is_takeable_v6(ip: Ipv6Addr, is_local: bool) -> bool
     ensures { result ≡ is_takeable_v6_by is_local (ipv6_segments ip) }
 {
     let [a, b, c, d, e, f, g, h] = ip.segments();
-    if is_mapped(a, b, c, d, e, f) {
-        let ip = Ipv4Addr::new(
-            (g / 256) as u8,
-            (g % 256) as u8,
-            (h / 256) as u8,
-            (h % 256) as u8,
-        );
-        return is_takeable_v4(ip, is_local);
+    if has_v4_last(a, b, c, d, e, f) {
+        return is_takeable_v4(v4_of(g, h), is_local);
     }
-    !is_own_v6(a, b, c, d, e, f, g, h) && !is_no_peer_v6(a, b) && (is_local || !is_local_v6(a))
+    is_takeable_front(a, b, c, is_local)
 }
 
 /// Returns whether a stranger may name the address, as a tracker or a node of the DHT does.
 ///
 /// Ports 0 and 1 are refused, since a fetch announces port 1. So are the special-purpose addresses of RFC 6890 that no peer has:
 /// this network, loopback, multicast, reserved, protocol assignments, benchmarking and documentation. Those of private use, shared
-/// ones and those that are local to a link are refused unless `is_local`. An IPv4-mapped address is judged as its IPv4 address.
+/// ones and those that are local to a link are refused unless `is_local`. An IPv6 address that holds an IPv4 address is judged by that
+/// one: IPv4-mapped, IPv4-compatible, translated (RFC 6052) and 6to4 (RFC 3056) addresses.
 pub fn is_takeable(address: SocketAddr, is_local: bool) -> bool
     ensures { result ≡ is_takeable_by is_local address }
 {

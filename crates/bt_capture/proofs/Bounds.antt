@@ -7,7 +7,7 @@ use Rattle.std.proofs.lemmas.List.Sums.{sum_by-cons, sum_by_push}
 use Rattle.std.proofs.lemmas.List.Sorted.{sum_by-IsPermutation}
 use Rattle.bt_capture.specs.Bounds.{bytes_in, size_of, IsCounted, IsBounded}
 use Rattle.bt_capture.specs.Tables.{Held}
-use Rattle.bt_capture.specs.declared.connections.Run.{Run}
+use Rattle.bt_capture.specs.declared.connections.Connections.{Connections}
 use Rattle.bt_capture.specs.declared.pair.Pair.{Pair}
 
 Entry : Type 0
@@ -38,7 +38,7 @@ fewer test (e ∷ es) = elim (cases_Bool (test e.0)) [
 ]
 
 -- A connection is taken out.
-pub taken_out : (test : Pair → Bool) (c : Held) (left : List (Pair × Held)) (old new : Run) → Some c ≡ lookup test old.table
+pub taken_out : (test : Pair → Bool) (c : Held) (left : List (Pair × Held)) (old new : Connections) → Some c ≡ lookup test old.table
     → left ≡ remove_entry test old.table → new.table ≡ left → new.bytes ≡ old.bytes - c.value.size → IsBounded old → IsBounded new
 taken_out test c left old new some is table bytes i =
     let all : new.table ≡ remove_entry test old.table = table ∙ is in
@@ -55,7 +55,7 @@ taken_out test c left old new some is table bytes i =
       count = omega (arith, count, less, few);
     }
 
-pub bounded_same : (old new : Run) → new.table ≡ old.table → new.bytes ≡ old.bytes → IsBounded old → IsBounded new
+pub bounded_same : (old new : Connections) → new.table ≡ old.table → new.bytes ≡ old.bytes → IsBounded old → IsBounded new
 bounded_same old new table bytes i =
     let sum : bytes_in new.table ≡ bytes_in old.table = ap bytes_in table in
     let count : length new.table ≡ length old.table = ap length table in
@@ -65,7 +65,7 @@ bounded_same old new table bytes i =
     record { counted = omega (arith, sum, bytes, counted); bytes = omega (arith, sum, most); count = omega (arith, count, few) }
 
 -- The last one is over.
-pub one_less : (left : List (Pair × Held)) (e : Pair × Held) (old new : Run) → old.table ≡ left ++ e ∷ [] → new.table ≡ left
+pub one_less : (left : List (Pair × Held)) (e : Pair × Held) (old new : Connections) → old.table ≡ left ++ e ∷ [] → new.table ≡ left
     → new.bytes ≡ old.bytes - e.1.value.size → IsCounted old → IsCounted new
 one_less left e old new is table bytes i =
     let sum : bytes_in old.table ≡ bytes_in left + e.1.value.size = ap bytes_in is ∙ sum_by_push size_of left e in
@@ -73,7 +73,7 @@ one_less left e old new is table bytes i =
     omega (arith, sum, left_sum, bytes, i)
 
 -- A connection is put into the table.
-pub one_more : (p : Pair) (c : Held) (es : List (Pair × Held)) (bytes : ℕ) (old : Run) → c.value.size < 2 ^ 32 → IsPermutation ((p, c) ∷ old.table) es
+pub one_more : (p : Pair) (c : Held) (es : List (Pair × Held)) (bytes : ℕ) (old : Connections) → c.value.size < 2 ^ 32 → IsPermutation ((p, c) ∷ old.table) es
     → bytes ≡ min (old.bytes + c.value.size) (2 ^ 64 - 1) → IsBounded old → bytes ≡ bytes_in es
 one_more p c es bytes old small moved is i =
     let sum = sum_by-cons size_of (p, c) old.table in
@@ -83,5 +83,5 @@ one_more p c es bytes old small moved is i =
     omega (arith, sum, same, counted, most, small, is)
 
 -- There are few, and they take little memory.
-pub is_bounded : (run : Run) → IsCounted run → run.bytes ≤ 128000000 → length run.table ≤ 16384 → IsBounded run
+pub is_bounded : (run : Connections) → IsCounted run → run.bytes ≤ 128000000 → length run.table ≤ 16384 → IsBounded run
 is_bounded run counted bytes count = record { counted = counted; bytes = omega (arith, counted, bytes); count = count }

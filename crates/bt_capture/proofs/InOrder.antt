@@ -1,5 +1,5 @@
 -- Reports are told one by one.
-use Rattle.std.proofs.Common.{◌≡◌, ◌∙◌, ℕ, Option, Some, None, is_some, ◌+◌, ◌-◌, ◌^◌, min, true, false, Bool, ◌||◌, List, [], ◌∷◌, ◌++◌, length}
+use Rattle.std.proofs.Common.{◌≡◌, ◌∙◌, ℕ, Option, Some, None, is_some, ◌+◌, ◌-◌, ◌^◌, min, true, false, Bool, ◌&&◌, ◌||◌, cond, List, [], ◌∷◌, ◌++◌, length}
 use Rattle.std.proofs.Common.{append-nil, append_assoc, refl, sym, ap, subst, arith, inl, inr, if◌then◌else◌}
 use Rattle.std.specs.List.{filter, flat_map, list_any}
 use Rattle.std.specs.Io.KnownBytes.{Appends}
@@ -11,16 +11,16 @@ use Rattle.std.proofs.lemmas.List.Elements.{filter-append}
 use Rattle.std.proofs.lemmas.List.Folds.{list_any-append}
 use Rattle.bt_io.specs.Counts.{counted, Grew}
 use Rattle.bt_io.specs.Seen.{TargetSeen, WriteFailed}
-use Rattle.bt_told.specs.declared.report.Report.{Report}
+use Rattle.bt_report.specs.declared.report.Report.{Report}
 use Rattle.bt_capture.specs.declared.telling.Teller.{Teller}
 use Rattle.bt_talk.specs.declared.rows.Showing.TheVariants.{Nothing}
 use Rattle.bt_talk.specs.Rows.{Shown, shown_texts}
 use Rattle.bt_capture.specs.declared.ending.Form.{Form}
 use Rattle.bt_capture.specs.Forms.{showing_by, showing_in, is_stream, side_of}
 use Rattle.bt_remarks.specs.declared.events.Side.{Side}
-use Rattle.bt_capture.specs.Tellings.{Part, OfReport, OfRows, OfBytes, report_of_part, report_by, part_text, AreTexts, text_by}
+use Rattle.bt_capture.specs.Tellings.{Part, OfReport, OfRows, OfBytes, report_of_part, report_by, part_text, AreTexts, text_by, chosen_by, is_chosen}
 use Rattle.bt_capture.specs.Tellings.{texts, count_torrents, is_one_partial, is_one_refused, is_refused, is_told, Tells, IsStopped}
-use Rattle.bt_told.specs.Findings.{is_partial}
+use Rattle.bt_report.specs.Findings.{is_partial}
 
 one : (p : Report → Bool) (x : Report) → length (filter p (x ∷ [])) ≡ (if p x then 1 else 0)
 one p x = elim (cases_Bool (p x)) [ inl e ↦ rw e refl | inr e ↦ rw e refl ]
@@ -44,11 +44,29 @@ or_false false = refl
 one_any : (p : Report → Bool) (x : Report) → list_any p (x ∷ []) ≡ p x
 one_any p x = elim (cases_Bool (p x)) [ inl e ↦ rw e refl | inr e ↦ rw e refl ]
 
-pub refused_more : (reports : List Report) (r : Report) → is_one_refused (reports ++ r ∷ []) ≡ (is_one_refused reports || is_refused r)
-refused_more reports r = list_any-append is_refused reports (r ∷ []) ∙ ap (λ (b : Bool). is_one_refused reports || b) (one_any is_refused r)
+one_chosen : (b : Bool) (p : Report → Bool) (r : Report) → list_any p (cond b (r ∷ []) []) ≡ (b && p r)
+one_chosen true p r = one_any p r
+one_chosen false p r = refl
 
-pub partial_more : (reports : List Report) (r : Report) → is_one_partial (reports ++ r ∷ []) ≡ (is_one_partial reports || is_partial r)
-partial_more reports r = list_any-append is_partial reports (r ∷ []) ∙ ap (λ (b : Bool). is_one_partial reports || b) (one_any is_partial r)
+any_more : (form : Form) (p : Report → Bool) (reports : List Report) (r : Report)
+    → list_any p (chosen_by form (reports ++ r ∷ [])) ≡ (list_any p (chosen_by form reports) || (is_chosen form.choice r && p r))
+any_more form p reports r =
+    ap (list_any p) (filter-append (is_chosen form.choice) reports (r ∷ []))
+    ∙ list_any-append p (chosen_by form reports) (chosen_by form (r ∷ []))
+    ∙ ap (λ (b : Bool). list_any p (chosen_by form reports) || b) (one_chosen (is_chosen form.choice r) p r)
+
+pub refused_more : (form : Form) (reports : List Report) (r : Report)
+    → is_one_refused (chosen_by form (reports ++ r ∷ [])) ≡ (is_one_refused (chosen_by form reports) || (is_chosen form.choice r && is_refused r))
+refused_more form reports r = any_more form is_refused reports r
+
+pub partial_more : (form : Form) (reports : List Report) (r : Report)
+    → is_one_partial (chosen_by form (reports ++ r ∷ [])) ≡ (is_one_partial (chosen_by form reports) || (is_chosen form.choice r && is_partial r))
+partial_more form reports r = any_more form is_partial reports r
+
+-- What is said of the chosen reports stays as the form does.
+pub any_same : (form form' : Form) (p : Report → Bool) (reports : List Report) (b : Bool) → form' ≡ form → b ≡ list_any p (chosen_by form reports)
+    → b ≡ list_any p (chosen_by form' reports)
+any_same form form' p reports b e h = h ∙ ap (λ (k : Form). list_any p (chosen_by k reports)) (sym e)
 
 -- ---- the text of reports, and of rows between them
 
@@ -77,25 +95,33 @@ nothing_shown [] = refl
 nothing_shown (r ∷ rs) = nothing_shown rs
 
 -- Without rows and a stream there are only reports.
-one_only : (form : Form) (x : Part) → form.show ≡ false → is_stream form ≡ false → part_text form x ≡ texts form.json (report_of_part x)
-one_only form (OfReport r) e f = ap (λ (b : Bool). if b then [] else text_by form.json r) f ∙ sym (append-nil (text_by form.json r))
+text_if : (b json : Bool) (r : Report) → (if b then text_by json r else []) ≡ texts json (cond b (r ∷ []) [])
+text_if true json r = sym (append-nil (text_by json r))
+text_if false json r = refl
+
+one_only : (form : Form) (x : Part) → form.show ≡ false → is_stream form ≡ false
+    → part_text form x ≡ texts form.json (chosen_by form (report_of_part x))
+one_only form (OfReport r) e f =
+    ap (λ (b : Bool). if b then [] else if is_chosen form.choice r then text_by form.json r else []) f ∙ text_if (is_chosen form.choice r) form.json r
 one_only form (OfRows rows) e f =
     ap (λ (b : Bool). shown_texts (if b then Nothing else showing_in form.show form.json) rows) f
     ∙ ap (λ (b : Bool). shown_texts (showing_in b form.json) rows) e ∙ nothing_shown rows
 one_only form (OfBytes bytes) e f = ap (λ (b : Bool). if b then bytes else []) f
 
 parts_only : (form : Form) (parts : List Part) → form.show ≡ false → is_stream form ≡ false
-    → flat_map (part_text form) parts ≡ texts form.json (flat_map report_of_part parts)
+    → flat_map (part_text form) parts ≡ texts form.json (chosen_by form (flat_map report_of_part parts))
 parts_only form [] e f = refl
 parts_only form (x ∷ xs) e f =
     ap (λ (l : List ℕ). l ++ flat_map (part_text form) xs) (one_only form x e f)
-    ∙ ap (λ (l : List ℕ). texts form.json (report_of_part x) ++ l) (parts_only form xs e f)
-    ∙ sym (flat_map-append (text_by form.json) (report_of_part x) (flat_map report_of_part xs))
+    ∙ ap (λ (l : List ℕ). texts form.json (chosen_by form (report_of_part x)) ++ l) (parts_only form xs e f)
+    ∙ sym (flat_map-append (text_by form.json) (chosen_by form (report_of_part x)) (chosen_by form (flat_map report_of_part xs)))
+    ∙ ap (texts form.json) (sym (filter-append (is_chosen form.choice) (report_of_part x) (flat_map report_of_part xs)))
 
 pub reports_only : (form : Form) (reports : List Report) (text : List ℕ) → form.show ≡ false → form.stream ≡ None → AreTexts form reports text
-    → text ≡ texts form.json reports
+    → text ≡ texts form.json (chosen_by form reports)
 reports_only form reports text e none i =
-    let f : is_stream form ≡ false = ap (λ (s : Option (ℕ × Side)). is_some s) none in i.is ∙ parts_only form i.parts e f ∙ ap (texts form.json) i.reports_are
+    let f : is_stream form ≡ false = ap (λ (s : Option (ℕ × Side)). is_some s) none in i.is ∙ parts_only form i.parts e f
+    ∙ ap (λ (l : List Report). texts form.json (chosen_by form l)) i.reports_are
 
 -- If a stream is told there are only its bytes.
 abbrev bytes_of_part : Part → List ℕ
@@ -104,7 +130,7 @@ bytes_of_part (OfRows rows) = []
 bytes_of_part (OfBytes bytes) = bytes
 
 one_bytes : (form : Form) (x : Part) → is_stream form ≡ true → part_text form x ≡ bytes_of_part x
-one_bytes form (OfReport r) e = ap (λ (b : Bool). if b then [] else text_by form.json r) e
+one_bytes form (OfReport r) e = ap (λ (b : Bool). if b then [] else if is_chosen form.choice r then text_by form.json r else []) e
 one_bytes form (OfRows rows) e =
     ap (λ (b : Bool). shown_texts (if b then Nothing else showing_in form.show form.json) rows) e ∙ nothing_shown rows
 one_bytes form (OfBytes bytes) e = ap (λ (b : Bool). if b then bytes else []) e
@@ -115,7 +141,8 @@ no_rows form rows e = one_bytes form (OfRows rows) e
 -- One more report is told.
 pub told_more : (start now : TargetSeen) (old new : Teller) (reports : List Report) (written : List ℕ) (r : Report)
     → new.text.items ≡ old.text.items ++ report_by old.form r → new.form ≡ old.form → new.torrents ≡ counted (is_told r) old.torrents
-    → new.is_refused ≡ (old.is_refused || is_refused r) → new.is_partial ≡ (old.is_partial || is_partial r)
+    → new.is_refused ≡ (old.is_refused || (is_chosen old.form.choice r && is_refused r))
+    → new.is_partial ≡ (old.is_partial || (is_chosen old.form.choice r && is_partial r))
     → Tells start now old reports written → Tells start now new (reports ++ r ∷ []) written
 told_more start now old new reports written r text form torrents refused partial t =
     let was : List ℕ = written ++ old.text.items in
@@ -126,8 +153,10 @@ told_more start now old new reports written r text form torrents refused partial
       held = t.held;
       calm = t.calm;
       torrents = torrents ∙ ap (counted (is_told r)) t.torrents ∙ sym (count_more reports r);
-      refused = refused ∙ ap (λ (b : Bool). b || is_refused r) t.refused ∙ sym (refused_more reports r);
-      partial = partial ∙ ap (λ (b : Bool). b || is_partial r) t.partial ∙ sym (partial_more reports r);
+      refused = any_same old.form new.form is_refused (reports ++ r ∷ []) new.is_refused form
+          (refused ∙ ap (λ (b : Bool). b || (is_chosen old.form.choice r && is_refused r)) t.refused ∙ sym (refused_more old.form reports r));
+      partial = any_same old.form new.form is_partial (reports ++ r ∷ []) new.is_partial form
+          (partial ∙ ap (λ (b : Bool). b || (is_chosen old.form.choice r && is_partial r)) t.partial ∙ sym (partial_more old.form reports r));
     }
 
 -- Rows are told, or bytes of a stream.
@@ -145,8 +174,8 @@ part_told start now old new reports written x none text form torrents refused pa
       held = t.held;
       calm = t.calm;
       torrents = torrents ∙ t.torrents;
-      refused = refused ∙ t.refused;
-      partial = partial ∙ t.partial;
+      refused = any_same old.form new.form is_refused reports new.is_refused form (refused ∙ t.refused);
+      partial = any_same old.form new.form is_partial reports new.is_partial form (partial ∙ t.partial);
     }
 
 pub shown_more : (start now : TargetSeen) (old new : Teller) (reports : List Report) (written : List ℕ) (rows : List Shown)
@@ -181,8 +210,8 @@ all_written start now after old new reports written held calm empty form torrent
       held = Appends-trans start.held now.held after.held written old.text.items t.held held;
       calm = calm ∙ t.calm;
       torrents = torrents ∙ t.torrents;
-      refused = refused ∙ t.refused;
-      partial = partial ∙ t.partial;
+      refused = any_same old.form new.form is_refused reports new.is_refused form (refused ∙ t.refused);
+      partial = any_same old.form new.form is_partial reports new.is_partial form (partial ∙ t.partial);
     }
 
 -- Only the first part of the text that was kept is written.

@@ -15,17 +15,19 @@ use Rattle.bt_pcap.specs.Steps.{captured}
 use Rattle.bt_pcap.specs.declared.fault.FileFault.{FileFault}
 use Rattle.bt_pcap.specs.declared.fronts.Packet.{Packet}
 use Rattle.bt_remarks.specs.declared.events.Side.{Side}
-use Rattle.bt_told.specs.declared.report.Report.{Report}
+use Rattle.bt_report.specs.declared.report.Report.{Report}
 use Rattle.bt_utp.specs.Flows.{flows}
 use Rattle.bt_utp.specs.States.{AreCounted}
-use Rattle.bt_capture.specs.declared.connections.Run.{Run}
+use Rattle.bt_capture.specs.declared.connections.Connections.{Connections}
 use Rattle.bt_capture.specs.declared.ending.CaptureEnd.{CaptureEnd}
 use Rattle.bt_capture.specs.declared.ending.CaptureFault.{CaptureFault}
 use Rattle.bt_capture.specs.declared.ending.CaptureFault.TheVariants.{Write, Memory, Turns}
 use Rattle.bt_capture.specs.declared.ending.Form.{Form}
 use Rattle.bt_capture.specs.declared.pair.Pair.{Pair}
+use Rattle.bt_capture.specs.declared.run.Run.{Run}
 use Rattle.bt_capture.specs.Arrivals.{arrivals, clock_of, first_time}
 use Rattle.bt_capture.specs.FlowTexts.{datagrams, flow_texts}
+use Rattle.bt_capture.specs.Following.{Asked, IsRowing, IsShare, asked_of}
 use Rattle.bt_capture.specs.Following.{AreInOrder, Coming, During, IsTimely, numbers}
 use Rattle.bt_capture.specs.Following.{AtEnd, Finished, IsFinished, IsSentBy, IsShared, IsStreaming, IsStreamSoFar, Follows, Phase, Stops, Streams}
 use Rattle.bt_capture.specs.Following.{reports_of, told_by}
@@ -34,6 +36,7 @@ use Rattle.bt_capture.specs.Readings.{Reading, IsReading, Advances, GoesOn, Hand
 use Rattle.bt_capture.specs.Tables.{Held, same_pair}
 use Rattle.bt_capture.specs.Tellings.{Tells, IsStopped, IsEmpty, AreTexts}
 use Rattle.bt_capture.specs.Runs.{Origin, HasRead, IsTelling, IsTellingIn, IsLeftIn, IsEndOf, AreOver, AreAllOver, AreToldSoFar, ArePartlyWritten, Adds}
+use Rattle.bt_capture.specs.Runs.{asked_in, since_first}
 use Rattle.bt_capture.specs.Runs.{AreLines, AreRowsTold, IsToldIn, IsToldTo, IsOnlyStream, IsStreamTold, StreamsSoFar, utp_lines}
 use Rattle.bt_capture.proofs.Each.{each_numbered}
 use Rattle.bt_capture.proofs.Going.{fresh, goes_both}
@@ -41,12 +44,11 @@ use Rattle.bt_capture.proofs.InOrder.{no_texts}
 use Rattle.bt_capture.proofs.Numbers.{one_if_began}
 use Rattle.bt_capture.proofs.Parting.{parted_all}
 use Rattle.bt_capture.proofs.Order.{order_nothing}
-use Rattle.bt_capture.proofs.Reported.{follows_end, follows_flushed, follows_same, stops_of}
+use Rattle.bt_capture.proofs.Reported.{asked_by, follows_end, follows_flushed, follows_same, stops_of}
 use Rattle.bt_capture.proofs.Steps.{follows_moved}
-use Rattle.bt_capture.proofs.Rowing.{going_of, rows_same}
-use Rattle.bt_capture.proofs.Shares.{share_same}
-use Rattle.bt_capture.proofs.SoFar.{left_so_far, so_far_same}
-use Rattle.bt_capture.proofs.Streaming.{find_over, numbered_end, streaming_same, untold_end}
+use Rattle.bt_capture.proofs.Rowing.{going_of}
+use Rattle.bt_capture.proofs.SoFar.{left_so_far}
+use Rattle.bt_capture.proofs.Streaming.{find_over, numbered_end, untold_end}
 use Rattle.bt_capture.proofs.Wants.{absent_before, begun_or_absent, wanted_if_asked}
 
 -- ---- what was read
@@ -147,8 +149,7 @@ pub told_read : {ph : Phase} (o : Origin) (left left' : Option (List ℕ)) (now 
 told_read o left left' now es run r r' reads i = record {
   packets = i.packets;
   read = reads i.packets i.read;
-  terms = i.terms;
-  form = i.form;
+  asked = i.asked;
   time = i.time;
   follows = i.follows;
   utp = i.utp;
@@ -156,48 +157,43 @@ told_read o left left' now es run r r' reads i = record {
 }
 
 pub flushed : {ph : Phase} (o : Origin) (left : Option (List ℕ)) (now after : TargetSeen) (es : List (Pair × Held)) (old new : Run) (r : Reading)
-    → new.terms ≡ old.terms → new.teller.form ≡ old.teller.form → new.start ≡ old.start → new.lost ≡ old.lost → new.begun ≡ old.begun
-    → new.utp ≡ old.utp → new.skipped ≡ old.skipped → IsEmpty new.teller
-    → ((reports : List Report) (written : List ℕ) → Tells o.target now old.teller reports written
-    → Tells o.target after new.teller reports (written ++ old.teller.text.items))
+    → new.connections.terms ≡ old.connections.terms → new.connections.teller.form ≡ old.connections.teller.form → new.start ≡ old.start
+    → new.connections.lost ≡ old.connections.lost → new.connections.begun ≡ old.connections.begun → new.utp ≡ old.utp → new.skipped ≡ old.skipped
+    → IsEmpty new.connections.teller
+    → ((reports : List Report) (written : List ℕ) → Tells o.target now old.connections.teller reports written
+    → Tells o.target after new.connections.teller reports (written ++ old.connections.teller.text.items))
     → IsTellingIn ph o left now es old r → IsTellingIn ph o left after es new r
 flushed o left now after es old new r terms form begin lost count utp skipped empty tells i = record {
   packets = i.packets;
   read = i.read;
-  terms = terms ∙ i.terms;
-  form = form ∙ i.form;
+  asked = asked_by old.connections new.connections terms form ∙ i.asked;
   time = begin ∙ i.time;
-  follows = follows_flushed o.target now after (arrivals i.packets) es old new terms begin lost count form empty tells i.follows;
+  follows = follows_flushed (since_first o.target i.packets) now after (arrivals i.packets) es old.connections new.connections terms lost count form empty
+      tells i.follows;
   utp = subst (AreCounted (datagrams i.packets)) (sym utp) i.utp;
   skipped = skipped ∙ i.skipped;
 }
 
-finished_by : (o : Origin) (packets : List Captured) (fs : List Finished) (run : Run) → run.terms ≡ o.terms → run.start ≡ first_time packets
-    → All (IsFinished run.terms (unwrap_or run.start 0)) fs → All (IsFinished o.terms (unwrap_or (first_time packets) 0)) fs
-finished_by o packets fs run terms time i =
-    subst (λ x. All (IsFinished x (unwrap_or (first_time packets) 0)) fs) terms (subst (λ x. All (IsFinished run.terms (unwrap_or x 0)) fs) time i)
+finished_by : (o : Origin) (packets : List Captured) (fs : List Finished) (run : Connections) → asked_of run ≡ asked_in o
+    → All (IsFinished run.terms (unwrap_or (first_time packets) 0)) fs → All (IsFinished o.terms (unwrap_or (first_time packets) 0)) fs
+finished_by o packets fs run asked i = subst (λ (a : Asked). All (IsFinished a.terms (unwrap_or (first_time packets) 0)) fs) asked i
 
-over_by : (o : Origin) (now : TargetSeen) (packets : List Captured) (run : Run) → run.terms ≡ o.terms → run.start ≡ first_time packets
-    → (s : Stops o.target now (clock_of packets) (arrivals packets) run) → AreOver o packets s.fs
-over_by o now packets run terms time s = record { finished = finished_by o packets s.fs run terms time s.known.finished; shared = s.shared; timely = s.timely }
+over_by : (o : Origin) (now : TargetSeen) (packets : List Captured) (run : Connections) → asked_of run ≡ asked_in o
+    → (s : Stops (since_first o.target packets) now (clock_of packets) (arrivals packets) run) → AreOver o packets s.fs
+over_by o now packets run asked s = record { finished = finished_by o packets s.fs run asked s.known.finished; shared = s.shared; timely = s.timely }
 
 -- What is told of a stream, by what was asked for.
-streams_by : (o : Origin) (packets : List Captured) (fs : List Finished) (es : List (Pair × Held)) (run : Run) (written : List ℕ) → run.terms ≡ o.terms
-    → run.teller.form ≡ o.form → run.start ≡ first_time packets → Streams written fs es run
+streams_by : (o : Origin) (packets : List Captured) (fs : List Finished) (es : List (Pair × Held)) (run : Connections) (written : List ℕ)
+    → asked_of run ≡ asked_in o → Streams (unwrap_or (first_time packets) 0) written fs es run
     → IsStreaming o.form (told_by written run) o.terms (unwrap_or (first_time packets) 0) run.begun fs es
-streams_by o packets fs es run written terms form time i =
-    let told = told_by written run in
-    streaming_same run.teller.form o.form told told run.terms o.terms (unwrap_or run.start 0) (unwrap_or (first_time packets) 0) run.begun run.begun
-    fs es (sym form) refl (sym terms) (ap (λ x. unwrap_or x 0) (sym time)) refl i
+streams_by o packets fs es run written asked i =
+    subst (λ (a : Asked). IsStreaming a.form (told_by written run) a.terms (unwrap_or (first_time packets) 0) run.begun fs es) asked i
 
-so_far_by : (o : Origin) (packets : List Captured) (fs : List Finished) (run : Run) (written : List ℕ) → run.terms ≡ o.terms → run.teller.form ≡ o.form
-    → run.start ≡ first_time packets
-    → IsStreamSoFar run.teller.form (told_by written run) run.terms (unwrap_or run.start 0) (arrivals packets) fs
+so_far_by : (o : Origin) (packets : List Captured) (fs : List Finished) (run : Connections) (written : List ℕ) → asked_of run ≡ asked_in o
+    → IsStreamSoFar run.teller.form (told_by written run) run.terms (unwrap_or (first_time packets) 0) (arrivals packets) fs
     → StreamsSoFar o packets fs (told_by written run)
-so_far_by o packets fs run written terms form time i =
-    let told = told_by written run in
-    so_far_same run.teller.form o.form told told run.terms o.terms (unwrap_or run.start 0) (unwrap_or (first_time packets) 0) (arrivals packets) fs
-    (sym form) refl (sym terms) (ap (λ x. unwrap_or x 0) (sym time)) i
+so_far_by o packets fs run written asked i =
+    subst (λ (a : Asked). IsStreamSoFar a.form (told_by written run) a.terms (unwrap_or (first_time packets) 0) (arrivals packets) fs) asked i
 
 -- no lines follow the reports yet
 no_lines : (o : Origin) (now : TargetSeen) (text : List ℕ) → AppendsPrefix o.target.held now.held text → AppendsPrefix o.target.held now.held (text ++ [])
@@ -205,31 +201,31 @@ no_lines o now text front = subst (AppendsPrefix o.target.held now.held) (sym (a
 
 -- the parts that are told, by what was asked for
 told_so_far : {ph : Phase} (o : Origin) (left : Option (List ℕ)) (now : TargetSeen) (es : List (Pair × Held)) (run : Run) (r : Reading)
-    → (i : IsTellingIn ph o left now es run r) → AreToldSoFar ph o i.packets i.follows.fs (told_by i.follows.written run)
+    → (i : IsTellingIn ph o left now es run r) → AreToldSoFar ph o i.packets i.follows.fs (told_by i.follows.written run.connections)
 told_so_far o left now es run r i =
     let f = i.follows in
-    let text = told_by f.written run in
-    let rows = rows_same run.teller.form o.form f.packet f.parts text text run.terms o.terms (unwrap_or run.start 0) (unwrap_or (first_time i.packets) 0)
-    run.begun run.begun (arrivals i.packets) f.fs es (sym i.form) refl (sym i.terms) (ap (λ x. unwrap_or x 0) (sym i.time)) refl f.rows in
-    let streams = streams_by o i.packets f.fs es run f.written i.terms i.form i.time f.streams in
+    let all = run.connections in
+    let text = told_by f.written all in
+    let from = unwrap_or (first_time i.packets) 0 in
+    let came = arrivals i.packets in
+    let rows = subst (λ (a : Asked). IsRowing a.form f.packet f.parts text a.terms from all.begun came f.fs es) i.asked f.rows in
+    let streams = streams_by o i.packets f.fs es all f.written i.asked f.streams in
     record {
       stream = record {
         over = streams.sent;
-        begun = run.begun;
+        begun = all.begun;
         place = f.order.place;
         order = f.order.order;
-        left = left_so_far o.form text o.terms (unwrap_or (first_time i.packets) 0) run.begun (arrivals i.packets) f.fs es f.apart streams f.order
-            (λ k. share_same run.teller.form o.form text text run.terms o.terms (arrivals i.packets) f.fs k (lookup (same_pair k) es) (sym i.form) refl
-            (sym i.terms) (f.shared k));
+        left = left_so_far o.form text o.terms from all.begun came f.fs es f.apart streams f.order
+            (λ k. subst (λ (a : Asked). IsShare a.form text a.terms came f.fs k (lookup (same_pair k) es)) i.asked (f.shared k));
       };
       parting = f.parting;
       parts = f.parts;
       parts_are = rows.rowed.parts_are;
       rows = rows.rowed.over;
       none = rows.rowed.none;
-      going = going_of o.form f.packet f.parts text o.terms (unwrap_or (first_time i.packets) 0) run.begun (arrivals i.packets) f.fs es f.apart
-          f.streams.numbered f.order rows;
-      each = each_numbered (arrivals i.packets) f.fs es run.begun f.begun f.streams.numbered f.order run.teller.form text run.terms f.shared;
+      going = going_of o.form f.packet f.parts text o.terms from all.begun came f.fs es f.apart f.streams.numbered f.order rows;
+      each = each_numbered came f.fs es all.begun f.begun f.streams.numbered f.order all.teller.form text all.terms f.shared;
       packet = f.packet;
       times = f.times;
     }
@@ -240,20 +236,19 @@ no_lines_in (Coming p x) o packets fs = refl
 no_lines_in AtEnd o packets fs = inl refl
 
 pub left_by : {ph : Phase} (o : Origin) (left : Option (List ℕ)) (now after : TargetSeen) (es : List (Pair × Held)) (run : Run) (r : Reading)
-    → ((reports : List Report) (written : List ℕ) → Tells o.target now run.teller reports written
-    → IsStopped run.teller.form o.target after reports (written ++ run.teller.text.items))
+    → ((reports : List Report) (written : List ℕ) → Tells o.target now run.connections.teller reports written
+    → IsStopped run.connections.teller.form o.target after reports (written ++ run.connections.teller.text.items))
     → IsTellingIn ph o left now es run r → IsLeftIn ph o left after r
 left_by {ph} o left now after es run r stopped i =
-    let s = stops_of o.target now (arrivals i.packets) es run i.follows in
     let fs = i.follows.fs in
-    let text = told_by i.follows.written run in
-    let is = subst (λ b. IsStopped b o.target after (reports_of fs) text) i.form (stopped (reports_of fs) i.follows.written i.follows.known.tells) in
+    let text = told_by i.follows.written run.connections in
+    let is = subst (λ (a : Asked). IsStopped a.form o.target after (reports_of fs) text) i.asked (stopped (reports_of fs) i.follows.written i.follows.known.tells) in
     record {
       packets = i.packets;
       read = i.read;
       fs = fs;
       over = record {
-        finished = finished_by o i.packets fs run i.terms i.time i.follows.known.finished;
+        finished = finished_by o i.packets fs run.connections i.asked i.follows.known.finished;
         shared = λ k. ((i.follows.shared k).taken, (i.follows.shared k).share);
         timely = i.follows.timely;
       };
@@ -266,20 +261,19 @@ left_by {ph} o left now after es run r stopped i =
       told = told_so_far o left now es run r i;
     }
 
-pub given_up : (o : Origin) (left : Option (List ℕ)) (now : TargetSeen) (packets : List Captured) (run : Run) (r : Reading) → HasRead o left packets r
-    → run.terms ≡ o.terms → run.teller.form ≡ o.form → run.start ≡ first_time packets → Stops o.target now (clock_of packets) (arrivals packets) run
-    → ArePartlyWritten o left now r
-given_up o left now packets run r read terms form time s =
+pub given_up : (o : Origin) (left : Option (List ℕ)) (now : TargetSeen) (packets : List Captured) (run : Connections) (r : Reading) → HasRead o left packets r
+    → asked_of run ≡ asked_in o → Stops (since_first o.target packets) now (clock_of packets) (arrivals packets) run → ArePartlyWritten o left now r
+given_up o left now packets run r read asked s =
     let t = s.known.tells in
     let text = told_by s.written run in
     record {
       packets = packets;
       read = read;
       fs = s.fs;
-      over = over_by o now packets run terms time s;
+      over = over_by o now packets run asked s;
       text = text;
-      texts_are = subst (λ f. AreTexts f (reports_of s.fs) text) form t.whole;
-      stream = so_far_by o packets s.fs run s.written terms form time s.so_far;
+      texts_are = subst (λ (a : Asked). AreTexts a.form (reports_of s.fs) text) asked t.whole;
+      stream = so_far_by o packets s.fs run s.written asked s.so_far;
       front = (s.written, run.teller.text.items, refl, t.held);
       calm = t.calm;
     }
@@ -287,7 +281,8 @@ given_up o left now packets run r read terms form time s =
 pub partly : {ph : Phase} (o : Origin) (left : Option (List ℕ)) (now : TargetSeen) (es : List (Pair × Held)) (run : Run) (r : Reading)
     → IsTellingIn ph o left now es run r → ArePartlyWritten o left now r
 partly o left now es run r i =
-    given_up o left now i.packets run r i.read i.terms i.form i.time (stops_of o.target now (arrivals i.packets) es run i.follows)
+    given_up o left now i.packets run.connections r i.read i.asked
+    (stops_of (since_first o.target i.packets) now (arrivals i.packets) es run.connections i.follows)
 
 -- All turns of reading were taken.
 pub turned : {ph : Phase} (o : Origin) (left : Option (List ℕ)) (now : TargetSeen) (es : List (Pair × Held)) (run : Run) (r : Reading)
@@ -322,15 +317,15 @@ nothing_told o = inl (nothing_read, nothing_written o)
 -- ---- the end
 
 -- All that was told is written.
-all_told : (written : List ℕ) (run : Run) → IsEmpty run.teller → told_by written run ≡ written
+all_told : (written : List ℕ) (run : Connections) → IsEmpty run.teller → told_by written run ≡ written
 all_told written run empty = ap (λ (l : List ℕ). written ++ l) empty ∙ append-nil written
 
-pub texts_written : (o : Origin) (left : Option (List ℕ)) (now : TargetSeen) (run : Run) (r : Reading) → IsEmpty run.teller
+pub texts_written : (o : Origin) (left : Option (List ℕ)) (now : TargetSeen) (run : Run) (r : Reading) → IsEmpty run.connections.teller
     → (i : IsTellingIn AtEnd o left now [] run r) → AreTexts o.form (reports_of i.follows.fs) i.follows.written
 texts_written o left now run r empty i =
     let reports = reports_of i.follows.fs in
-    subst (λ f. AreTexts f reports i.follows.written) i.form
-    (subst (λ l. AreTexts run.teller.form reports l) (all_told i.follows.written run empty) i.follows.known.tells.whole)
+    subst (λ (a : Asked). AreTexts a.form reports i.follows.written) i.asked
+    (subst (λ l. AreTexts run.connections.teller.form reports l) (all_told i.follows.written run.connections empty) i.follows.known.tells.whole)
 
 all_shared : (o : Origin) (left : Option (List ℕ)) (now : TargetSeen) (run : Run) (r : Reading) → (i : IsTellingIn AtEnd o left now [] run r) → (k : Pair)
     → IsShared k (arrivals i.packets) i.follows.fs []
@@ -342,68 +337,69 @@ begun_all begun n e = omega (arith, e)
 pub all_over : (o : Origin) (left : Option (List ℕ)) (now : TargetSeen) (run : Run) (r : Reading) → (i : IsTellingIn AtEnd o left now [] run r)
     → AreAllOver o i.packets i.follows.fs
 all_over o left now run r i = record {
-  finished = finished_by o i.packets i.follows.fs run i.terms i.time i.follows.known.finished;
-  numbered = numbered_end run.begun i.follows.fs i.follows.begun i.follows.streams.numbered;
+  finished = finished_by o i.packets i.follows.fs run.connections i.asked i.follows.known.finished;
+  numbered = numbered_end run.connections.begun i.follows.fs i.follows.begun i.follows.streams.numbered;
   shared = λ k. all_shared o left now run r i k;
   parted = λ k. parted_all (arrivals i.packets) i.follows.fs k (all_shared o left now run r i k) i.follows.parting;
   place = i.follows.order.place;
   order = subst (λ n. AreInOrder i.follows.order.place (arrivals i.packets) n i.follows.fs)
-      (begun_all run.begun (length i.follows.fs) i.follows.begun) i.follows.order.order;
+      (begun_all run.connections.begun (length i.follows.fs) i.follows.begun) i.follows.order.order;
   last = i.follows.last;
   timely = i.follows.timely;
 }
 
-pub stream_told : (o : Origin) (left : Option (List ℕ)) (now : TargetSeen) (run : Run) (r : Reading) → IsEmpty run.teller
+pub stream_told : (o : Origin) (left : Option (List ℕ)) (now : TargetSeen) (run : Run) (r : Reading) → IsEmpty run.connections.teller
     → (i : IsTellingIn AtEnd o left now [] run r) → IsStreamTold o i.packets i.follows.fs i.follows.written
 stream_told o left now run r empty i =
     let fs = i.follows.fs in
     let written = i.follows.written in
-    let streams = streams_by o i.packets fs [] run written i.terms i.form i.time i.follows.streams in
+    let streams = streams_by o i.packets fs [] run.connections written i.asked i.follows.streams in
     let P : List ℕ → Type 0 = λ l. IsStreamTold o i.packets fs l in
-    let told : P (told_by written run) = record {
+    let told : P (told_by written run.connections) = record {
       sent = streams.sent;
-      untold = λ n. untold_end o.form (told_by written run) run.begun (length fs) n i.follows.begun streams.untold;
+      untold = λ n. untold_end o.form (told_by written run.connections) run.connections.begun (length fs) n i.follows.begun streams.untold;
     } in
-    subst P (all_told written run empty) told
+    subst P (all_told written run.connections empty) told
 
-pub rows_told : (o : Origin) (left : Option (List ℕ)) (now : TargetSeen) (run : Run) (r : Reading) → IsEmpty run.teller
+pub rows_told : (o : Origin) (left : Option (List ℕ)) (now : TargetSeen) (run : Run) (r : Reading) → IsEmpty run.connections.teller
     → (i : IsTellingIn AtEnd o left now [] run r) → AreRowsTold o i.packets i.follows.fs i.follows.written
 rows_told o left now run r empty i =
     let f = i.follows in
-    let rows = rows_same run.teller.form o.form f.packet f.parts (told_by f.written run) f.written run.terms o.terms (unwrap_or run.start 0)
-    (unwrap_or (first_time i.packets) 0) run.begun run.begun (arrivals i.packets) f.fs [] (sym i.form) (sym (all_told f.written run empty)) (sym i.terms)
-    (ap (λ x. unwrap_or x 0) (sym i.time)) refl f.rows in
+    let all = run.connections in
+    let R : Asked → List ℕ → Type 0 = λ a l.
+    IsRowing a.form f.packet f.parts l a.terms (unwrap_or (first_time i.packets) 0) all.begun (arrivals i.packets) f.fs [] in
+    let rows = subst (λ a. R a f.written) i.asked (subst (λ l. R (asked_of all) l) (all_told f.written all empty) f.rows) in
     record {
       parts = f.parts;
       parts_are = rows.rowed.parts_are;
       rows = rows.rowed.over;
-      none = λ n le small. let begun : run.begun ≡ min (length f.fs + 0) (2 ^ 64 - 1) = f.begun in rows.rowed.none n (omega (arith, le, begun)) small;
+      none = λ n le small. let begun : all.begun ≡ min (length f.fs + 0) (2 ^ 64 - 1) = f.begun in rows.rowed.none n (omega (arith, le, begun)) small;
       packet = f.packet;
       times = f.times;
     }
 
 -- the reports and the lines on uTP, one after the other
-pub whole_written : (o : Origin) (left : Option (List ℕ)) (before now : TargetSeen) (run : Run) (r : Reading) → IsEmpty run.teller
-    → (i : IsTellingIn AtEnd o left before [] run r) → Appends before.held now.held (utp_lines run.teller.form i.packets)
+pub whole_written : (o : Origin) (left : Option (List ℕ)) (before now : TargetSeen) (run : Run) (r : Reading) → IsEmpty run.connections.teller
+    → (i : IsTellingIn AtEnd o left before [] run r) → Appends before.held now.held (utp_lines run.connections.teller.form i.packets)
     → Appends o.target.held now.held (i.follows.written ++ utp_lines o.form i.packets)
 whole_written o left before now run r empty i held =
     Appends-trans o.target.held before.held now.held i.follows.written (utp_lines o.form i.packets) i.follows.known.tells.held
-    (subst (λ f. Appends before.held now.held (utp_lines f i.packets)) i.form held)
+    (subst (λ (a : Asked). Appends before.held now.held (utp_lines a.form i.packets)) i.asked held)
 
 -- The lines on uTP couldn't be made or written.
-part_written : (o : Origin) (left : Option (List ℕ)) (before now : TargetSeen) (run : Run) (r : Reading) → IsEmpty run.teller
-    → (i : IsTellingIn AtEnd o left before [] run r) → AppendsPrefix before.held now.held (utp_lines run.teller.form i.packets) → WriteFailed before now
+part_written : (o : Origin) (left : Option (List ℕ)) (before now : TargetSeen) (run : Run) (r : Reading) → IsEmpty run.connections.teller
+    → (i : IsTellingIn AtEnd o left before [] run r) → AppendsPrefix before.held now.held (utp_lines run.connections.teller.form i.packets) → WriteFailed before now
     → IsLeftIn AtEnd o left now r
 part_written o left before now run r empty i p failed =
     let known = i.follows.known in
     let written = i.follows.written in
-    let q = subst (λ f. AppendsPrefix before.held now.held (utp_lines f i.packets)) i.form p in
+    let q = subst (λ (a : Asked). AppendsPrefix before.held now.held (utp_lines a.form i.packets)) i.asked p in
     record {
       packets = i.packets;
       read = i.read;
       fs = i.follows.fs;
       over = record {
-        finished = finished_by o i.packets i.follows.fs run i.terms i.time known.finished;
+        finished = finished_by o i.packets i.follows.fs run.connections i.asked known.finished;
         shared = λ k. ((i.follows.shared k).taken, (i.follows.shared k).share);
         timely = i.follows.timely;
       };
@@ -418,45 +414,45 @@ part_written o left before now run r empty i p failed =
         Appends-trans o.target.held before.held now.held written q.0 known.tells.held q.3,
       );
       failed = subst (λ (n : ℕ). Grew n now.failed) known.tells.calm failed;
-      told = subst (λ l. AreToldSoFar AtEnd o i.packets i.follows.fs l) (all_told written run empty) (told_so_far o left before [] run r i);
+      told = subst (λ l. AreToldSoFar AtEnd o i.packets i.follows.fs l) (all_told written run.connections empty) (told_so_far o left before [] run r i);
     }
 
 pub not_added : (T : Type 0) (f : CaptureFault) (o : Origin) (left : Option (List ℕ)) (before now : TargetSeen) (run : Run) (r : Reading)
-    → IsEmpty run.teller → (i : IsTellingIn AtEnd o left before [] run r) → Adds {T = T} (utp_lines run.teller.form i.packets) before now (Err f)
+    → IsEmpty run.connections.teller → (i : IsTellingIn AtEnd o left before [] run r) → Adds {T = T} (utp_lines run.connections.teller.form i.packets) before now (Err f)
     → IsToldIn AtEnd f o left now r
 not_added T Write o left before now run r empty i a = part_written o left before now run r empty i a.0 a.1
 not_added T Memory o left before now run r empty i a = subst (λ x. ArePartlyWritten o left x r) (sym a) (partly o left before [] run r i)
 not_added T Turns o left before now run r empty i a = absurd a
 
 -- Those that are left are taken out of the table.
-pub told_rest : (o : Origin) (left : Option (List ℕ)) (now : TargetSeen) (old new : Run) (es : List (Pair × Held)) (r : Reading)
-    → IsPermutation old.table es → IsNonDecreasing (numbers es) → new ≡ record old { table = new.table } → IsTelling o left now old.table old r
-    → IsTellingIn AtEnd o left now es new r
+pub told_rest : (o : Origin) (left : Option (List ℕ)) (now : TargetSeen) (old : Run) (new : Connections) (es : List (Pair × Held)) (r : Reading)
+    → IsPermutation old.connections.table es → IsNonDecreasing (numbers es) → new ≡ record old.connections { table = new.table }
+    → IsTelling o left now old.connections.table old r → IsTellingIn AtEnd o left now es (record old { connections = new }) r
 told_rest o left now old new es r all up same i =
-    let table : List (Pair × Held) = old.table in
-    let mid : Run = record old { table = new.table } in
-    subst (λ x. IsTellingIn AtEnd o left now es x r) (sym same) (record {
+    let table : List (Pair × Held) = old.connections.table in
+    let start = since_first o.target i.packets in
+    let mid : Connections = record old.connections { table = new.table } in
+    subst (λ (x : Connections). IsTellingIn AtEnd o left now es (record old { connections = x }) r) (sym same) (record {
       packets = i.packets;
       read = i.read;
-      terms = i.terms;
-      form = i.form;
+      asked = i.asked;
       time = i.time;
-      follows = follows_same o.target now (arrivals i.packets) es old mid refl refl refl refl refl
-          (follows_end o.target now (arrivals i.packets) es old up (follows_moved o.target now (arrivals i.packets) table es old all i.follows));
+      follows = follows_same start now (arrivals i.packets) es old.connections mid refl refl refl refl
+          (follows_end start now (arrivals i.packets) es old.connections up
+          (follows_moved start now (arrivals i.packets) table es old.connections all i.follows));
       utp = i.utp;
       skipped = i.skipped;
     })
 
 -- ---- the begin
 
-pub begins : (o : Origin) (run : Run) (r : Reading) → run.terms ≡ o.terms → run.teller.form ≡ o.form → run.start ≡ None
-    → Follows o.target o.target (clock_of []) [] run.table run → AreCounted [] run.utp → run.skipped ≡ 0 → r ≡ nothing_read
-    → IsTelling o o.source.left o.target run.table run r
-begins o run r terms form begin follows utp skipped same = record {
+pub begins : (o : Origin) (run : Run) (r : Reading) → asked_of run.connections ≡ asked_in o → run.start ≡ None
+    → Follows (since_first o.target []) o.target (clock_of []) [] run.connections.table run.connections → AreCounted [] run.utp → run.skipped ≡ 0
+    → r ≡ nothing_read → IsTelling o o.source.left o.target run.connections.table run r
+begins o run r asked begin follows utp skipped same = record {
   packets = [];
   read = subst (HasRead o o.source.left []) (sym same) (read_nothing o);
-  terms = terms;
-  form = form;
+  asked = asked;
   time = begin;
   follows = follows;
   utp = utp;

@@ -1,7 +1,7 @@
 -- One more connection is over.
 use Rattle.bt_talk.specs.declared.terms.Terms.{Terms}
 use Rattle.std.proofs.Common.{◌≡◌, ◌∙◌, ◌⊎◌, ℕ, ◌+◌, ◌-◌, ◌^◌, ◌<◌, ◌≤◌, min, Bool, true, false, List, [], ◌∷◌, ◌++◌, length, append-nil, append_assoc}
-use Rattle.std.proofs.Common.{Option, Some, None, unwrap_or, Result, Ok, Err, OnOk, OnErr, refl, sym, ap, subst, arith, inl, inr}
+use Rattle.std.proofs.Common.{Option, Some, None, Result, Ok, Err, OnOk, OnErr, refl, sym, ap, subst, arith, inl, inr}
 use Rattle.std.specs.List.{All, filter}
 use Rattle.std.specs.Map.{lookup}
 use Rattle.std.proofs.lemmas.Bool.{cases_Bool}
@@ -17,12 +17,12 @@ use Rattle.bt_talk.specs.Rows.{Shown, shown_texts}
 use Rattle.bt_talk.specs.Shown.{AreTurnRows, Turn}
 use Rattle.bt_talk.specs.Talks.{HasHeard, IsTalk, is_in_opening, is_lost, of_side}
 use Rattle.bt_talk.specs.declared.talk.Talk.{Talk}
-use Rattle.bt_told.specs.declared.report.Left.{Left}
-use Rattle.bt_told.specs.declared.report.Report.{Report}
+use Rattle.bt_report.specs.declared.report.Left.{Left}
+use Rattle.bt_report.specs.declared.report.Report.{Report}
 use Rattle.bt_capture.specs.Arrivals.{AreEarlier, Arrival, Clock, is_between, pair_of}
 use Rattle.bt_capture.specs.Connections.{IsFirst, IsMade, IsOpen}
 use Rattle.bt_capture.specs.Following.{AreRowsOf, AtEnd, Cause, Coming, FollowsIn, GoesIn, IsOverBy, IsParted, MayBe, MayEnd, Phase, Rows}
-use Rattle.bt_capture.specs.Following.{AreToldWith, IsTimely, IsTimelyBy}
+use Rattle.bt_capture.specs.Following.{AreToldWith, Asked, IsTimely, IsTimelyBy, Since, asked_of}
 use Rattle.bt_capture.specs.Following.{Ended, Final, Before, Crowded, IsCause, coming, is_early, is_given_up_as, is_unread, left_in, losses_of, over_for, with_over}
 use Rattle.bt_capture.specs.Following.{Finished, Fate, Reported, Silent, Lost, IsFinished, IsKnown, IsReported, IsSentBy, IsShared, IsEnded}
 use Rattle.bt_capture.specs.Following.{IsStreamSoFar, Follows, Stops, Holds, Shares, Streams, count_early, count_lost, count_open, count_unread, is_lost_by}
@@ -35,7 +35,7 @@ use Rattle.bt_capture.specs.Tellings.{ArePartsOf, OfBytes, Part, SaysAfter, Tell
 use Rattle.bt_capture.specs.declared.connection.Connection.{Connection}
 use Rattle.bt_capture.specs.declared.connections.Losses.{Losses}
 use Rattle.bt_capture.specs.declared.connections.Over.{Over}
-use Rattle.bt_capture.specs.declared.connections.Run.{Run}
+use Rattle.bt_capture.specs.declared.connections.Connections.{Connections}
 use Rattle.bt_capture.specs.declared.ending.Form.{Form}
 use Rattle.bt_capture.specs.declared.pair.Pair.{Pair}
 use Rattle.bt_capture.specs.declared.telling.Teller.{Teller}
@@ -117,15 +117,14 @@ kept_for (Crowded false at) fs f why kept =
 lost_same : (fs : List Finished) (f : Finished) → is_lost_by f.fate ≡ false → with_over (over_for f.cause) (losses_of fs) ≡ losses_of (fs ++ f ∷ [])
 lost_same fs f kept = kept_for f.cause fs f refl kept
 
-known_more : (start now : TargetSeen) (fs : List Finished) (f : Finished) (written : List ℕ) (old new : Run) → new.terms ≡ old.terms
-    → new.start ≡ old.start → Tells start now new.teller (reports_of fs ++ report_in f.fate) written → new.lost ≡ losses_of (fs ++ f ∷ [])
-    → IsFinished old.terms (unwrap_or old.start 0) f → IsKnown start now fs written old → IsKnown start now (fs ++ f ∷ []) written new
-known_more start now fs f written old new terms begin tells lost is i =
-    let P : Terms → Type 0 = λ x. All (IsFinished x (unwrap_or new.start 0)) (fs ++ f ∷ []) in
-    let Q : Option ℕ → Type 0 = λ x. All (IsFinished old.terms (unwrap_or x 0)) (fs ++ f ∷ []) in
+known_more : (start : Since) (now : TargetSeen) (fs : List Finished) (f : Finished) (written : List ℕ) (old new : Connections) → new.terms ≡ old.terms
+    → Tells start.target now new.teller (reports_of fs ++ report_in f.fate) written → new.lost ≡ losses_of (fs ++ f ∷ [])
+    → IsFinished old.terms start.from f → IsKnown start now fs written old → IsKnown start now (fs ++ f ∷ []) written new
+known_more start now fs f written old new terms tells lost is i =
+    let P : Terms → Type 0 = λ x. All (IsFinished x start.from) (fs ++ f ∷ []) in
     record {
-      tells = subst (λ l. Tells start now new.teller l written) (sym (reports_more fs f)) tells;
-      finished = subst P (sym terms) (subst Q (sym begin) (All-push (IsFinished old.terms (unwrap_or old.start 0)) fs f i.finished is));
+      tells = subst (λ l. Tells start.target now new.teller l written) (sym (reports_more fs f)) tells;
+      finished = subst P (sym terms) (All-push (IsFinished old.terms start.from) fs f i.finished is);
       lost = lost;
     }
 
@@ -144,66 +143,71 @@ begun_took a n e es h = omega (arith, h)
 begun_more : (a b n m : ℕ) → a ≡ min (b + 1) (2 ^ 64 - 1) → b ≡ min (n + m) (2 ^ 64 - 1) → a ≡ min (n + (m + 1)) (2 ^ 64 - 1)
 begun_more a b n m e f = omega (arith, e, f)
 
+-- What is asked for stays.
+pub asked_by : (old new : Connections) → new.terms ≡ old.terms → new.teller.form ≡ old.teller.form → asked_of new ≡ asked_of old
+asked_by old new terms form =
+    let by : Terms → Form → Asked = λ t f. record { terms = t; form = f } in ap (λ (t : Terms). by t new.teller.form) terms ∙ ap (by old.terms) form
+
 -- What is told of a stream stays.
-pub told_same : (written : List ℕ) (old new : Run) → new.teller ≡ old.teller → told_by written new ≡ told_by written old
+pub told_same : (written : List ℕ) (old new : Connections) → new.teller ≡ old.teller → told_by written new ≡ told_by written old
 told_same written old new teller = ap (λ (t : Teller). written ++ t.text.items) teller
 
-streams_same : (written written' : List ℕ) (fs : List Finished) (es : List (Pair × Held)) (old new : Run) → new.terms ≡ old.terms
-    → new.start ≡ old.start → new.teller.form ≡ old.teller.form → new.begun ≡ old.begun → told_by written' new ≡ told_by written old
-    → Streams written fs es old → Streams written' fs es new
-streams_same written written' fs es old new terms begin form count told i =
-    streaming_same old.teller.form new.teller.form (told_by written old) (told_by written' new) old.terms new.terms (unwrap_or old.start 0)
-    (unwrap_or new.start 0) old.begun new.begun fs es form told terms (ap (λ o. unwrap_or o 0) begin) count i
+streams_same : (from : ℕ) (written written' : List ℕ) (fs : List Finished) (es : List (Pair × Held)) (old new : Connections) → new.terms ≡ old.terms
+    → new.teller.form ≡ old.teller.form → new.begun ≡ old.begun → told_by written' new ≡ told_by written old
+    → Streams from written fs es old → Streams from written' fs es new
+streams_same from written written' fs es old new terms form count told i =
+    streaming_same old.teller.form new.teller.form (told_by written old) (told_by written' new) old.terms new.terms from from old.begun new.begun fs es form
+    told terms refl count i
 
-rows_as : (packet : ℕ → ℕ) (parts : List Part) (written written' : List ℕ) (came : List Arrival) (fs : List Finished) (es : List (Pair × Held)) (old new : Run)
-    → new.terms ≡ old.terms → new.start ≡ old.start → new.teller.form ≡ old.teller.form → new.begun ≡ old.begun → told_by written' new ≡ told_by written old
-    → Rows packet parts written came fs es old → Rows packet parts written' came fs es new
-rows_as packet parts written written' came fs es old new terms begin form count told i =
-    rows_same old.teller.form new.teller.form packet parts (told_by written old) (told_by written' new) old.terms new.terms (unwrap_or old.start 0)
-    (unwrap_or new.start 0) old.begun new.begun came fs es form told terms (ap (λ o. unwrap_or o 0) begin) count i
+rows_as : (from : ℕ) (packet : ℕ → ℕ) (parts : List Part) (written written' : List ℕ) (came : List Arrival) (fs : List Finished) (es : List (Pair × Held))
+    (old new : Connections) → new.terms ≡ old.terms → new.teller.form ≡ old.teller.form → new.begun ≡ old.begun → told_by written' new ≡ told_by written old
+    → Rows from packet parts written came fs es old → Rows from packet parts written' came fs es new
+rows_as from packet parts written written' came fs es old new terms form count told i =
+    rows_same old.teller.form new.teller.form packet parts (told_by written old) (told_by written' new) old.terms new.terms from from old.begun new.begun came
+    fs es form told terms refl count i
 
-pub shares_same : (written written' : List ℕ) (came : List Arrival) (fs : List Finished) (old new : Run) (k : Pair) (o : Option Held)
+pub shares_same : (written written' : List ℕ) (came : List Arrival) (fs : List Finished) (old new : Connections) (k : Pair) (o : Option Held)
     → new.terms ≡ old.terms → new.teller.form ≡ old.teller.form → told_by written' new ≡ told_by written old → Shares written came fs old k o
     → Shares written' came fs new k o
 shares_same written written' came fs old new k o terms form told i =
     share_same old.teller.form new.teller.form (told_by written old) (told_by written' new) old.terms new.terms came fs k o form told terms i
 
 -- The first of these is over.
-pub follows_over : {ph : Phase} {clock : Clock} (start now : TargetSeen) (came : List Arrival) (p : Pair) (c : Held) (es : List (Pair × Held))
-    (old new : Run) → lookup (same_pair p) es ≡ None → new.terms ≡ old.terms → new.start ≡ old.start → new.teller.form ≡ old.teller.form → new.begun ≡ old.begun
+pub follows_over : {ph : Phase} {clock : Clock} (start : Since) (now : TargetSeen) (came : List Arrival) (p : Pair) (c : Held) (es : List (Pair × Held))
+    (old new : Connections) → lookup (same_pair p) es ≡ None → new.terms ≡ old.terms → new.teller.form ≡ old.teller.form → new.begun ≡ old.begun
     → (i : FollowsIn ph start now clock came ((p, c) ∷ es) old) → (f : Finished) → f.number ≡ c.value.number → f.pair ≡ p → IsShared p came i.fs f.taken
     → IsParted f.cause (coming ph p) → MayBe ph f.cause → IsTimely clock f
     → AddsFor old.teller.form c.value.number (told_by i.written old) (told_by i.written new)
-    → Tells start now new.teller (reports_of i.fs ++ report_in f.fate) i.written → new.lost ≡ losses_of (i.fs ++ f ∷ [])
-    → IsFinished old.terms (unwrap_or old.start 0) f → IsSentBy old.teller.form (told_by i.written new) old.terms (unwrap_or old.start 0) f
+    → Tells start.target now new.teller (reports_of i.fs ++ report_in f.fate) i.written → new.lost ≡ losses_of (i.fs ++ f ∷ [])
+    → IsFinished old.terms start.from f → IsSentBy old.teller.form (told_by i.written new) old.terms start.from f
     → (packet : ℕ → ℕ) (parts : List Part) (rows : List Shown) → AddsRows c.value.number rows i.packet packet i.parts parts
     → ArePartsOf old.teller.form (reports_of (i.fs ++ f ∷ [])) (told_by i.written new) parts
-    → AreRowsOf old.teller.form packet parts old.terms (unwrap_or old.start 0) f
+    → AreRowsOf old.teller.form packet parts old.terms start.from f
     → AreToldWith packet clock.number parts (i.fs ++ f ∷ []) → FollowsIn ph start now clock came es new
-follows_over {ph} {clock} start now came p c es old new absent terms begin form count i f number ends share parted may timely adds tells lost is sent packet
+follows_over {ph} {clock} start now came p c es old new absent terms form count i f number ends share parted may timely adds tells lost is sent packet
     parts rows gets parts_are shows times =
     let n = c.value.number in
     let shown = old.teller.form in
     let told = told_by i.written old in
     let told' = told_by i.written new in
-    let from = unwrap_or old.start 0 in
+    let from = start.from in
     let alone : n < 2 ^ 64 - 1 → count_open n es ≡ 0 = alone_open old.begun i.fs p c es i.streams.numbered in
     let others = others_on shown old.terms came i.fs told told' n p es alone adds (others_of shown old.terms came i.fs told p c es i.shared) in
     record {
       fs = i.fs ++ f ∷ [];
       written = i.written;
-      known = known_more start now i.fs f i.written old new terms begin tells lost is i.known;
+      known = known_more start now i.fs f i.written old new terms tells lost is i.known;
       begun = begun_over new.begun i.fs f (p, c) es (count ∙ i.begun);
       apart = apart_rest (p, c) es i.apart;
-      streams = streaming_same shown new.teller.form told' told' old.terms new.terms from (unwrap_or new.start 0) old.begun new.begun (i.fs ++ f ∷ []) es
-          form refl terms (ap (λ o. unwrap_or o 0) begin) count
+      streams = streaming_same shown new.teller.form told' told' old.terms new.terms from from old.begun new.begun (i.fs ++ f ∷ []) es
+          form refl terms refl count
           (streaming_over shown told told' old.terms from old.begun i.fs f p c es number adds sent i.streams);
       shared = λ k. share_same shown new.teller.form told' told' old.terms new.terms came (i.fs ++ f ∷ []) k (lookup (same_pair k) es) form refl terms
           (over shown old.terms came i.fs told' p es f ends absent share others k);
       parts = parts;
-      rows = rows_same shown new.teller.form packet parts told' told' old.terms new.terms from (unwrap_or new.start 0) old.begun new.begun came
+      rows = rows_same shown new.teller.form packet parts told' told' old.terms new.terms from from old.begun new.begun came
           (i.fs ++ f ∷ []) es
-          form refl terms (ap (λ o. unwrap_or o 0) begin) count
+          form refl terms refl count
           (rows_over shown old.terms from i.packet packet i.parts parts told told' old.begun came i.fs f p c es rows ends absent share
           (alone_over old.begun i.fs p c es i.streams.numbered) alone (has_begun old.begun i.fs p c es i.streams.numbered) gets parts_are shows i.rows);
       parting = parts_over ph came i.fs p f ends share parted may i.parting;
@@ -214,25 +218,24 @@ follows_over {ph} {clock} start now came p c es old new absent terms begin form 
       times = times;
     }
 
-pub known_same : (start now : TargetSeen) (fs : List Finished) (written written' : List ℕ) (old new : Run) → new.terms ≡ old.terms
-    → new.start ≡ old.start → new.lost ≡ old.lost → Tells start now new.teller (reports_of fs) written' → IsKnown start now fs written old
+pub known_same : (start : Since) (now : TargetSeen) (fs : List Finished) (written written' : List ℕ) (old new : Connections) → new.terms ≡ old.terms
+    → new.lost ≡ old.lost → Tells start.target now new.teller (reports_of fs) written' → IsKnown start now fs written old
     → IsKnown start now fs written' new
-known_same start now fs written written' old new terms begin lost tells i =
-    let P : Terms → Type 0 = λ x. All (IsFinished x (unwrap_or new.start 0)) fs in
-    let Q : Option ℕ → Type 0 = λ x. All (IsFinished old.terms (unwrap_or x 0)) fs in
-    record { tells = tells; finished = subst P (sym terms) (subst Q (sym begin) i.finished); lost = lost ∙ i.lost }
+known_same start now fs written written' old new terms lost tells i =
+    let P : Terms → Type 0 = λ x. All (IsFinished x start.from) fs in
+    record { tells = tells; finished = subst P (sym terms) i.finished; lost = lost ∙ i.lost }
 
-known_kept : (start now : TargetSeen) (fs : List Finished) (written : List ℕ) (old new : Run) → new.terms ≡ old.terms → new.start ≡ old.start
+known_kept : (start : Since) (now : TargetSeen) (fs : List Finished) (written : List ℕ) (old new : Connections) → new.terms ≡ old.terms
     → new.lost ≡ old.lost → new.teller ≡ old.teller → IsKnown start now fs written old → IsKnown start now fs written new
-known_kept start now fs written old new terms begin lost teller i =
-    known_same start now fs written written old new terms begin lost
-    (subst (λ t. Tells start now t (reports_of fs) written) (sym teller) i.tells) i
+known_kept start now fs written old new terms lost teller i =
+    known_same start now fs written written old new terms lost
+    (subst (λ t. Tells start.target now t (reports_of fs) written) (sym teller) i.tells) i
 
-pub follows_same : {ph : Phase} {clock : Clock} (start now : TargetSeen) (came : List Arrival) (es : List (Pair × Held)) (old new : Run)
-    → new.terms ≡ old.terms → new.start ≡ old.start → new.lost ≡ old.lost → new.teller ≡ old.teller → new.begun ≡ old.begun
+pub follows_same : {ph : Phase} {clock : Clock} (start : Since) (now : TargetSeen) (came : List Arrival) (es : List (Pair × Held)) (old new : Connections)
+    → new.terms ≡ old.terms → new.lost ≡ old.lost → new.teller ≡ old.teller → new.begun ≡ old.begun
     → FollowsIn ph start now clock came es old
     → FollowsIn ph start now clock came es new
-follows_same start now came es old new terms begin lost teller count i =
+follows_same start now came es old new terms lost teller count i =
     let form = ap (λ (t : Teller). t.form) teller in
     let told = told_same i.written old new teller in
     record {
@@ -240,11 +243,11 @@ follows_same start now came es old new terms begin lost teller count i =
       written = i.written;
       begun = count ∙ i.begun;
       apart = i.apart;
-      known = known_kept start now i.fs i.written old new terms begin lost teller i.known;
-      streams = streams_same i.written i.written i.fs es old new terms begin form count told i.streams;
+      known = known_kept start now i.fs i.written old new terms lost teller i.known;
+      streams = streams_same start.from i.written i.written i.fs es old new terms form count told i.streams;
       shared = λ k. shares_same i.written i.written came i.fs old new k (lookup (same_pair k) es) terms form told (i.shared k);
       parts = i.parts;
-      rows = rows_as i.packet i.parts i.written i.written came i.fs es old new terms begin form count told i.rows;
+      rows = rows_as start.from i.packet i.parts i.written i.written came i.fs es old new terms form count told i.rows;
       parting = i.parting;
       order = order_same came i.fs es old.begun new.begun count i.order;
       last = i.last;
@@ -253,27 +256,27 @@ follows_same start now came es old new terms begin lost teller count i =
       times = i.times;
     }
 
-pub stops_same : {clock : Clock} (start now : TargetSeen) (came : List Arrival) (old new : Run)
-    → new.terms ≡ old.terms → new.start ≡ old.start → new.lost ≡ old.lost → new.teller ≡ old.teller → Stops start now clock came old
+pub stops_same : {clock : Clock} (start : Since) (now : TargetSeen) (came : List Arrival) (old new : Connections)
+    → new.terms ≡ old.terms → new.lost ≡ old.lost → new.teller ≡ old.teller → Stops start now clock came old
     → Stops start now clock came new
-stops_same start now came old new terms begin lost teller i = record {
+stops_same start now came old new terms lost teller i = record {
   fs = i.fs;
   written = i.written;
-  known = known_kept start now i.fs i.written old new terms begin lost teller i.known;
-  so_far = so_far_same old.teller.form new.teller.form (told_by i.written old) (told_by i.written new) old.terms new.terms (unwrap_or old.start 0)
-      (unwrap_or new.start 0) came i.fs (ap (λ (t : Teller). t.form) teller) (told_same i.written old new teller) terms (ap (λ o. unwrap_or o 0) begin)
+  known = known_kept start now i.fs i.written old new terms lost teller i.known;
+  so_far = so_far_same old.teller.form new.teller.form (told_by i.written old) (told_by i.written new) old.terms new.terms start.from
+      start.from came i.fs (ap (λ (t : Teller). t.form) teller) (told_same i.written old new teller) terms refl
       i.so_far;
   shared = i.shared;
   timely = i.timely;
 }
 
-pub follows_so_far : {ph : Phase} {clock : Clock} (start now : TargetSeen) (came : List Arrival) (es : List (Pair × Held)) (run : Run)
+pub follows_so_far : {ph : Phase} {clock : Clock} (start : Since) (now : TargetSeen) (came : List Arrival) (es : List (Pair × Held)) (run : Connections)
     → (i : FollowsIn ph start now clock came es run)
-    → IsStreamSoFar run.teller.form (told_by i.written run) run.terms (unwrap_or run.start 0) came i.fs
+    → IsStreamSoFar run.teller.form (told_by i.written run) run.terms start.from came i.fs
 follows_so_far start now came es run i =
-    open_so_far run.teller.form (told_by i.written run) run.terms (unwrap_or run.start 0) run.begun came i.fs es i.apart i.streams i.order i.shared
+    open_so_far run.teller.form (told_by i.written run) run.terms start.from run.begun came i.fs es i.apart i.streams i.order i.shared
 
-pub stops_of : {ph : Phase} {clock : Clock} (start now : TargetSeen) (came : List Arrival) (es : List (Pair × Held)) (run : Run)
+pub stops_of : {ph : Phase} {clock : Clock} (start : Since) (now : TargetSeen) (came : List Arrival) (es : List (Pair × Held)) (run : Connections)
     → FollowsIn ph start now clock came es run → Stops start now clock came run
 stops_of start now came es run i = record {
   fs = i.fs;
@@ -284,18 +287,23 @@ stops_of start now came es run i = record {
   timely = i.timely;
 }
 
+-- A step changed nothing.
+pub goes_any : {T E : Type 0} {ph : Phase} {clock : Clock} (r : Result T E) (start : Since) (now : TargetSeen) (came : List Arrival) (es : List (Pair × Held))
+    (run : Connections) → FollowsIn ph start now clock came es run → GoesIn ph start now clock came es run r
+goes_any (Ok x) start now came es run i = i
+goes_any (Err e) start now came es run i = stops_of start now came es run i
+
 -- The text that was kept is written.
-pub follows_flushed : {ph : Phase} {clock : Clock} (start now after : TargetSeen) (came : List Arrival) (es : List (Pair × Held)) (old new : Run)
-    → new.terms ≡ old.terms → new.start ≡ old.start → new.lost ≡ old.lost → new.begun ≡ old.begun → new.teller.form ≡ old.teller.form
+pub follows_flushed : {ph : Phase} {clock : Clock} (start : Since) (now after : TargetSeen) (came : List Arrival) (es : List (Pair × Held)) (old new : Connections)
+    → new.terms ≡ old.terms → new.lost ≡ old.lost → new.begun ≡ old.begun → new.teller.form ≡ old.teller.form
     → new.teller.text.items ≡ []
-    → ((reports : List Report) (written : List ℕ) → Tells start now old.teller reports written
-    → Tells start after new.teller reports (written ++ old.teller.text.items))
+    → ((reports : List Report) (written : List ℕ) → Tells start.target now old.teller reports written
+    → Tells start.target after new.teller reports (written ++ old.teller.text.items))
     → FollowsIn ph start now clock came es old → FollowsIn ph start after clock came es new
-follows_flushed start now after came es old new terms begin lost count form empty tells i =
+follows_flushed start now after came es old new terms lost count form empty tells i =
     let written = told_by i.written old in
     let told : told_by written new ≡ written = ap (λ (l : List ℕ). written ++ l) empty ∙ append-nil written in
-    let P : Terms → Type 0 = λ x. All (IsFinished x (unwrap_or new.start 0)) i.fs in
-    let Q : Option ℕ → Type 0 = λ x. All (IsFinished old.terms (unwrap_or x 0)) i.fs in
+    let P : Terms → Type 0 = λ x. All (IsFinished x start.from) i.fs in
     record {
       fs = i.fs;
       written = written;
@@ -303,13 +311,13 @@ follows_flushed start now after came es old new terms begin lost count form empt
       apart = i.apart;
       known = record {
         tells = tells (reports_of i.fs) i.written i.known.tells;
-        finished = subst P (sym terms) (subst Q (sym begin) i.known.finished);
+        finished = subst P (sym terms) i.known.finished;
         lost = lost ∙ i.known.lost;
       };
-      streams = streams_same i.written written i.fs es old new terms begin form count told i.streams;
+      streams = streams_same start.from i.written written i.fs es old new terms form count told i.streams;
       shared = λ k. shares_same i.written written came i.fs old new k (lookup (same_pair k) es) terms form told (i.shared k);
       parts = i.parts;
-      rows = rows_as i.packet i.parts i.written written came i.fs es old new terms begin form count told i.rows;
+      rows = rows_as start.from i.packet i.parts i.written written came i.fs es old new terms form count told i.rows;
       parting = i.parting;
       order = order_same came i.fs es old.begun new.begun count i.order;
       last = i.last;
@@ -319,32 +327,32 @@ follows_flushed start now after came es old new terms begin lost count form empt
     }
 
 -- The first connection's share of the segments.
-abbrev own : {ph : Phase} {clock : Clock} (start now : TargetSeen) (came : List Arrival) (p : Pair) (c : Held) (es : List (Pair × Held)) (run : Run)
+abbrev own : {ph : Phase} {clock : Clock} (start : Since) (now : TargetSeen) (came : List Arrival) (p : Pair) (c : Held) (es : List (Pair × Held)) (run : Connections)
     → (i : FollowsIn ph start now clock came ((p, c) ∷ es) run) → Shares i.written came i.fs run p (Some c)
 own start now came p c es run i = own_of run.teller.form run.terms came i.fs (told_by i.written run) p c es i.shared
 
 -- It is over without a report.
-unreported : {ph : Phase} {clock : Clock} (start now : TargetSeen) (came : List Arrival) (p : Pair) (c : Held) (es : List (Pair × Held)) (old new : Run)
+unreported : {ph : Phase} {clock : Clock} (start : Since) (now : TargetSeen) (came : List Arrival) (p : Pair) (c : Held) (es : List (Pair × Held)) (old new : Connections)
     (end : Fate) (cause : Cause) → IsParted cause (coming ph p) → MayBe ph cause → IsTimelyBy clock came cause → lookup (same_pair p) es ≡ None
-    → new.terms ≡ old.terms → new.start ≡ old.start → new.teller ≡ old.teller → new.begun ≡ old.begun
+    → new.terms ≡ old.terms → new.teller ≡ old.teller → new.begun ≡ old.begun
     → report_in end ≡ [] → (i : FollowsIn ph start now clock came ((p, c) ∷ es) old)
     → (f : Finished) → f ≡ record { number = c.value.number; pair = p; taken = (own start now came p c es old i).taken; fate = end; cause = cause }
-    → new.lost ≡ losses_of (i.fs ++ f ∷ []) → IsFinished old.terms (unwrap_or old.start 0) f
-    → IsSentBy old.teller.form (told_by i.written old) old.terms (unwrap_or old.start 0) f
-    → AreRowsOf old.teller.form i.packet i.parts old.terms (unwrap_or old.start 0) f → FollowsIn ph start now clock came es new
-unreported {ph} {clock} start now came p c es old new end cause parted may timely absent terms begin teller count none i f is lost finished sent shows =
+    → new.lost ≡ losses_of (i.fs ++ f ∷ []) → IsFinished old.terms start.from f
+    → IsSentBy old.teller.form (told_by i.written old) old.terms start.from f
+    → AreRowsOf old.teller.form i.packet i.parts old.terms start.from f → FollowsIn ph start now clock came es new
+unreported {ph} {clock} start now came p c es old new end cause parted may timely absent terms teller count none i f is lost finished sent shows =
     let told = told_same i.written old new teller in
-    let P : List ℕ → Type 0 = λ l. IsSentBy old.teller.form l old.terms (unwrap_or old.start 0) f in
+    let P : List ℕ → Type 0 = λ l. IsSentBy old.teller.form l old.terms start.from f in
     let reports : reports_of i.fs ≡ reports_of i.fs ++ report_in f.fate =
     sym (append-nil (reports_of i.fs)) ∙ ap (λ (l : List Report). reports_of i.fs ++ l) (sym (ap (λ (g : Finished). report_in g.fate) is ∙ none)) in
-    let tells = subst (λ t. Tells start now t (reports_of i.fs) i.written) (sym teller) i.known.tells in
+    let tells = subst (λ t. Tells start.target now t (reports_of i.fs) i.written) (sym teller) i.known.tells in
     let why : f.cause ≡ cause = ap (λ (g : Finished). g.cause) is in
-    follows_over start now came p c es old new absent terms begin (ap (λ (t : Teller). t.form) teller) count i f (ap (λ (g : Finished). g.number) is)
+    follows_over start now came p c es old new absent terms (ap (λ (t : Teller). t.form) teller) count i f (ap (λ (g : Finished). g.number) is)
     (ap (λ (g : Finished). g.pair) is)
     (subst (λ (l : List Arrival). IsShared p came i.fs l) (sym (ap (λ (g : Finished). g.taken) is)) (own start now came p c es old i).share)
     (subst (λ (x : Cause). IsParted x (coming ph p)) (sym why) parted) (subst (λ (x : Cause). MayBe ph x) (sym why) may)
     (let s = own start now came p c es old i in subst (IsTimely clock) (sym is) (timely_own clock p came i.fs s.taken cause s.share timely))
-    (λ stream w. told) (subst (λ l. Tells start now new.teller l i.written) reports tells) lost finished (subst P (sym told) sent)
+    (λ stream w. told) (subst (λ l. Tells start.target now new.teller l i.written) reports tells) lost finished (subst P (sym told) sent)
     i.packet i.parts [] (adds_nothing c.value.number i.packet i.parts)
     (parts_same old.teller.form old.teller.form (reports_of i.fs) (reports_of (i.fs ++ f ∷ [])) (told_by i.written old) (told_by i.written new) i.parts refl
     (reports_more i.fs f ∙ sym reports) told i.rows.rowed.parts_are) shows
@@ -371,24 +379,24 @@ lost_by terms taken ph clock came p c cause may i = elim (cases_Bool (is_lost c.
 ]
 
 -- No byte of it was captured.
-pub silent : {ph : Phase} {clock : Clock} (start now : TargetSeen) (came : List Arrival) (p : Pair) (c : Held) (es : List (Pair × Held)) (run new : Run)
+pub silent : {ph : Phase} {clock : Clock} (start : Since) (now : TargetSeen) (came : List Arrival) (p : Pair) (c : Held) (es : List (Pair × Held)) (run new : Connections)
     (cause : Cause) → MayEnd ph clock came cause p c.value → lookup (same_pair p) es ≡ None → c.value.has_payload ≡ false → is_lost c.value.talk ≡ false
-    → new.terms ≡ run.terms → new.start ≡ run.start → new.teller ≡ run.teller → new.begun ≡ run.begun → new.lost ≡ with_over (over_for cause) run.lost
+    → new.terms ≡ run.terms → new.teller ≡ run.teller → new.begun ≡ run.begun → new.lost ≡ with_over (over_for cause) run.lost
     → FollowsIn ph start now clock came ((p, c) ∷ es) run → FollowsIn ph start now clock came es new
-silent {ph} {clock} start now came p c es run new cause may absent none there terms begin teller count lost i =
+silent {ph} {clock} start now came p c es run new cause may absent none there terms teller count lost i =
     let s = own start now came p c es run i in
     let form = run.teller.form in
     let n = c.value.number in
     let talk = c.value.talk in
     let told = told_by i.written run in
-    let from = unwrap_or run.start 0 in
+    let from = start.from in
     let no_data = sym s.is.0.has_payload ∙ none in
     let rows = own_rows_of form run.terms from i.packet i.parts told run.begun came i.fs p c es s.taken s.share i.rows in
     let g = rows.1 there in
     let out = nothing_came run.terms s.taken talk no_data g.0 in
     let no_rows = nothing_shown (heading_of form n from) g.0.a g.0.b talk g.0.made.turns rows.0 g.0.made.is g.0.made.heard out.0 out.1 out.2 g.1 in
     let f : Finished = record { number = n; pair = p; taken = s.taken; fate = Silent; cause = cause } in
-    unreported start now came p c es run new Silent cause may.parted may.may_be may.timely absent terms begin teller count refl i f refl
+    unreported start now came p c es run new Silent cause may.parted may.may_be may.timely absent terms teller count refl i f refl
     (lost ∙ ap (with_over (over_for cause)) i.known.lost ∙ lost_same i.fs f refl)
     (no_data, over_by run.terms s.taken ph clock came p c.value cause may there (s.is.0.made there))
     (λ side small w.
@@ -397,22 +405,22 @@ silent {ph} {clock} start now came p c es run new cause may absent none there te
     nothing_sent (is_in_opening talk) side h.0.a h.0.b told none_out.0 none_out.1 h.1) (λ small. rows.2 small ∙ no_rows)
 
 -- Memory ran out with it.
-pub lost_one : {ph : Phase} {clock : Clock} (start now : TargetSeen) (came : List Arrival) (p : Pair) (c : Held) (es : List (Pair × Held)) (old new : Run)
-    (cause : Cause) → MayEnd ph clock came cause p c.value → lookup (same_pair p) es ≡ None → new.terms ≡ old.terms → new.start ≡ old.start
+pub lost_one : {ph : Phase} {clock : Clock} (start : Since) (now : TargetSeen) (came : List Arrival) (p : Pair) (c : Held) (es : List (Pair × Held)) (old new : Connections)
+    (cause : Cause) → MayEnd ph clock came cause p c.value → lookup (same_pair p) es ≡ None → new.terms ≡ old.terms
     → new.teller ≡ old.teller → new.lost ≡ record old.lost { memory = min (old.lost.memory + 1) (2 ^ 64 - 1) } → new.begun ≡ old.begun
     → FollowsIn ph start now clock came ((p, c) ∷ es) old → FollowsIn ph start now clock came es new
-lost_one {ph} {clock} start now came p c es old new cause may absent terms begin teller lost count i =
+lost_one {ph} {clock} start now came p c es old new cause may absent terms teller lost count i =
     let s = own start now came p c es old i in
-    let from = unwrap_or old.start 0 in
+    let from = start.from in
     let rows = own_rows_of old.teller.form old.terms from i.packet i.parts (told_by i.written old) old.begun came i.fs p c es s.taken s.share i.rows in
     let f : Finished = record { number = c.value.number; pair = p; taken = s.taken; fate = Lost; cause = cause } in
     let more : Losses → Losses = λ l. record l { memory = min (l.memory + 1) (2 ^ 64 - 1) } in
-    unreported start now came p c es old new Lost cause may.parted may.may_be may.timely absent terms begin teller count refl i f refl
+    unreported start now came p c es old new Lost cause may.parted may.may_be may.timely absent terms teller count refl i f refl
     (lost ∙ ap more i.known.lost ∙ lost_more i.fs f refl) (tt, lost_by old.terms s.taken ph clock came p c.value cause may s.is.0)
     (λ side small w. (s.is.1 side small w).early) (λ small. (is_lost c.value.talk, rows.3 small))
 
 -- What is told after these bytes were appended, if a stream is told.
-appended : (written more : List ℕ) (old new : Run) → new.teller.text.items ≡ old.teller.text.items ++ more → told_by written new ≡ told_by written old ++ more
+appended : (written more : List ℕ) (old new : Connections) → new.teller.text.items ≡ old.teller.text.items ++ more → told_by written new ≡ told_by written old ++ more
 appended written more old new text = ap (λ (l : List ℕ). written ++ l) text ∙ sym (append_assoc written old.teller.text.items more)
 
 adds_more : (form : Form) (n : ℕ) (told told' more : List ℕ) → (is_stream form ≡ true → told' ≡ told ++ more) → (wanted_by form n ≡ None → more ≡ [])
@@ -429,9 +437,9 @@ Reports t t' h left last talk bytes = (a b : Past) (turns : List Turn) (before :
     → AreTurnRows h turns before → (now : List Turn) × IsEnded a b last talk turns now
     × ((rows : List Shown) × AreTurnRows h now (before ++ rows) × SaysAfter t t' h.connection h.start left talk bytes rows)
 
-pub reported : {A E : Type 0} {ph : Phase} {clock : Clock} (r : Result A E) (start now : TargetSeen) (came : List Arrival) (p : Pair) (c : Held)
-    (es : List (Pair × Held)) (old new : Run) (cause : Cause) (over : Over) → MayEnd ph clock came cause p c.value → over ≡ over_for cause
-    → lookup (same_pair p) es ≡ None → c.value.has_payload ≡ true → new.terms ≡ old.terms → new.start ≡ old.start
+pub reported : {A E : Type 0} {ph : Phase} {clock : Clock} (r : Result A E) (start : Since) (now : TargetSeen) (came : List Arrival) (p : Pair) (c : Held)
+    (es : List (Pair × Held)) (old new : Connections) (cause : Cause) (over : Over) → MayEnd ph clock came cause p c.value → over ≡ over_for cause
+    → lookup (same_pair p) es ≡ None → c.value.has_payload ≡ true → new.terms ≡ old.terms
     → OnOk r (new.lost ≡ with_over over old.lost) → OnErr r (new.lost ≡ old.lost)
     → new.teller.form ≡ old.teller.form → new.begun ≡ old.begun → is_lost c.value.talk ≡ false → (talk : Talk)
     → Ends c.value.talk talk → (Q : Type 0) → ((a b : Past) → IsTalk a b c.value.talk → Q)
@@ -440,15 +448,15 @@ pub reported : {A E : Type 0} {ph : Phase} {clock : Clock} (r : Result A E) (sta
     → OnErr r (is_stream old.teller.form ≡ true → Q
     → (new.teller.text.items ≡ old.teller.text.items) ⊎ (new.teller.text.items ≡ old.teller.text.items ++ more))
     → (wanted_by old.teller.form c.value.number ≡ None → more ≡ []) → EndsStream old.teller.form c.value.number c.value.talk more
-    → OnOk r (Reports old.teller new.teller (heading_of old.teller.form c.value.number (unwrap_or old.start 0)) (left_in over) c.value.talk talk more)
+    → OnOk r (Reports old.teller new.teller (heading_of old.teller.form c.value.number start.from) (left_in over) c.value.talk talk more)
     → FollowsIn ph start now clock came ((p, c) ∷ es) old → GoesIn ph start now clock came es new r
-reported {A} {E} {ph} {clock} (Ok x) start now came p c es old new cause over may is_over absent some terms begin lost same form count there talk ended Q
+reported {A} {E} {ph} {clock} (Ok x) start now came p c es old new cause over may is_over absent some terms lost same form count there talk ended Q
     shown nothing more text part none ends reports i =
     let s = own start now came p c es old i in
     let n = c.value.number in
     let m = s.is.0.made there in
     let q = shown m.a m.b m.made.is in
-    let from = unwrap_or old.start 0 in
+    let from = start.from in
     let number = clock.number in
     let head = heading_of old.teller.form n from in
     let told = told_by i.written old in
@@ -491,9 +499,9 @@ reported {A} {E} {ph} {clock} (Ok x) start now came p c es old new cause over ma
     let report : (k : IsMade old.terms s.taken [] c.value.talk) → IsReported old.terms from n s.taken said.0 = λ k.
     let e = ended k.a k.b k.made.turns k.made.is k.made.heard in
     report_by k e.0 e.1 in
-    follows_over start now came p c es old new absent terms begin form count i f refl refl s.share may.parted may.may_be
+    follows_over start now came p c es old new absent terms form count i f refl refl s.share may.parted may.may_be
     (timely_own clock p came i.fs s.taken cause s.share may.timely)
-    (adds_more old.teller.form n told told' more is none) (said.2 start now (reports_of i.fs) i.written i.known.tells)
+    (adds_more old.teller.form n told told' more is none) (said.2 start.target now (reports_of i.fs) i.written i.known.tells)
     (lost ∙ ap (λ (o : Over). with_over o old.lost) is_over ∙ ap (with_over (over_for cause)) i.known.lost ∙ lost_same i.fs f refl)
     ((sym s.is.0.has_payload ∙ some, report m, ap left_in is_over), over_by old.terms s.taken ph clock came p c.value cause may there m)
     (λ side small w.
@@ -515,13 +523,13 @@ reported {A} {E} {ph} {clock} (Ok x) start now came p c es old new cause over ma
       in_time_on head old.terms i.packet packet i.parts (parts_of_report more all said.0) s.taken gets.same
           (in_time_of head old.terms i.packet i.parts s.taken [] (is_lost c.value.talk) there (own.3 small)),
     )) (told_reported i.packet number i.parts i.fs f more all said.0 refl may.told_at i.times)
-reported (Err x) start now came p c es old new cause over may is_over absent some terms begin more_lost lost form count there talk ended Q shown nothing more
+reported (Err x) start now came p c es old new cause over may is_over absent some terms more_lost lost form count there talk ended Q shown nothing more
     text part none ends reports i =
     let m = (own start now came p c es old i).is.0.made there in
     let q = shown m.a m.b m.made.is in
     let told = told_by i.written old in
     let told' = told_by i.written new in
-    let from = unwrap_or old.start 0 in
+    let from = start.from in
     let is : is_stream old.teller.form ≡ true → (told' ≡ told) ⊎ (told' ≡ told ++ more) = λ stream. elim (part stream q) [
       | inl e ↦ inl (ap (λ (l : List ℕ). i.written ++ l) e)
       | inr e ↦ inr (appended i.written more old new e)
@@ -529,9 +537,9 @@ reported (Err x) start now came p c es old new cause over may is_over absent som
     record {
       fs = i.fs;
       written = i.written;
-      known = known_same start now i.fs i.written i.written old new terms begin lost (nothing q start now (reports_of i.fs) i.written i.known.tells) i.known;
-      so_far = so_far_same old.teller.form new.teller.form told' told' old.terms new.terms from (unwrap_or new.start 0) came i.fs form refl terms
-          (ap (λ o. unwrap_or o 0) begin)
+      known = known_same start now i.fs i.written i.written old new terms lost (nothing q start.target now (reports_of i.fs) i.written i.known.tells) i.known;
+      so_far = so_far_same old.teller.form new.teller.form told' told' old.terms new.terms from from came i.fs form refl terms
+          refl
           (ended_so_far old.teller.form told told' more old.terms from old.begun came i.fs p c es absent (apart_rest (p, c) es i.apart) i.streams i.order
           i.shared is none there ends);
       shared = λ k. ((i.shared k).taken, (i.shared k).share);
@@ -547,27 +555,27 @@ not_lost true x e stays = let both = stays refl in cc
 begun_most : (a n : ℕ) → a ≡ min n (2 ^ 64 - 1) → a ≤ 2 ^ 64 - 1
 begun_most a n e = omega (arith, e)
 
-pub begun : {clock : Clock} (start now : TargetSeen) (came : List Arrival) (x : Arrival) (p : Pair) (c : Held) (es : List (Pair × Held)) (old new : Run)
-    → lookup (same_pair p) es ≡ None → new.terms ≡ old.terms → new.start ≡ old.start → new.lost ≡ old.lost → new.teller ≡ old.teller
+pub begun : {clock : Clock} (start : Since) (now : TargetSeen) (came : List Arrival) (x : Arrival) (p : Pair) (c : Held) (es : List (Pair × Held)) (old new : Connections)
+    → lookup (same_pair p) es ≡ None → new.terms ≡ old.terms → new.lost ≡ old.lost → new.teller ≡ old.teller
     → new.begun ≡ min (old.begun + 1) (2 ^ 64 - 1) → IsOpen old.terms [] (x ∷ []) c.value → c.value.number ≡ old.begun
     → ((side : Side) → HasSent side [] old.terms [] (x ∷ []) c.value) → is_lost c.value.talk ≡ false
     → ((h : Heading) → HasShown h [] old.terms [] (x ∷ []) c.value)
     → FollowsIn (Coming p x) start now clock came es old → Holds start now clock came x p c es new
-begun start now came x p c es old new absent terms begin lost teller count is number sent there shown i =
+begun start now came x p c es old new absent terms lost teller count is number sent there shown i =
     let form = ap (λ (t : Teller). t.form) teller in
     let told = told_by i.written old in
     let told' = told_by i.written new in
     let same = told_same i.written old new teller in
-    let from = unwrap_or old.start 0 in
+    let from = start.from in
     let sends = sending_begun old.teller.form told old.terms from old.begun i.fs es x c.value number sent i.streams in
     let most = begun_most old.begun (length i.fs + length es) i.begun in
     record {
       fs = i.fs;
       written = i.written;
-      known = known_kept start now i.fs i.written old new terms begin lost teller i.known;
+      known = known_kept start now i.fs i.written old new terms lost teller i.known;
       begun = begun_more new.begun old.begun (length i.fs) (length es) count i.begun;
-      streams = streaming_same old.teller.form new.teller.form told told' old.terms new.terms from (unwrap_or new.start 0) new.begun new.begun i.fs
-          ((p, c) ∷ es) form same terms (ap (λ o. unwrap_or o 0) begin) refl
+      streams = streaming_same old.teller.form new.teller.form told told' old.terms new.terms from from new.begun new.begun i.fs
+          ((p, c) ∷ es) form same terms refl refl
           (streaming_begun old.teller.form told old.terms from old.begun new.begun i.fs p c es number count i.streams most);
       taken = [];
       is = subst (λ y. IsOpen y [] (x ∷ []) c.value) (sym terms) is;
@@ -578,8 +586,8 @@ begun start now came x p c es old new absent terms begin lost teller count is nu
       others = λ k e. shares_same i.written i.written came i.fs old new k (lookup (same_pair k) es) terms form same (i.shared k);
       parts = i.parts;
       rows = rows_to_same old.teller.form new.teller.form i.packet i.parts told told' old.terms new.terms from
-          (unwrap_or new.start 0) new.begun came i.fs x p []
-          c.value es form same terms (ap (λ o. unwrap_or o 0) begin)
+          from new.begun came i.fs x p []
+          c.value es form same terms refl
           (rows_begun old.teller.form old.terms from i.packet i.parts told old.begun new.begun came i.fs x p c.value es number count there shown i.rows);
       parting = i.parting;
       order = order_begun came i.fs x p c.value.number es old.begun new.begun number count most i.order;
@@ -589,7 +597,7 @@ begun start now came x p c es old new absent terms begin lost teller count is nu
       times = i.times;
     }
 
-pub held : {clock : Clock} (start now : TargetSeen) (came : List Arrival) (x : Arrival) (p : Pair) (c : Held) (es : List (Pair × Held)) (run : Run)
+pub held : {clock : Clock} (start : Since) (now : TargetSeen) (came : List Arrival) (x : Arrival) (p : Pair) (c : Held) (es : List (Pair × Held)) (run : Connections)
     → IsIts x c.value → lookup (same_pair p) es ≡ None → FollowsIn (Coming p x) start now clock came ((p, c) ∷ es) run → Holds start now clock came x p c es run
 held start now came x p c es run its absent i =
     let s = own start now came p c es run i in
@@ -607,7 +615,7 @@ held start now came x p c es run its absent i =
       apart = apart_rest (p, c) es i.apart;
       others = others_of run.teller.form run.terms came i.fs (told_by i.written run) p c es i.shared;
       parts = i.parts;
-      rows = rows_held run.teller.form run.terms (unwrap_or run.start 0) i.packet i.parts
+      rows = rows_held run.teller.form run.terms start.from i.packet i.parts
           (told_by i.written run) run.begun came i.fs x p c es s.taken its s.share
           i.rows;
       parting = i.parting;
@@ -619,7 +627,7 @@ held start now came x p c es run its absent i =
     }
 
 -- More is known of what comes.
-follows_with : {ph ph' : Phase} {clock : Clock} (start now : TargetSeen) (came : List Arrival) (es : List (Pair × Held)) (run : Run)
+follows_with : {ph ph' : Phase} {clock : Clock} (start : Since) (now : TargetSeen) (came : List Arrival) (es : List (Pair × Held)) (run : Connections)
     → (i : FollowsIn ph start now clock came es run) → AreParts ph' came i.fs → ComeLast ph' i.fs es → FollowsIn ph' start now clock came es run
 follows_with start now came es run i parting last = record {
   fs = i.fs;
@@ -640,13 +648,13 @@ follows_with start now came es run i parting last = record {
 }
 
 -- The next segment is known.
-pub follows_coming : {clock : Clock} (start now : TargetSeen) (came : List Arrival) (es : List (Pair × Held)) (run : Run) (p : Pair) (x : Arrival)
+pub follows_coming : {clock : Clock} (start : Since) (now : TargetSeen) (came : List Arrival) (es : List (Pair × Held)) (run : Connections) (p : Pair) (x : Arrival)
     → AreEarlier clock x.when.packet → Follows start now clock came es run → FollowsIn (Coming p x) start now clock came es run
 follows_coming {clock} start now came es run p x new i =
     follows_with start now came es run i (parts_coming clock came i.fs p x new i.timely i.parting) i.last
 
 -- None comes any more. Those that are left are in the order of their numbers.
-pub follows_end : {clock : Clock} (start now : TargetSeen) (came : List Arrival) (es : List (Pair × Held)) (run : Run) → IsNonDecreasing (numbers es)
+pub follows_end : {clock : Clock} (start : Since) (now : TargetSeen) (came : List Arrival) (es : List (Pair × Held)) (run : Connections) → IsNonDecreasing (numbers es)
     → Follows start now clock came es run → FollowsIn AtEnd start now clock came es run
 follows_end start now came es run up i = follows_with start now came es run i (parts_end came i.fs i.parting) (last_begins i.fs es up i.last)
 
@@ -663,8 +671,8 @@ by_loss P true lost there = lost refl
 by_loss P false lost there = there refl
 
 -- The connection takes the segment.
-pub follows_took : {clock : Clock} (start now : TargetSeen) (came : List Arrival) (x : Arrival) (p : Pair) (c c' : Held) (es : List (Pair × Held))
-    (old new : Run) → pair_of x ≡ p → new.terms ≡ old.terms → new.start ≡ old.start → new.lost ≡ old.lost → new.begun ≡ old.begun
+pub follows_took : {clock : Clock} (start : Since) (now : TargetSeen) (came : List Arrival) (x : Arrival) (p : Pair) (c c' : Held) (es : List (Pair × Held))
+    (old new : Connections) → pair_of x ≡ p → new.terms ≡ old.terms → new.lost ≡ old.lost → new.begun ≡ old.begun
     → new.teller.form ≡ old.teller.form → TellsOn old.teller new.teller → c'.value.number ≡ c.value.number
     → (i : Holds start now clock came x p c es old) → IsOpen old.terms (i.taken ++ x ∷ []) [] c'.value
     → (more : List ℕ) → (is_stream old.teller.form ≡ true → new.teller.text.items ≡ old.teller.text.items ++ more)
@@ -672,16 +680,16 @@ pub follows_took : {clock : Clock} (start now : TargetSeen) (came : List Arrival
     → ((side : Side) → wanted_by old.teller.form c.value.number ≡ Some side
     → HasSent side (told_by i.written old) old.terms i.taken (x ∷ []) c.value
     → HasSent side (told_by i.written old ++ more) old.terms (i.taken ++ x ∷ []) [] c'.value)
-    → ((before : List Shown) → let h = heading_of old.teller.form c.value.number (unwrap_or old.start 0) in HasShown h before old.terms i.taken (x ∷ []) c.value
+    → ((before : List Shown) → let h = heading_of old.teller.form c.value.number start.from in HasShown h before old.terms i.taken (x ∷ []) c.value
     → (rows : List Shown) × ShowsOn h before rows old.terms i.taken x c.value c'.value
     × (new.teller.text.items ≡ old.teller.text.items ++ (shown_texts (showing_by old.teller.form) rows ++ more)))
     → x.when.packet ≡ clock.number → Follows start now clock (came ++ x ∷ []) ((p, c') ∷ es) new
-follows_took {clock} start now came x p c c' es old new ends terms begin lost count form tells number i is more text none sends shows packet_is =
+follows_took {clock} start now came x p c c' es old new ends terms lost count form tells number i is more text none sends shows packet_is =
     let n = c.value.number in
     let shown = old.teller.form in
     let told = told_by i.written old in
     let told' = told_by i.written new in
-    let from = unwrap_or old.start 0 in
+    let from = start.from in
     let same : is_stream shown ≡ true → told' ≡ told ++ more = λ stream. appended i.written more old new (text stream) in
     let adds = adds_more shown n told told' more same none in
     let alone : n < 2 ^ 64 - 1 → count_open n es ≡ 0 = alone_open old.begun i.fs p c es i.streams.numbered in
@@ -747,17 +755,17 @@ follows_took {clock} start now came x p c c' es old new ends terms begin lost co
     record {
       fs = i.fs;
       written = i.written;
-      known = known_same start now i.fs i.written i.written old new terms begin lost (tells start now (reports_of i.fs) i.written i.known.tells) i.known;
+      known = known_same start now i.fs i.written i.written old new terms lost (tells start.target now (reports_of i.fs) i.written i.known.tells) i.known;
       begun = begun_took new.begun (length i.fs) (p, c') es (count ∙ i.begun);
       apart = apart_put (p, c') es i.absent i.apart;
-      streams = streaming_same shown new.teller.form told' told' old.terms new.terms from (unwrap_or new.start 0) old.begun new.begun i.fs ((p, c') ∷ es)
-          form refl terms (ap (λ o. unwrap_or o 0) begin) count
+      streams = streaming_same shown new.teller.form told' told' old.terms new.terms from from old.begun new.begun i.fs ((p, c') ∷ es)
+          form refl terms refl count
           (streaming_took shown told told' old.terms from old.begun i.fs p c c' es number adds i.streams);
       shared = λ k. share_same shown new.teller.form told' told' old.terms new.terms (came ++ x ∷ []) i.fs k (lookup (same_pair k) ((p, c') ∷ es)) form
           refl terms (took shown old.terms came i.fs told' p c' es i.taken x ends i.share is sent others k);
       parts = parts;
-      rows = rows_same shown new.teller.form packet parts told' told' old.terms new.terms from (unwrap_or new.start 0) old.begun new.begun (came ++ x ∷ []) i.fs
-          ((p, c') ∷ es) form refl terms (ap (λ o. unwrap_or o 0) begin) count
+      rows = rows_same shown new.teller.form packet parts told' told' old.terms new.terms from from old.begun new.begun (came ++ x ∷ []) i.fs
+          ((p, c') ∷ es) form refl terms refl count
           (rows_took shown old.terms from i.packet packet i.parts parts told told' old.begun came i.fs x p i.taken c c' es w.0 ends i.share
           (alone_over old.begun i.fs p c es i.streams.numbered) alone (has_begun old.begun i.fs p c es i.streams.numbered) gets parts_are shows_now i.rows);
       parting = parts_took came i.fs p x ends i.parting;
@@ -777,13 +785,13 @@ more_shared k came more fs rest share =
       filter-append test came more ∙ ap (λ l. l ++ filter test more) share ∙ append_assoc (taken_between k fs) rest (filter test more),
     )
 
-pub stops_more : {clock : Clock} (start now : TargetSeen) (came more : List Arrival) (run : Run) → Stops start now clock came run
+pub stops_more : {clock : Clock} (start : Since) (now : TargetSeen) (came more : List Arrival) (run : Connections) → Stops start now clock came run
     → Stops start now clock (came ++ more) run
 stops_more start now came more run i = record {
   fs = i.fs;
   written = i.written;
   known = i.known;
-  so_far = so_far_more run.teller.form (told_by i.written run) run.terms (unwrap_or run.start 0) came more i.fs i.so_far;
+  so_far = so_far_more run.teller.form (told_by i.written run) run.terms start.from came more i.fs i.so_far;
   shared = λ k. let s = i.shared k in more_shared k came more i.fs s.0 s.1;
   timely = i.timely;
 }

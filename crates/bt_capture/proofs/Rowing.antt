@@ -12,8 +12,8 @@ use Rattle.bt_remarks.specs.declared.events.Side.{Side}
 use Rattle.bt_remarks.specs.declared.events.Side.TheVariants.{A, B}
 use Rattle.bt_remarks.specs.Said.{Told}
 use Rattle.bt_tcp.specs.declared.covered.Gap.{Gap}
-use Rattle.bt_told.specs.declared.report.Means.{Means}
-use Rattle.bt_told.specs.declared.rows.Deed.TheVariants as deed
+use Rattle.bt_rows.specs.declared.parts.Means.{Means}
+use Rattle.bt_rows.specs.declared.rows.Deed.TheVariants as deed
 use Rattle.bt_wire.specs.declared.item.Item.{Item}
 use Rattle.bt_wire.specs.declared.item.Refusal.{Refusal}
 use Rattle.bt_talk.specs.declared.closing.When.{When}
@@ -26,7 +26,7 @@ use Rattle.bt_talk.specs.Shown.{AreItemRows, AreRowsOfTurn, AreTurnRows, Turn, c
 use Rattle.bt_talk.specs.Talks.{is_lost}
 use Rattle.bt_talk.specs.declared.talk.Talk.{Talk}
 use Rattle.bt_talk.specs.Watching.{told_of}
-use Rattle.bt_told.specs.declared.report.Report.{Report}
+use Rattle.bt_report.specs.declared.report.Report.{Report}
 use Rattle.bt_capture.specs.Arrivals.{Arrival, is_between, pair_of}
 use Rattle.bt_capture.specs.Connections.{IsFirst}
 use Rattle.bt_capture.specs.Following.{AreAllRows, AreRowsBy, AreRowsOf, Fate, Finished, IsAfterRows, IsLeftShown, IsRowShare, IsRowing, IsRowingTo, IsShared}

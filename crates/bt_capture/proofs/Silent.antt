@@ -26,6 +26,7 @@ use Rattle.bt_talk.specs.declared.stage.Stage.{Stage}
 use Rattle.bt_talk.specs.declared.stage.Stage.TheVariants.{Opening, Open, Stranger}
 use Rattle.bt_talk.specs.declared.talk.Talk.{Talk}
 use Rattle.bt_talk.specs.Courses.{closes_by}
+use Rattle.bt_talk.specs.Strays.{heeded}
 use Rattle.bt_talk.specs.Marks.{AreMarkDeeds, AreOpenedBy, AreTurnsOf, HasBegun, by_side, reach_of}
 use Rattle.bt_talk.specs.Pasts.{Past, HasSentBy, IsAckedBy, no_past}
 use Rattle.bt_talk.specs.Rows.{Shown}
@@ -33,7 +34,7 @@ use Rattle.bt_talk.specs.Sent.{IsSent, sent_of}
 use Rattle.bt_talk.specs.Shown.{AreItemRows, AreRowsOfTurn, AreTurnRows, Deeds, Turn, deed_rows, items_by, no_deeds, told_by}
 use Rattle.bt_talk.specs.Stages.{AreItemsIn, IsDirection, receiver_in}
 use Rattle.bt_talk.specs.Talks.{AreDeedsBy, HasHeard, IsTalk, Takes, has_closed, is_in_opening, marks_of, of_side, turn_by}
-use Rattle.bt_told.specs.declared.report.Means.{Means}
+use Rattle.bt_rows.specs.declared.parts.Means.{Means}
 use Rattle.bt_wire.specs.Handshakes.{protocol}
 use Rattle.bt_wire.specs.declared.item.Item.{Item}
 use Rattle.bt_wire.specs.declared.item.Refusal.{Refusal}
@@ -62,13 +63,14 @@ bare_sent false s opening p flow p' flow' none i bare =
           let no : counts at (length s.payload.now) ≡ false = none_counts at (length s.payload.now) empty in
           let same : with_segment p.segs at s.payload.now ≡ p.segs = rw no refl in
           a.2 ∙ same ∙ bare
-      | inr o ↦ o.3 ∙ bare
+      | inr o ↦ elim o [ inl l ↦ l.2 ∙ bare | inr r ↦ r.3 ∙ bare ]
     ]
 
 bare_acked : (reset : Bool) (acked : Option ℕ) (opens : Bool) (p p' : Past) → IsAckedBy reset acked opens p p' → IsBare p → IsBare p'
 bare_acked true acked opens p p' i bare = ap (λ (q : Past). q.segs) i ∙ bare
 bare_acked false None opens p p' i bare = ap (λ (q : Past). q.segs) i ∙ bare
-bare_acked false (Some n) opens p p' i bare = ap (λ (q : Past). q.segs) i.1 ∙ bare
+bare_acked false (Some n) opens p p' (inl i) bare = ap (λ (q : Past). q.segs) i.1 ∙ bare
+bare_acked false (Some n) opens p p' (inr i) bare = ap (λ (q : Past). q.segs) i.0 ∙ bare
 
 both_bare : (side : Side) (a b : Past) → IsBare (of_side side a b) → IsBare (of_side (other side) a b) → IsBare a × IsBare b
 both_bare A a b i j = (i, j)
@@ -150,13 +152,13 @@ undone_on s when a b t t' took turns turns' no_a no_b i undone =
     elim (cases_Bool (is_in_opening t)) [
       | inl o ↦ elim (cases_Bool (is_in_opening t')) [
         | inl q ↦ subst AreUndone (sym (i.heard.quiet q)) (All-nil P)
-        | inr q ↦ undone_opened (marks_of t ++ took.marks) took.a' took.b' t'.a.stage t'.b.stage turns' no_a no_b (i.opened o q)
+        | inr q ↦ undone_opened (marks_of t ++ took.marks) took.a' took.b' t'.sides.a.stage t'.sides.b.stage turns' no_a no_b (i.opened o q)
       ]
       | inr o ↦
           let after = i.after o in
           let did = took.did after.0 in
           let are = did.are in
-          let none = undone_by are.0 took.side did.before (closes_by s.flags (has_closed took.side t)) took.a' took.b' t' did.deeds
+          let none = undone_by are.0 took.side did.before (closes_by (heeded took.stray s.flags) (has_closed took.side t)) took.a' took.b' t' did.deeds
           (none_begun took.a' took.b' are.0 no_a no_b are.1) are.2 in
           subst AreUndone (sym after.1) (All-cons P (turn_by when (took.said after.0) did) turns none undone)
     ]
@@ -180,8 +182,8 @@ bare_taken first (x ∷ xs) a b t turns a' b' t' turns' none i j k undone =
     let acked = bare_acked s.flags.rst s.acked s.flags.syn _ _ took.acked (each_bare (other took.side) a b j k) in
     let now = both_bare took.side took.a' took.b' sent acked in
     let mid = i.3 in
-    let no_a = front_none mid.terms took.a' took.b' mid.a took.is.a_is (bare_out took.a' mid.a.flow took.is.a_is.flow.stream now.0) in
-    let no_b = front_none mid.terms took.b' took.a' mid.b took.is.b_is (bare_out took.b' mid.b.flow took.is.b_is.flow.stream now.1) in
+    let no_a = front_none mid.terms took.a' took.b' mid.sides.a took.is.a_is (bare_out took.a' mid.sides.a.flow took.is.a_is.flow.stream now.0) in
+    let no_b = front_none mid.terms took.b' took.a' mid.sides.b took.is.b_is (bare_out took.b' mid.sides.b.flow took.is.b_is.flow.stream now.1) in
     bare_taken false xs took.a' took.b' mid i.5 a' b' t' turns' both.1 i.7 now.0 now.1 (undone_on s x.when a b t mid took turns i.5 no_a no_b i.6 undone)
 
 -- No byte of either side was put together, and none did anything in its turns.
@@ -190,7 +192,7 @@ pub nothing_came : (terms : Terms) (taken : List Arrival) (t : Talk) → list_an
 nothing_came terms taken t none m =
     let bare =
     bare_taken true taken no_past no_past m.made.begin [] m.a m.b t m.made.turns none m.made.has_taken refl refl (All-nil (λ u. u.deeds ≡ no_deeds)) in
-    (bare_out m.a t.a.flow m.made.is.a_is.flow.stream bare.0, bare_out m.b t.b.flow m.made.is.b_is.flow.stream bare.1, bare.2)
+    (bare_out m.a t.sides.a.flow m.made.is.a_is.flow.stream bare.0, bare_out m.b t.sides.b.flow m.made.is.b_is.flow.stream bare.1, bare.2)
 
 -- ---- so there are no items
 
@@ -250,8 +252,8 @@ no_rows h (t ∷ earlier) rows none undone i =
 pub nothing_shown : (h : Heading) (a b : Past) (t : Talk) (turns : List Turn) (rows : List Shown) → IsTalk a b t → HasHeard turns a b t → a.out ≡ []
     → b.out ≡ [] → AreUndone turns → AreTurnRows h turns rows → rows ≡ []
 nothing_shown h a b t turns rows is heard none_a none_b undone i =
-    let of_a = no_items t.a.stage a (items_by A turns) (front_none t.terms a b t.a is.a_is none_a) (heard.items A) in
-    let of_b = no_items t.b.stage b (items_by B turns) (front_none t.terms b a t.b is.b_is none_b) (heard.items B) in
+    let of_a = no_items t.sides.a.stage a (items_by A turns) (front_none t.terms a b t.sides.a is.a_is none_a) (heard.items A) in
+    let of_b = no_items t.sides.b.stage b (items_by B turns) (front_none t.terms b a t.sides.b is.b_is none_b) (heard.items B) in
     no_rows h turns rows (both_sides (λ s. items_by s turns ≡ []) of_a of_b) undone i
 
 nothing_of : (opening : Bool) (start : Option ℕ) (out : List ℕ) → out ≡ [] → sent_of opening start out ≡ []

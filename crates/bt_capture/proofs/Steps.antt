@@ -5,7 +5,6 @@ use Rattle.std.proofs.Common.{◌≤◌, Some, unwrap_or, refl, sym, ap, subst, 
 use Rattle.std.specs.List.{All, list_any}
 use Rattle.std.specs.List.Sorted.{IsPermutation}
 use Rattle.std.specs.Map.{lookup, remove_entry}
-use Rattle.std.specs.Option.{option_or}
 use Rattle.std.proofs.lemmas.Bool.{cases_Bool}
 use Rattle.std.proofs.lemmas.List.{length-append}
 use Rattle.std.proofs.lemmas.List.Elements.{All-append, All-cons, All-head, All-nil, All-tail}
@@ -16,29 +15,29 @@ use Rattle.bt_talk.specs.declared.closing.When.{When}
 use Rattle.bt_capture.specs.Arrivals.{AreEarlier, Arrival, Clock, IsEarlier, arrivals, arrivals_in, arrivals_of, arrivals_after, clock_after, clock_of}
 use Rattle.bt_capture.specs.Arrivals.{first_time, has_data, pair_of}
 use Rattle.bt_capture.specs.Sights.{Seen, SawSegment, SawUtp, SawOther, seen_in}
-use Rattle.bt_capture.specs.Following.{Cause, IsRowing, Rows}
+use Rattle.bt_capture.specs.Following.{Cause, IsRowing, Rows, Since}
 use Rattle.bt_capture.specs.Following.{Finished, Fate, Reported, Silent, Lost, IsFinished, IsFate, IsShared}
 use Rattle.bt_capture.specs.Following.{IsStreaming, Follows, Stops, Holds, Shares, Streams}
 use Rattle.bt_capture.specs.Following.{losses_of, reports_of, taken_between, told_by}
 use Rattle.bt_capture.specs.Forms.{is_stream}
 use Rattle.bt_capture.specs.Tables.{Held, IsApart, same_pair}
 use Rattle.bt_capture.specs.Tellings.{Tells, TellsOn}
-use Rattle.bt_capture.specs.declared.connections.Run.{Run}
+use Rattle.bt_capture.specs.declared.connections.Connections.{Connections}
 use Rattle.bt_capture.specs.declared.pair.Pair.{Pair}
-use Rattle.bt_capture.specs.declared.telling.Teller.{Teller}
 use Rattle.bt_capture.proofs.Entries.{apart_moved, apart_none, apart_put, apart_without, lookup_back, lookup_gone, lookup_moved}
 use Rattle.bt_capture.proofs.Entries.{same_is, same_self}
-use Rattle.bt_capture.proofs.Rowing.{rows_moved, rows_nothing, rows_same, rows_started}
+use Rattle.bt_capture.proofs.Rowing.{rows_moved, rows_nothing, rows_started}
 use Rattle.bt_capture.proofs.Parting.{parts_nothing, timely_more}
 use Rattle.bt_capture.proofs.Shares.{moved}
 use Rattle.bt_capture.proofs.SoFar.{held_so_far, so_far_on, so_far_same}
 use Rattle.bt_capture.proofs.Streaming.{streaming_moved, streaming_nothing, streaming_out}
-use Rattle.bt_capture.proofs.Streaming.{streaming_same, streaming_started}
+use Rattle.bt_capture.proofs.Streaming.{streaming_started}
 use Rattle.bt_capture.specs.Following.{AreBegun, IsTimely, is_final}
-use Rattle.bt_capture.proofs.Order.{order_moved, order_nothing, order_same}
+use Rattle.bt_capture.specs.Runs.{since_first}
+use Rattle.bt_capture.proofs.Order.{order_moved, order_nothing}
 use Rattle.bt_capture.proofs.Silent.{parts_none}
 use Rattle.bt_capture.proofs.Timing.{told_later, told_nothing}
-use Rattle.bt_capture.proofs.Reported.{told_same, shares_same, known_same, follows_same, more_shared}
+use Rattle.bt_capture.proofs.Reported.{known_same, more_shared}
 
 -- ---- the first packet
 
@@ -73,46 +72,38 @@ all_any terms from from' (f ∷ fs) none i =
 shares_none : (k : Pair) (fs : List Finished) (rest : List Arrival) → IsShared k [] fs rest → taken_between k fs ≡ []
 shares_none k fs rest e = (parts_none (taken_between k fs) rest (sym e)).0
 
-pub started : {clock : Clock} (start now : TargetSeen) (packets : List Captured) (old new : Run) (time : ℕ) → old.start ≡ first_time packets
-    → new.start ≡ option_or old.start (Some time) → new.terms ≡ old.terms → new.lost ≡ old.lost → new.teller ≡ old.teller → new.table ≡ old.table
-    → new.begun ≡ old.begun → Follows start now clock (arrivals packets) old.table old → Follows start now clock (arrivals packets) new.table new
-started {clock} start now [] old new time is begin terms lost teller table count i =
+-- The time of the first packet isn't known before it comes; but no segment was taken then.
+pub started : {clock : Clock} (target now : TargetSeen) (packets : List Captured) (p : Captured) (run : Connections)
+    → Follows (since_first target packets) now clock (arrivals packets) run.table run
+    → Follows (since_first target (packets ++ p ∷ [])) now clock (arrivals packets) run.table run
+started target now [] p run i =
     let none = none_taken i.fs (λ k. shares_none k i.fs (i.shared k).taken (i.shared k).share) in
-    let form = ap (λ (t : Teller). t.form) teller in
-    let told = told_by i.written old in
-    let told' = told_by i.written new in
-    let same = told_same i.written old new teller in
-    let from = unwrap_or old.start 0 in
-    let from' = unwrap_or new.start 0 in
-    let P : List (Pair × Held) → Type 0 = λ l. Follows start now clock [] l new in
-    let follows : P old.table = record {
+    let form = run.teller.form in
+    let told = told_by i.written run in
+    let from = p.nanos in
+    record {
       fs = i.fs;
       written = i.written;
-      begun = count ∙ i.begun;
+      begun = i.begun;
       apart = i.apart;
-      known = record {
-        tells = subst (λ t. Tells start now t (reports_of i.fs) i.written) (sym teller) i.known.tells;
-        finished = subst (λ x. All (IsFinished x from') i.fs) (sym terms) (all_any old.terms from from' i.fs none i.known.finished);
-        lost = lost ∙ i.known.lost;
-      };
-      streams = streaming_same old.teller.form new.teller.form told told' old.terms new.terms from' from' old.begun new.begun i.fs old.table form same terms
-          refl count (streaming_started old.teller.form told old.terms from from' old.begun i.fs old.table none i.streams);
-      shared = λ k. shares_same i.written i.written [] i.fs old new k (lookup (same_pair k) old.table) terms form same (i.shared k);
+      known = record { tells = i.known.tells; finished = all_any run.terms 0 from i.fs none i.known.finished; lost = i.known.lost };
+      streams = streaming_started form told run.terms 0 from run.begun i.fs run.table none i.streams;
+      shared = i.shared;
       parts = i.parts;
-      rows = rows_same old.teller.form new.teller.form i.packet i.parts told told' old.terms new.terms from' from' old.begun new.begun [] i.fs old.table
-          form same terms refl count (rows_started old.teller.form i.packet i.parts told old.terms from from' old.begun i.fs old.table none i.rows);
+      rows = rows_started form i.packet i.parts told run.terms 0 from run.begun i.fs run.table none i.rows;
       parting = i.parting;
-      order = order_same [] i.fs old.table old.begun new.begun count i.order;
+      order = i.order;
       last = i.last;
       timely = i.timely;
       packet = i.packet;
       times = i.times;
-    } in
-    subst P (sym table) follows
-started {clock} start now (p ∷ ps) old new time is begin terms lost teller table count i =
-    let e : new.start ≡ old.start = begin ∙ ap (λ o. option_or o (Some time)) is ∙ sym is in
-    subst (λ t. Follows start now clock (arrivals (p ∷ ps)) t new) (sym table)
-    (follows_same start now (arrivals (p ∷ ps)) old.table old new terms e lost teller count i)
+    }
+started target now (q ∷ qs) p run i = i
+
+-- the time of the first packet, after another one
+pub first_more : (packets : List Captured) (p : Captured) → first_time (packets ++ p ∷ []) ≡ Some (unwrap_or (first_time packets) p.nanos)
+first_more [] p = refl
+first_more (q ∷ qs) p = refl
 
 after_more : (n : ℕ) (packets : List Captured) (p : Captured)
     → arrivals_after n (packets ++ p ∷ []) ≡ arrivals_after n packets ++ arrivals_of (min (n + length packets + 1) (2 ^ 64 - 1)) p
@@ -197,7 +188,7 @@ pub all_until : (packets : List Captured) (number : ℕ) → number ≡ min (len
 all_until packets number e = within_after 0 packets number (omega (arith, e))
 
 -- Time goes on.
-pub follows_later : (start now : TargetSeen) (clock later : Clock) (more : List When) (came : List Arrival) (es : List (Pair × Held)) (run : Run)
+pub follows_later : (start : Since) (now : TargetSeen) (clock later : Clock) (more : List When) (came : List Arrival) (es : List (Pair × Held)) (run : Connections)
     → later.packets ≡ clock.packets ++ more → clock.number ≤ later.number → Follows start now clock came es run → Follows start now later came es run
 follows_later start now clock later more came es run e up i = record {
   fs = i.fs;
@@ -217,7 +208,7 @@ follows_later start now clock later more came es run e up i = record {
   times = told_later i.packet clock.number later.number i.parts i.fs up i.last i.times;
 }
 
-pub stops_later : (start now : TargetSeen) (clock later : Clock) (more : List When) (came : List Arrival) (run : Run)
+pub stops_later : (start : Since) (now : TargetSeen) (clock later : Clock) (more : List When) (came : List Arrival) (run : Connections)
     → later.packets ≡ clock.packets ++ more → Stops start now clock came run → Stops start now later came run
 stops_later start now clock later more came run e i = record {
   fs = i.fs;
@@ -241,7 +232,7 @@ length_out test (e ∷ es) c found = elim (cases_Bool (test e.0)) [
   | inr f ↦ let rest = length_out test es c (rw f at found) in rw f (omega (arith, rest))
 ]
 
-pub follows_out : {clock : Clock} (start now : TargetSeen) (came : List Arrival) (p : Pair) (c : Held) (es out : List (Pair × Held)) (run : Run)
+pub follows_out : {clock : Clock} (start : Since) (now : TargetSeen) (came : List Arrival) (p : Pair) (c : Held) (es out : List (Pair × Held)) (run : Connections)
     → lookup (same_pair p) es ≡ Some c → out ≡ remove_entry (same_pair p) es → Follows start now clock came es run
     → Follows start now clock came ((p, c) ∷ out) run
 follows_out start now came p c es out run found is i =
@@ -255,13 +246,13 @@ follows_out start now came p c es out run found is i =
       known = i.known;
       begun = begun_out run.begun (length i.fs) (p, c) es out longer i.begun;
       apart = subst (λ (l : List (Pair × Held)). IsApart ((p, c) ∷ l)) (sym is) (apart_put (p, c) gone (lookup_gone p es i.apart) (apart_without p es i.apart));
-      streams = subst (λ l. Streams i.written i.fs ((p, c) ∷ l) run) (sym is)
-          (streaming_out form told run.terms (unwrap_or run.start 0) run.begun i.fs (same_pair p) p c es found i.streams);
+      streams = subst (λ l. Streams start.from i.written i.fs ((p, c) ∷ l) run) (sym is)
+          (streaming_out form told run.terms start.from run.begun i.fs (same_pair p) p c es found i.streams);
       shared = subst (λ l. (k : Pair) → Shares i.written came i.fs run k (lookup (same_pair k) ((p, c) ∷ l))) (sym is)
           (moved form run.terms came i.fs told es ((p, c) ∷ gone) (lookup_back p c es found) i.shared);
       parts = i.parts;
-      rows = subst (λ l. Rows i.packet i.parts i.written came i.fs ((p, c) ∷ l) run) (sym is)
-          (rows_moved form run.terms (unwrap_or run.start 0) i.packet i.parts told run.begun came i.fs es ((p, c) ∷ gone) (lookup_back p c es found) i.rows);
+      rows = subst (λ l. Rows start.from i.packet i.parts i.written came i.fs ((p, c) ∷ l) run) (sym is)
+          (rows_moved form run.terms start.from i.packet i.parts told run.begun came i.fs es ((p, c) ∷ gone) (lookup_back p c es found) i.rows);
       parting = i.parting;
       order = subst (λ l. AreBegun came i.fs ((p, c) ∷ l) run.begun) (sym is)
           (order_moved came i.fs es ((p, c) ∷ gone) run.begun (lookup_back p c es found) i.order);
@@ -272,7 +263,7 @@ follows_out start now came p c es out run found is i =
     }
 
 -- They are in another order.
-pub follows_moved : {clock : Clock} (start now : TargetSeen) (came : List Arrival) (es gs : List (Pair × Held)) (run : Run) → IsPermutation es gs
+pub follows_moved : {clock : Clock} (start : Since) (now : TargetSeen) (came : List Arrival) (es gs : List (Pair × Held)) (run : Connections) → IsPermutation es gs
     → Follows start now clock came es run → Follows start now clock came gs run
 follows_moved start now came es gs run moves i =
     let form = run.teller.form in
@@ -283,10 +274,10 @@ follows_moved start now came es gs run moves i =
       known = i.known;
       begun = i.begun ∙ ap (λ n. min (length i.fs + n) (2 ^ 64 - 1)) (sym (length_permutation es gs moves));
       apart = apart_moved es gs moves i.apart;
-      streams = streaming_moved form told run.terms (unwrap_or run.start 0) run.begun i.fs es gs moves i.streams;
+      streams = streaming_moved form told run.terms start.from run.begun i.fs es gs moves i.streams;
       shared = moved form run.terms came i.fs told es gs (lookup_moved es gs moves i.apart) i.shared;
       parts = i.parts;
-      rows = rows_moved form run.terms (unwrap_or run.start 0) i.packet i.parts told run.begun came i.fs es gs (lookup_moved es gs moves i.apart) i.rows;
+      rows = rows_moved form run.terms start.from i.packet i.parts told run.begun came i.fs es gs (lookup_moved es gs moves i.apart) i.rows;
       parting = i.parting;
       order = order_moved came i.fs es gs run.begun (lookup_moved es gs moves i.apart) i.order;
       last = i.last;
@@ -296,24 +287,24 @@ follows_moved start now came es gs run moves i =
     }
 
 -- The connection of the segment x is given up.
-pub holds_stop : {clock : Clock} (start now : TargetSeen) (came : List Arrival) (x : Arrival) (p : Pair) (c : Held) (es : List (Pair × Held))
-    (old new : Run) → pair_of x ≡ p → new.terms ≡ old.terms → new.start ≡ old.start → new.lost ≡ old.lost → new.teller.form ≡ old.teller.form
+pub holds_stop : {clock : Clock} (start : Since) (now : TargetSeen) (came : List Arrival) (x : Arrival) (p : Pair) (c : Held) (es : List (Pair × Held))
+    (old new : Connections) → pair_of x ≡ p → new.terms ≡ old.terms → new.lost ≡ old.lost → new.teller.form ≡ old.teller.form
     → TellsOn old.teller new.teller → (is_stream old.teller.form ≡ true → new.teller.text.items ≡ old.teller.text.items)
     → Holds start now clock came x p c es old → Stops start now clock (came ++ x ∷ []) new
-holds_stop start now came x p c es old new ends terms begin lost form tells kept i =
+holds_stop start now came x p c es old new ends terms lost form tells kept i =
     let shown = old.teller.form in
     let told = told_by i.written old in
     let told' = told_by i.written new in
-    let from = unwrap_or old.start 0 in
+    let from = start.from in
     let is : is_stream shown ≡ true → told' ≡ told = λ stream. ap (λ (l : List ℕ). i.written ++ l) (kept stream) in
     let so_far = held_so_far shown told old.terms from old.begun came x i.fs p c es i.taken ends i.absent i.apart i.streams i.order i.share i.sends
     i.others in
     record {
       fs = i.fs;
       written = i.written;
-      known = known_same start now i.fs i.written i.written old new terms begin lost (tells start now (reports_of i.fs) i.written i.known.tells) i.known;
-      so_far = so_far_same shown new.teller.form told' told' old.terms new.terms from (unwrap_or new.start 0) (came ++ x ∷ []) i.fs form refl terms
-          (ap (λ o. unwrap_or o 0) begin) (so_far_on shown told told' old.terms from (came ++ x ∷ []) i.fs is so_far);
+      known = known_same start now i.fs i.written i.written old new terms lost (tells start.target now (reports_of i.fs) i.written i.known.tells) i.known;
+      so_far = so_far_same shown new.teller.form told' told' old.terms new.terms from start.from (came ++ x ∷ []) i.fs form refl terms
+          refl (so_far_on shown told told' old.terms from (came ++ x ∷ []) i.fs is so_far);
       shared = λ k.
           let rest : (rest : List Arrival) × IsShared k came i.fs rest = elim (cases_Bool (same_pair k p)) [
             | inl t ↦ subst (λ q. (rest : List Arrival) × IsShared q came i.fs rest) (sym (same_is k p t)) (i.taken, i.share)
@@ -323,15 +314,15 @@ holds_stop start now came x p c es old new ends terms begin lost form tells kept
       timely = i.timely;
     }
 
-pub follows_table : {clock : Clock} (start now : TargetSeen) (came : List Arrival) (p : Pair) (c : Held) (es gs : List (Pair × Held)) (run : Run) → gs ≡ es
+pub follows_table : {clock : Clock} (start : Since) (now : TargetSeen) (came : List Arrival) (p : Pair) (c : Held) (es gs : List (Pair × Held)) (run : Connections) → gs ≡ es
     → Follows start now clock came ((p, c) ∷ es) run → Follows start now clock came ((p, c) ∷ gs) run
 follows_table {clock} start now came p c es gs run e i = subst (λ l. Follows start now clock came ((p, c) ∷ l) run) (sym e) i
 
-pub follows_nothing : (start : TargetSeen) (run : Run) → Tells start start run.teller [] [] → run.teller.text.items ≡ [] → run.lost ≡ losses_of []
-    → run.begun ≡ 0 → run.table ≡ [] → Follows start start (clock_of []) [] run.table run
+pub follows_nothing : (start : Since) (run : Connections) → Tells start.target start.target run.teller [] [] → run.teller.text.items ≡ []
+    → run.lost ≡ losses_of [] → run.begun ≡ 0 → run.table ≡ [] → Follows start start.target (clock_of []) [] run.table run
 follows_nothing start run tells empty lost count none =
-    let from = unwrap_or run.start 0 in
-    let P : List (Pair × Held) → Type 0 = λ l. Follows start start (clock_of []) [] l run in
+    let from = start.from in
+    let P : List (Pair × Held) → Type 0 = λ l. Follows start start.target (clock_of []) [] l run in
     let Q : ℕ → Type 0 = λ n. IsStreaming run.teller.form (told_by [] run) run.terms from n [] [] in
     let follows : P [] = record {
       fs = [];

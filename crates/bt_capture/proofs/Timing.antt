@@ -6,7 +6,7 @@ use Rattle.std.proofs.lemmas.Bool.{cases_lt}
 use Rattle.std.proofs.lemmas.List.{length-append}
 use Rattle.std.proofs.lemmas.List.Elements.{All-cons, All-head, All-nil, All-push, All-tail, All-weaker}
 use Rattle.bt_talk.specs.Rows.{Shown}
-use Rattle.bt_told.specs.declared.report.Report.{Report}
+use Rattle.bt_report.specs.declared.report.Report.{Report}
 use Rattle.bt_capture.specs.Following.{AreTimed, AreToldWith, Cause, Fate, Finished, IsReportedAt, IsReportedWith, IsToldAt}
 use Rattle.bt_capture.specs.Following.{AreNotFinal, Before, Crowded, Ended, Final, Lost, Reported, Silent, is_final, report_in}
 use Rattle.bt_capture.specs.Tellings.{OfBytes, OfReport, OfRows, Part}

@@ -5,8 +5,8 @@ use Rattle.bt_intro.specs.declared.settling.Receiver.{Receiver}
 use Rattle.bt_intro.specs.Listening.{handshake_of, last_client}
 use Rattle.bt_jobs.specs.Others.{first_of}
 use Rattle.bt_talk.specs.Pasts.{Past}
-use Rattle.bt_told.specs.Names.{title_text}
-use Rattle.bt_told.specs.declared.report.Title.{Title}
+use Rattle.bt_report.specs.Names.{title_text}
+use Rattle.bt_report.specs.declared.report.Title.{Title}
 use Rattle.bt_wire.specs.declared.handshake.Handshake.{Handshake}
 use Rattle.bt_wire.specs.Streams.{Outcome}
 use Rattle.bt_capture.specs.Reportings.{title_by, IsTitleOf}

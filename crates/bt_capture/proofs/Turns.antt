@@ -41,12 +41,12 @@ watched_by events events' items items' w e f i = record {
 nothing_heard : (a b : Past) (t : Talk) → IsTalk a b t → is_in_opening t ≡ true → HasHeard [] a b t
 nothing_heard a b t i o =
     let of_b = sym i.stages ∙ o in
-    let none_a = opening_items t.a.stage a (i.said.items A) o i.said.a_items in
-    let none_b = opening_items t.b.stage b (i.said.items B) of_b i.said.b_items in
+    let none_a = opening_items t.sides.a.stage a (i.said.items A) o i.said.a_items in
+    let none_b = opening_items t.sides.b.stage b (i.said.items B) of_b i.said.b_items in
     let none = no_events i.said.events ((i.said.watched.notes A).said ∙ ap messages_of none_a) ((i.said.watched.notes B).said ∙ ap messages_of none_b) in
     record {
-      items = both_sides (λ s. AreItemsOf s a b t []) (no_items t.a.stage a o) (no_items t.b.stage b of_b);
-      watched = watched_by i.said.events [] i.said.items (λ s. []) t.watch none (both_sides (λ s. i.said.items s ≡ []) none_a none_b) i.said.watched;
+      items = both_sides (λ s. AreItemsOf s a b t.sides []) (no_items t.sides.a.stage a o) (no_items t.sides.b.stage b of_b);
+      watched = watched_by i.said.events [] i.said.items (λ s. []) t.sides.watch none (both_sides (λ s. i.said.items s ≡ []) none_a none_b) i.said.watched;
       quiet = λ _. refl;
     }
 
@@ -56,11 +56,11 @@ first_heard t i o = nothing_heard no_past no_past t i o
 
 -- at the end of the opening
 pub opened_heard : (marks : List Mark) (a b : Past) (t : Talk) (r r' : Rows) → is_in_opening t ≡ false
-    → (o : HasOpened marks a b t.a.stage t.b.stage t.watch r r') → HasHeard o.turns a b t
+    → (o : HasOpened marks a b t.sides.a.stage t.sides.b.stage t.sides.watch r r') → HasHeard o.turns a b t
 opened_heard marks a b t r r' q o = record {
-  items = both_sides (λ s. AreItemsOf s a b t (items_by s o.turns)) (subst (AreItemsIn t.a.stage a) (o.items_are A) o.heard.a_items)
-      (subst (AreItemsIn t.b.stage b) (o.items_are B) o.heard.b_items);
-  watched = watched_by o.heard.events (told_by o.turns) o.heard.items (λ s. items_by s o.turns) t.watch o.told o.items_are o.heard.watched;
+  items = both_sides (λ s. AreItemsOf s a b t.sides (items_by s o.turns)) (subst (AreItemsIn t.sides.a.stage a) (o.items_are A) o.heard.a_items)
+      (subst (AreItemsIn t.sides.b.stage b) (o.items_are B) o.heard.b_items);
+  watched = watched_by o.heard.events (told_by o.turns) o.heard.items (λ s. items_by s o.turns) t.sides.watch o.told o.items_are o.heard.watched;
   quiet = λ e. absurd (let f : false ≡ true = sym q ∙ e in cc);
 }
 
@@ -162,7 +162,7 @@ still_heard a b t t' turns over directions watch h = record {
 
 -- The opening was ended, if it wasn't over.
 pub ends_on : (a b : Past) (t t' : Talk) (r r' : Rows) (turns : List Turn) → is_in_opening t' ≡ false
-    → (is_in_opening t ≡ true → HasOpened (marks_of t) a b t'.a.stage t'.b.stage t'.watch r r') → (is_in_opening t ≡ false → r' ≡ r)
+    → (is_in_opening t ≡ true → HasOpened (marks_of t) a b t'.sides.a.stage t'.sides.b.stage t'.sides.watch r r') → (is_in_opening t ≡ false → r' ≡ r)
     → (is_in_opening t ≡ false → watch_of t' ≡ watch_of t) → (is_in_opening t ≡ false → (side : Side) → direction_of side t' ≡ direction_of side t)
     → HasHeard turns a b t → (now : List Turn) × HasHeard now a b t' × (is_in_opening t ≡ true → AreOpened (marks_of t) a b t' now)
     × (is_in_opening t ≡ false → now ≡ turns)

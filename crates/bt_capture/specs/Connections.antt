@@ -9,11 +9,11 @@ use Rattle.bt_remarks.specs.declared.events.Side.{Side}
 use Rattle.bt_tcp.specs.Heard.{opening_of}
 use Rattle.bt_talk.specs.Pasts.{Past, no_past}
 use Rattle.bt_talk.specs.Ends.{ends_by}
-use Rattle.bt_talk.specs.Closing.{is_quiet, opens_by, still_open}
+use Rattle.bt_talk.specs.Closing.{is_quiet, opens_by}
 use Rattle.bt_talk.specs.Shown.{Turn}
-use Rattle.bt_talk.specs.Talks.{HasHeard, IsSender, IsTalk, Takes, ends_of, flow_of, of_side, terms_of, closing_of, is_in_opening, is_lost, segments_of}
-use Rattle.bt_talk.specs.Talks.{AreOpened, began_with, grown_with, has_closed, marks_of, turn_by, watch_of}
-use Rattle.bt_talk.specs.Watching.{IsWatched}
+use Rattle.bt_talk.specs.Strays.{IsStrayReset, heeded}
+use Rattle.bt_talk.specs.Talks.{HasHeard, IsBegun, IsSender, IsTalk, Takes, ends_of, flow_of, of_side, terms_of, closing_of, is_in_opening, is_lost}
+use Rattle.bt_talk.specs.Talks.{AreOpened, marks_of, turn_by}
 use Rattle.bt_talk.specs.declared.closing.When.{When}
 use Rattle.bt_talk.specs.declared.talk.Talk.{Talk}
 use Rattle.bt_capture.specs.Arrivals.{Arrival, has_data}
@@ -21,13 +21,15 @@ use Rattle.bt_capture.specs.declared.connection.Connection.{Connection}
 
 -- ---- whose segment
 
--- The segment is a SYN that begins another connection between the same ends, or it isn't.
+-- The segment is a SYN that begins another connection between the same ends, or it isn't. A stray RST never is.
 pub record Opens (x : Arrival) (a b : Past) (t : Talk) (opens : Bool) : Type 0 where
   pub s : Segment
   pub is : segment s ≡ x.segment
   pub side : Side
   pub is_side : IsSender s t side
-  pub opens_is : opens ≡ opens_by s.flags (high_in (of_side side a b).heard (flow_of side t).stream) (opening_of (of_side side a b).heard) s.sequence
+  pub stray : Bool
+  pub is_stray : IsStrayReset s (of_side side a b) stray
+  pub opens_is : opens ≡ opens_by (heeded stray s.flags) (high_in (of_side side a b).heard (flow_of side t).stream) (opening_of (of_side side a b).heard) s.sequence
 
 -- The connection had ended, and no segment of it came in the four seconds before this one.
 abbrev pub is_late : Arrival → Talk → Bool
@@ -63,19 +65,11 @@ HasTaken first (x ∷ xs) a b t turns a' b' t' turns' =
 pub record IsMadeOf (terms : Terms) (first : Segment) (taken : List Arrival) (a b : Past) (t : Talk) : Type 0 where
   pub begin : Talk
   pub turns : List Turn
-  pub nothing : IsTalk no_past no_past begin
-  pub opening : is_in_opening begin ≡ true
-  pub not_closed : closing_of begin ≡ still_open
-  pub no_segment : segments_of begin ≡ 0
+  pub begun : IsBegun terms first begin
   pub has_taken : HasTaken true taken no_past no_past begin [] a b t turns
   pub is : IsTalk a b t
   pub ends : ends_of t ≡ ends_by first
   pub terms_are : terms_of t ≡ terms
-  pub unmarked : marks_of begin ≡ []
-  pub unshut : (side : Side) → has_closed side begin ≡ false
-  pub watched : IsWatched [] (λ _. []) (watch_of begin)
-  pub unbegun : began_with begin ≡ None
-  pub ungrown : (side : Side) → grown_with side begin ≡ None
   pub heard : HasHeard turns a b t
 
 -- The segment is the first of these.

@@ -1,7 +1,7 @@
 -- The connections of a capture: those that are over, and those that aren't.
 use Rattle.bt_talk.specs.declared.terms.Terms.{Terms}
 use Rattle.std.specs.Prelude.{◌≡◌, ◌⊎◌, ◌==◌, ℕ, ◌+◌, ◌-◌, ◌^◌, ◌<◌, ◌≤◌, min, map, nat_lt, Bool, true, false, if◌then◌else◌, List, [], ◌∷◌, ◌++◌, length}
-use Rattle.std.specs.Prelude.{Option, Some, None, is_some, not, ◌&&◌, unwrap_or, Result, Ok, Err}
+use Rattle.std.specs.Prelude.{Option, Some, None, is_some, not, ◌&&◌, Result, Ok, Err}
 use Rattle.std.specs.List.{All, Contains, count_by, filter, flat_map, list_any, slice_get}
 use Rattle.std.specs.List.Sorted.{IsNonDecreasing}
 use Rattle.std.specs.Map.{lookup}
@@ -18,9 +18,9 @@ use Rattle.bt_talk.specs.Talks.{began_with, grown_with}
 use Rattle.bt_talk.specs.declared.closing.When.{When}
 use Rattle.bt_talk.specs.declared.rows.Heading.{Heading}
 use Rattle.bt_talk.specs.declared.talk.Talk.{Talk}
-use Rattle.bt_told.specs.declared.report.Left.{Left}
-use Rattle.bt_told.specs.declared.report.Left.TheVariants.{Open, Unread, Replaced}
-use Rattle.bt_told.specs.declared.report.Report.{Report}
+use Rattle.bt_report.specs.declared.report.Left.{Left}
+use Rattle.bt_report.specs.declared.report.Left.TheVariants.{Open, Unread, Replaced}
+use Rattle.bt_report.specs.declared.report.Report.{Report}
 use Rattle.bt_capture.specs.Arrivals.{Arrival, Clock, IsEarlier, is_between, has_data}
 use Rattle.bt_capture.specs.Connections.{Begins, HasRunOut, IsFirst, IsMadeOf, IsOpen, is_opener}
 use Rattle.bt_capture.specs.Forms.{absent_from, wanted_by}
@@ -34,7 +34,7 @@ use Rattle.bt_capture.specs.declared.connection.Connection.{Connection}
 use Rattle.bt_capture.specs.declared.connections.Losses.{Losses}
 use Rattle.bt_capture.specs.declared.connections.Over.{Over}
 use Rattle.bt_capture.specs.declared.connections.Over.TheVariants as over
-use Rattle.bt_capture.specs.declared.connections.Run.{Run}
+use Rattle.bt_capture.specs.declared.connections.Connections.{Connections}
 use Rattle.bt_capture.specs.declared.ending.Form.{Form}
 use Rattle.bt_capture.specs.declared.pair.Pair.{Pair}
 
@@ -532,42 +532,58 @@ pub record IsStreamSoFar (form : Form) (told : List ℕ) (terms : Terms) (from :
 
 -- ---- while a capture is read
 
+-- what was seen of the target before, and the time of the first packet
+pub record Since : Type 0 where
+  pub target : TargetSeen
+  pub from : ℕ
+
+abbrev pub since : TargetSeen → ℕ → Since
+since target from = record { target = target; from = from }
+
+-- what is known of the connections besides their bytes, and how they are told
+pub record Asked : Type 0 where
+  pub terms : Terms
+  pub form : Form
+
+abbrev pub asked_of : Connections → Asked
+asked_of run = record { terms = run.terms; form = run.teller.form }
+
 -- what is written, and what is kept
-abbrev pub told_by : List ℕ → Run → List ℕ
+abbrev pub told_by : List ℕ → Connections → List ℕ
 told_by written run = written ++ run.teller.text.items
 
 -- The connections that are over are told.
-pub record IsKnown (start now : TargetSeen) (fs : List Finished) (written : List ℕ) (run : Run) : Type 0 where
-  pub tells : Tells start now run.teller (reports_of fs) written
-  pub finished : All (IsFinished run.terms (unwrap_or run.start 0)) fs
+pub record IsKnown (start : Since) (now : TargetSeen) (fs : List Finished) (written : List ℕ) (run : Connections) : Type 0 where
+  pub tells : Tells start.target now run.teller (reports_of fs) written
+  pub finished : All (IsFinished run.terms start.from) fs
   pub lost : run.lost ≡ losses_of fs
 
 -- the stream that is told, or none
-abbrev pub Streams : List ℕ → List Finished → List (Pair × Held) → Run → Type 0
-Streams written fs es run = IsStreaming run.teller.form (told_by written run) run.terms (unwrap_or run.start 0) run.begun fs es
+abbrev pub Streams : ℕ → List ℕ → List Finished → List (Pair × Held) → Connections → Type 0
+Streams from written fs es run = IsStreaming run.teller.form (told_by written run) run.terms from run.begun fs es
 
-abbrev pub Shares : List ℕ → List Arrival → List Finished → Run → Pair → Option Held → Type 0
+abbrev pub Shares : List ℕ → List Arrival → List Finished → Connections → Pair → Option Held → Type 0
 Shares written arrivals fs run k left = IsShare run.teller.form (told_by written run) run.terms arrivals fs k left
 
 -- the rows that are told
-abbrev pub Rows : (ℕ → ℕ) → List Part → List ℕ → List Arrival → List Finished → List (Pair × Held) → Run → Type 0
-Rows packet parts written arrivals fs es run =
-    IsRowing run.teller.form packet parts (told_by written run) run.terms (unwrap_or run.start 0) run.begun arrivals fs es
+abbrev pub Rows : ℕ → (ℕ → ℕ) → List Part → List ℕ → List Arrival → List Finished → List (Pair × Held) → Connections → Type 0
+Rows from packet parts written arrivals fs es run =
+    IsRowing run.teller.form packet parts (told_by written run) run.terms from run.begun arrivals fs es
 
 -- These packets came, and these segments were taken. These connections, no two of the same ends, aren't over, and the others are told. All of them
 -- have begun.
-pub record FollowsIn (ph : Phase) (start now : TargetSeen) (clock : Clock) (arrivals : List Arrival) (es : List (Pair × Held)) (run : Run)
+pub record FollowsIn (ph : Phase) (start : Since) (now : TargetSeen) (clock : Clock) (arrivals : List Arrival) (es : List (Pair × Held)) (run : Connections)
     : Type 0 where
   pub fs : List Finished
   pub written : List ℕ
   pub known : IsKnown start now fs written run
   pub begun : run.begun ≡ min (length fs + length es) (2 ^ 64 - 1)
   pub apart : IsApart es
-  pub streams : Streams written fs es run
+  pub streams : Streams start.from written fs es run
   pub shared : (k : Pair) → Shares written arrivals fs run k (lookup (same_pair k) es)
   pub parts : List Part
   pub packet : ℕ → ℕ
-  pub rows : Rows packet parts written arrivals fs es run
+  pub rows : Rows start.from packet parts written arrivals fs es run
   pub parting : AreParts ph arrivals fs
   pub order : AreBegun arrivals fs es run.begun
   pub last : ComeLast ph fs es
@@ -575,34 +591,34 @@ pub record FollowsIn (ph : Phase) (start now : TargetSeen) (clock : Clock) (arri
   pub times : AreToldWith packet clock.number parts fs
 
 -- As FollowsIn, and the capture is still read.
-abbrev pub Follows : TargetSeen → TargetSeen → Clock → List Arrival → List (Pair × Held) → Run → Type 0
+abbrev pub Follows : Since → TargetSeen → Clock → List Arrival → List (Pair × Held) → Connections → Type 0
 Follows start now clock arrivals es run = FollowsIn During start now clock arrivals es run
 
 -- These packets and segments came. Connections are over and told, the others are given up.
-pub record Stops (start now : TargetSeen) (clock : Clock) (arrivals : List Arrival) (run : Run) : Type 0 where
+pub record Stops (start : Since) (now : TargetSeen) (clock : Clock) (arrivals : List Arrival) (run : Connections) : Type 0 where
   pub fs : List Finished
   pub written : List ℕ
   pub known : IsKnown start now fs written run
-  pub so_far : IsStreamSoFar run.teller.form (told_by written run) run.terms (unwrap_or run.start 0) arrivals fs
+  pub so_far : IsStreamSoFar run.teller.form (told_by written run) run.terms start.from arrivals fs
   pub shared : (k : Pair) → (rest : List Arrival) × IsShared k arrivals fs rest
   pub timely : All (IsTimely clock) fs
 
 -- after a step
-abbrev pub GoesIn : {T E : Type 0} → Phase → TargetSeen → TargetSeen → Clock → List Arrival → List (Pair × Held) → Run → Result T E → Type 0
+abbrev pub GoesIn : {T E : Type 0} → Phase → Since → TargetSeen → Clock → List Arrival → List (Pair × Held) → Connections → Result T E → Type 0
 GoesIn ph start now clock arrivals es run (Ok x) = FollowsIn ph start now clock arrivals es run
 GoesIn ph start now clock arrivals es run (Err e) = Stops start now clock arrivals run
 
-abbrev pub Goes : {T E : Type 0} → TargetSeen → TargetSeen → Clock → List Arrival → List (Pair × Held) → Run → Result T E → Type 0
+abbrev pub Goes : {T E : Type 0} → Since → TargetSeen → Clock → List Arrival → List (Pair × Held) → Connections → Result T E → Type 0
 Goes start now clock arrivals es run r = GoesIn During start now clock arrivals es run r
 
 -- The next segment x is of this connection, which is not in the table.
-pub record Holds (start now : TargetSeen) (clock : Clock) (arrivals : List Arrival) (x : Arrival) (p : Pair) (c : Held) (es : List (Pair × Held))
-    (run : Run) : Type 0 where
+pub record Holds (start : Since) (now : TargetSeen) (clock : Clock) (arrivals : List Arrival) (x : Arrival) (p : Pair) (c : Held) (es : List (Pair × Held))
+    (run : Connections) : Type 0 where
   pub fs : List Finished
   pub written : List ℕ
   pub known : IsKnown start now fs written run
   pub begun : run.begun ≡ min (length fs + (length es + 1)) (2 ^ 64 - 1)
-  pub streams : Streams written fs ((p, c) ∷ es) run
+  pub streams : Streams start.from written fs ((p, c) ∷ es) run
   pub taken : List Arrival
   pub is : IsOpen run.terms taken (x ∷ []) c.value
   pub sends : IsSending run.teller.form (told_by written run) run.terms taken (x ∷ []) c.value
@@ -612,7 +628,7 @@ pub record Holds (start now : TargetSeen) (clock : Clock) (arrivals : List Arriv
   pub others : (k : Pair) → same_pair k p ≡ false → Shares written arrivals fs run k (lookup (same_pair k) es)
   pub parts : List Part
   pub packet : ℕ → ℕ
-  pub rows : IsRowingTo run.teller.form packet parts (told_by written run) run.terms (unwrap_or run.start 0) run.begun arrivals fs x p taken c.value es
+  pub rows : IsRowingTo run.teller.form packet parts (told_by written run) run.terms start.from run.begun arrivals fs x p taken c.value es
   pub parting : AreParts (Coming p x) arrivals fs
   pub order : AreBegunTo arrivals fs x p c.value.number taken es run.begun
   pub last : AreNotFinal fs
@@ -620,6 +636,6 @@ pub record Holds (start now : TargetSeen) (clock : Clock) (arrivals : List Arriv
   pub times : AreToldWith packet clock.number parts fs
 
 -- The connection of the next segment x was found or begun; or memory ran out.
-abbrev pub Finds : {E : Type 0} → TargetSeen → TargetSeen → Clock → List Arrival → Arrival → Pair → List (Pair × Held) → Run → Result Held E → Type 0
+abbrev pub Finds : {E : Type 0} → Since → TargetSeen → Clock → List Arrival → Arrival → Pair → List (Pair × Held) → Connections → Result Held E → Type 0
 Finds start now clock arrivals x p es run (Ok c) = Holds start now clock arrivals x p c es run
 Finds start now clock arrivals x p es run (Err e) = Stops start now clock arrivals run

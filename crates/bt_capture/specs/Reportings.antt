@@ -14,30 +14,30 @@ use Rattle.bt_talk.specs.Receivers.{AreVerdicts, IsReceiverNow}
 use Rattle.bt_talk.specs.Closing.{high_at}
 use Rattle.bt_talk.specs.Cuts.{IsLastBefore}
 use Rattle.bt_talk.specs.Shown.{Turn, items_by, told_by}
-use Rattle.bt_talk.specs.Talks.{of_side, flow_of, cut_of, is_in_opening, terms_of, ends_of, closing_of}
+use Rattle.bt_talk.specs.Talks.{of_side, flow_of, cut_of, is_in_opening, terms_of, ends_of, closing_of, strays_of}
 use Rattle.bt_talk.specs.Unanswered.{AreUnanswered}
 use Rattle.bt_talk.specs.Watching.{AreRemarked}
 use Rattle.bt_talk.specs.declared.talk.Talk.{Talk}
 use Rattle.bt_tcp.specs.declared.covered.Gap.{Gap}
 use Rattle.bt_tcp.specs.declared.covered.Gaps.{Gaps}
 use Rattle.bt_talk.specs.declared.closing.Closed.{Closed as FirstClose}
-use Rattle.bt_told.specs.declared.report.Before.{Before}
-use Rattle.bt_told.specs.declared.report.Closed.{Closed}
-use Rattle.bt_told.specs.declared.report.Last.{Last}
-use Rattle.bt_told.specs.declared.report.Left.{Left}
-use Rattle.bt_told.specs.declared.report.Left.TheVariants.{Open}
-use Rattle.bt_told.specs.declared.report.Remarked.{Remarked}
-use Rattle.bt_told.specs.declared.report.Means.{Means}
-use Rattle.bt_told.specs.declared.report.Means.TheVariants.{Fin, Rst}
-use Rattle.bt_told.specs.declared.report.Body.{Body}
-use Rattle.bt_told.specs.declared.report.Body.TheVariants as body
-use Rattle.bt_told.specs.declared.report.Direction.{Direction}
-use Rattle.bt_told.specs.declared.report.Judged.{Judged}
-use Rattle.bt_told.specs.declared.report.Report.{Report}
-use Rattle.bt_told.specs.declared.report.Sender.{Sender}
-use Rattle.bt_told.specs.declared.report.Sender.TheVariants.{Unknown, Known}
-use Rattle.bt_told.specs.declared.report.Title.{Title}
-use Rattle.bt_told.specs.Names.{title_text, shown}
+use Rattle.bt_report.specs.declared.report.Before.{Before}
+use Rattle.bt_report.specs.declared.report.Closed.{Closed}
+use Rattle.bt_rows.specs.declared.noted.Last.{Last}
+use Rattle.bt_report.specs.declared.report.Left.{Left}
+use Rattle.bt_report.specs.declared.report.Left.TheVariants.{Open}
+use Rattle.bt_rows.specs.declared.noted.Remarked.{Remarked}
+use Rattle.bt_rows.specs.declared.parts.Means.{Means}
+use Rattle.bt_rows.specs.declared.parts.Means.TheVariants.{Fin, Rst}
+use Rattle.bt_report.specs.declared.report.Body.{Body}
+use Rattle.bt_report.specs.declared.report.Body.TheVariants as body
+use Rattle.bt_report.specs.declared.report.Direction.{Direction}
+use Rattle.bt_report.specs.declared.report.Judged.{Judged}
+use Rattle.bt_report.specs.declared.report.Report.{Report}
+use Rattle.bt_report.specs.declared.report.Sender.{Sender}
+use Rattle.bt_report.specs.declared.report.Sender.TheVariants.{Unknown, Known}
+use Rattle.bt_report.specs.declared.report.Title.{Title}
+use Rattle.bt_report.specs.Names.{title_text, shown}
 use Rattle.bt_wire.specs.declared.handshake.Handshake.{Handshake}
 use Rattle.bt_wire.specs.Streams.{Outcome}
 
@@ -102,6 +102,7 @@ pub record IsDirectionOf (side : Side) (a b : Past) (t : Talk) (d : Direction) :
   pub exchange : d.exchange ≡ unwrap_or start 0
   pub sender : IsSenderOf side a b t d.sender
   pub conflicts : d.conflicts ≡ conflicts_in (flow_of side t).stream
+  pub strays : d.strays ≡ strays_of side t
   pub gaps : Gaps
   pub gaps_are : AreGapsOf (of_side side a b).heard (of_side side a b).segs (of_side side a b).out (flow_of side t) gaps
   pub shifted : d.gaps ≡ shifted d.exchange gaps

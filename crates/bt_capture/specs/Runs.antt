@@ -7,7 +7,6 @@ use Rattle.std.specs.Io.KnownBytes.{Appends, Consumes}
 use Rattle.bt_io.specs.Seen.{SourceSeen, TargetSeen, AppendsPrefix, WriteFailed}
 use Rattle.bt_pcap.specs.Formats.{Captured}
 use Rattle.bt_remarks.specs.declared.events.Side.{Side}
-use Rattle.bt_capture.specs.declared.connections.Run.{Run}
 use Rattle.bt_capture.specs.declared.ending.CaptureEnd.{CaptureEnd}
 use Rattle.bt_capture.specs.declared.ending.CaptureFault.{CaptureFault}
 use Rattle.bt_capture.specs.declared.ending.CaptureJob.{CaptureJob}
@@ -17,9 +16,11 @@ use Rattle.bt_capture.specs.declared.ending.CaptureFault.TheVariants.{Write, Mem
 use Rattle.bt_capture.specs.declared.ending.Stop.{Stop}
 use Rattle.bt_capture.specs.declared.ending.Stop.TheVariants.{File, Read, Fault}
 use Rattle.bt_capture.specs.declared.pair.Pair.{Pair}
+use Rattle.bt_capture.specs.declared.run.Run.{Run}
 use Rattle.bt_capture.specs.Arrivals.{Arrival, arrivals, clock_of, count_skipped, first_time}
 use Rattle.bt_capture.specs.Ends.{HasEndedSo}
 use Rattle.bt_capture.specs.Following.{AreInOrder, AreLast, AreParted, AreRowsOf, Finished, IsFinished, IsSentBy, IsShared, IsStreamOf, IsTimely}
+use Rattle.bt_capture.specs.Following.{Asked, Since, asked_of, since}
 use Rattle.bt_capture.specs.Following.{AreParts, AreToldWith, Phase, AtEnd, Coming, During, IsStreamSoFar, AreNumbered, FollowsIn, between, reports_of}
 use Rattle.bt_capture.specs.Following.{IsFirstAt, IsGoing, count_early, count_lost, count_over, count_unread}
 use Rattle.bt_capture.specs.Readings.{Reading, IsReading}
@@ -28,8 +29,8 @@ use Rattle.bt_utp.specs.Flows.{flows}
 use Rattle.bt_utp.specs.States.{AreCounted}
 use Rattle.bt_capture.specs.FlowTexts.{datagrams, flow_texts}
 use Rattle.bt_capture.specs.Forms.{absent_from, is_stream}
-use Rattle.bt_packet.specs.declared.utp.Utp.{Utp}
-use Rattle.bt_capture.specs.Tellings.{ArePartsOf, AreTexts, Part, count_torrents, is_one_partial, is_one_refused, rows_of}
+use Rattle.bt_packet.specs.Utp.{UtpPacket}
+use Rattle.bt_capture.specs.Tellings.{ArePartsOf, AreTexts, Part, chosen_by, count_torrents, is_one_partial, is_one_refused, rows_of}
 
 -- ---- what a run begins with
 
@@ -43,10 +44,16 @@ pub record Origin : Type 0 where
 abbrev pub origin : CaptureJob → SourceSeen → TargetSeen → Origin
 origin job source target = record {
   terms = job.terms;
-  form = record { show = job.show; json = job.json; stream = job.stream };
+  form = record { show = job.show; json = job.json; stream = job.stream; choice = job.choice };
   source = source;
   target = target;
 }
+
+abbrev pub asked_in : Origin → Asked
+asked_in o = record { terms = o.terms; form = o.form }
+
+abbrev pub since_first : TargetSeen → List Captured → Since
+since_first target packets = since target (unwrap_or (first_time packets) 0)
 
 -- These packets were read from the source, all of them since the begin. Now it has these bytes left.
 pub record HasRead (o : Origin) (left : Option (List ℕ)) (packets : List Captured) (r : Reading) : Type 0 where
@@ -60,10 +67,9 @@ pub record HasRead (o : Origin) (left : Option (List ℕ)) (packets : List Captu
 pub record IsTellingIn (ph : Phase) (o : Origin) (left : Option (List ℕ)) (now : TargetSeen) (es : List (Pair × Held)) (run : Run) (r : Reading) : Type 0 where
   pub packets : List Captured
   pub read : HasRead o left packets r
-  pub terms : run.terms ≡ o.terms
-  pub form : run.teller.form ≡ o.form
+  pub asked : asked_of run.connections ≡ asked_in o
   pub time : run.start ≡ first_time packets
-  pub follows : FollowsIn ph o.target now (clock_of packets) (arrivals packets) es run
+  pub follows : FollowsIn ph (since_first o.target packets) now (clock_of packets) (arrivals packets) es run.connections
   pub utp : AreCounted (datagrams packets) run.utp
   pub skipped : run.skipped ≡ count_skipped packets
 
@@ -110,7 +116,7 @@ pub record AreRowsTold (o : Origin) (packets : List Captured) (fs : List Finishe
   pub times : AreToldWith packet (clock_of packets).number parts fs
 
 -- the lines on packets of uTP; none if only a stream is told
-abbrev pub utp_text : Form → List Utp → List ℕ
+abbrev pub utp_text : Form → List UtpPacket → List ℕ
 utp_text form ds = if is_stream form then [] else flow_texts form.json (flows ds)
 
 -- the lines on the packets of uTP that packets carry
@@ -118,8 +124,8 @@ abbrev pub utp_lines : Form → List Captured → List ℕ
 utp_lines form packets = utp_text form (datagrams packets)
 
 -- These packets were read, and reading ended as the end says, by what is left of the file and by what was seen of the source. What was written are
--- the texts of the reports on all connections of what was read, in order, with rows between them, and after them the lines on uTP; or the stream of
--- one side of a connection. The reports add up to this.
+-- the texts of the reports that are chosen of those on all connections of what was read, in order, with rows between them, and after them the lines
+-- on uTP; or the stream of one side of a connection. The reports add up to this.
 pub record IsEndOf (o : Origin) (after : SourceSeen) (now : TargetSeen) (end : CaptureEnd) : Type 0 where
   pub packets : List Captured
   pub r : Reading
@@ -136,8 +142,8 @@ pub record IsEndOf (o : Origin) (after : SourceSeen) (now : TargetSeen) (end : C
   pub written : Appends o.target.held now.held (text ++ utp_lines o.form packets)
   pub calm : now.failed ≡ o.target.failed
   pub torrents : end.torrents ≡ count_torrents (reports_of fs)
-  pub refused : end.is_refused ≡ is_one_refused (reports_of fs)
-  pub partial : end.is_partial ≡ is_one_partial (reports_of fs)
+  pub refused : end.is_refused ≡ is_one_refused (chosen_by o.form (reports_of fs))
+  pub partial : end.is_partial ≡ is_one_partial (chosen_by o.form (reports_of fs))
   pub lost : end.lost ≡ count_lost fs
   pub unread : end.unread ≡ count_unread fs
   pub early : end.early ≡ count_early fs

@@ -11,7 +11,7 @@ use Rattle.bt_capture.specs.Arrivals.{Arrival}
 use Rattle.bt_capture.specs.Connections.{IsFirst, IsMade, IsMadeOf}
 use Rattle.bt_capture.specs.declared.connection.Connection.{Connection}
 use Rattle.bt_capture.specs.Forms.{wanted_by}
-use Rattle.bt_capture.specs.declared.connections.Run.{Run}
+use Rattle.bt_capture.specs.declared.connections.Connections.{Connections}
 use Rattle.bt_capture.specs.declared.ending.Form.{Form}
 
 -- Its opening isn't over, and wasn't ended.
@@ -48,7 +48,7 @@ IsWhole side sent terms taken c = (m : IsMade terms taken [] c.talk) × IsSent f
 
 -- These bytes were appended to what is told, and with them all of the side's stream was. Or memory ran out, and the connection is counted as lost:
 -- nothing was appended, and what is told was handed out after a first part of its segments.
-pub record IsSentOff (side : Side) (sent : List ℕ) (terms : Terms) (taken : List Arrival) (c : Connection) (old new : Run) : Type 0 where
+pub record IsSentOff (side : Side) (sent : List ℕ) (terms : Terms) (taken : List Arrival) (c : Connection) (old new : Connections) : Type 0 where
   pub more : List ℕ
   pub text : new.teller.text.items ≡ old.teller.text.items ++ more
   pub whole : ((new.lost.memory ≡ min (old.lost.memory + 1) (2 ^ 64 - 1)) × (more ≡ []) × WasSent false side sent terms taken [])

@@ -1,23 +1,22 @@
 -- What a packet carries.
 use Rattle.std.specs.Prelude.{ℕ, List, Option, Some, None}
 use Rattle.bt_packet.specs.Tcp.{TcpSegment, segment, segment_of}
-use Rattle.bt_packet.specs.Utp.{utp_of}
-use Rattle.bt_packet.specs.declared.utp.Utp.{Utp}
+use Rattle.bt_packet.specs.Utp.{UtpPacket, utp_of, utp_packet}
 use Rattle.bt_capture.specs.declared.sight.Sight.{Sight}
 use Rattle.bt_capture.specs.declared.sight.Sight.TheVariants as sight
 
 -- a segment of TCP, a packet of uTP, or neither
 pub data Seen : Type 0 where
   SawSegment : TcpSegment → Seen
-  SawUtp : Utp → Seen
+  SawUtp : UtpPacket → Seen
   SawOther : Seen
 
 abbrev pub seen : Sight → Seen
 seen (sight.Segment s) = SawSegment (segment s)
-seen (sight.Utp u) = SawUtp u
+seen (sight.Utp u) = SawUtp (utp_packet u)
 seen sight.Other = SawOther
 
-abbrev pub utp_or_other : Option Utp → Seen
+abbrev pub utp_or_other : Option UtpPacket → Seen
 utp_or_other (Some u) = SawUtp u
 utp_or_other None = SawOther
 

@@ -1,11 +1,15 @@
 -- The reports of connections, in order, and what they add up to.
-use Rattle.std.specs.Prelude.{◌≡◌, ◌==◌, ℕ, ◌^◌, ◌-◌, min, Bool, true, false, List, [], ◌∷◌, ◌++◌, length, if◌then◌else◌}
+use Rattle.std.specs.Prelude.{◌≡◌, ◌==◌, ◌&&◌, ◌||◌, not, ℕ, ◌^◌, ◌-◌, min, Bool, true, false, Option, Some, None, List, [], ◌∷◌, ◌++◌, length, if◌then◌else◌}
 use Rattle.std.specs.List.{flat_map, filter, list_any}
 use Rattle.std.specs.Io.KnownBytes.{Appends}
+use Rattle.std.specs.Str.{bytes_eq}
+use Rattle.bt_packet.specs.declared.address.Address.{Address}
+use Rattle.bt_packet.specs.declared.address.Host.{Host}
+use Rattle.bt_packet.specs.declared.address.Host.TheVariants.{V4, V6}
 use Rattle.bt_io.specs.Seen.{TargetSeen, AppendsPrefix, WriteFailed}
-use Rattle.bt_told.specs.Findings.{finding_of, is_partial}
-use Rattle.bt_told.specs.Objects.{report_object}
-use Rattle.bt_told.specs.Reports.{report_text}
+use Rattle.bt_report.specs.Findings.{finding_of, is_partial}
+use Rattle.bt_report.specs.Objects.{report_object}
+use Rattle.bt_report.specs.Reports.{report_text}
 use Rattle.bt_talk.specs.Rows.{Shown, shown_texts}
 use Rattle.bt_talk.specs.Inside.{AreEndRows}
 use Rattle.bt_talk.specs.Pasts.{Past}
@@ -13,10 +17,12 @@ use Rattle.bt_talk.specs.Rooms.{heading_by}
 use Rattle.bt_talk.specs.Shown.{Turn}
 use Rattle.bt_talk.specs.Talks.{HasHeard, IsTalk}
 use Rattle.bt_talk.specs.declared.talk.Talk.{Talk}
-use Rattle.bt_told.specs.declared.finding.Finding.{Finding}
-use Rattle.bt_told.specs.declared.finding.Finding.TheVariants as finding
-use Rattle.bt_told.specs.declared.report.Left.{Left}
-use Rattle.bt_told.specs.declared.report.Report.{Report}
+use Rattle.bt_report.specs.declared.finding.Finding.{Finding}
+use Rattle.bt_report.specs.declared.finding.Finding.TheVariants as finding
+use Rattle.bt_report.specs.declared.report.Left.{Left}
+use Rattle.bt_report.specs.declared.report.Report.{Report}
+use Rattle.bt_capture.specs.declared.choice.Choice.{Choice}
+use Rattle.bt_capture.specs.declared.choice.Peer.{Peer}
 use Rattle.bt_capture.specs.declared.ending.Form.{Form}
 use Rattle.bt_capture.specs.declared.telling.Teller.{Teller}
 use Rattle.bt_capture.specs.Forms.{showing_by, is_stream}
@@ -41,6 +47,34 @@ is_refused_with finding.Refused = true
 -- A direction is refused under the lenient rules.
 abbrev pub is_refused : Report → Bool
 is_refused r = is_refused_with (finding_of r)
+
+-- ---- which reports are told
+
+abbrev pub is_same_host : Host → Host → Bool
+is_same_host (V4 a) (V4 b) = bytes_eq a b
+is_same_host (V6 a) (V6 b) = bytes_eq a b
+is_same_host (V4 a) (V6 b) = false
+is_same_host (V6 a) (V4 b) = false
+
+abbrev pub is_port : Option ℕ → ℕ → Bool
+is_port None port = true
+is_port (Some wanted) port = wanted == port
+
+-- The end has the host that is wanted and, if a port is wanted, this port.
+abbrev pub is_end : Peer → Address → Bool
+is_end peer end = is_same_host peer.host end.host && is_port peer.port end.port
+
+-- A is the wanted end, or B is; or no end is wanted.
+abbrev pub has_end : Option Peer → Report → Bool
+has_end None r = true
+has_end (Some peer) r = is_end peer r.a || is_end peer r.b
+
+-- A report is told if it meets each condition.
+abbrev pub is_chosen : Choice → Report → Bool
+is_chosen choice r = (not choice.refused || is_refused r) && has_end choice.peer r
+
+abbrev pub chosen_by : Form → List Report → List Report
+chosen_by form reports = filter (is_chosen form.choice) reports
 
 -- ---- reports in order
 
@@ -78,9 +112,9 @@ is_row_of n s = s.row.connection == n
 abbrev pub rows_of : ℕ → List Part → List Shown
 rows_of n parts = filter (is_row_of n) (flat_map rows_of_part parts)
 
--- A report has no text if only a stream is told.
+-- A report has no text if only a stream is told, or if it isn't chosen.
 abbrev pub report_by : Form → Report → List ℕ
-report_by form r = if is_stream form then [] else text_by form.json r
+report_by form r = if is_stream form then [] else if is_chosen form.choice r then text_by form.json r else []
 
 abbrev pub part_text : Form → Part → List ℕ
 part_text form (OfReport r) = report_by form r
@@ -91,7 +125,7 @@ part_text form (OfBytes bytes) = if is_stream form then bytes else []
 abbrev pub ArePartsOf : Form → List Report → List ℕ → List Part → Type 0
 ArePartsOf form reports text parts = (flat_map report_of_part parts ≡ reports) × (text ≡ flat_map (part_text form) parts)
 
--- The text is that of these reports, in order, and of rows before, between and after them. If only a stream is told it is its bytes.
+-- The text is that of those reports that are chosen, in order, and of rows before, between and after them. If only a stream is told it is its bytes.
 pub record AreTexts (form : Form) (reports : List Report) (text : List ℕ) : Type 0 where
   pub parts : List Part
   pub reports_are : flat_map report_of_part parts ≡ reports
@@ -109,15 +143,15 @@ is_one_refused reports = list_any is_refused reports
 abbrev pub is_one_partial : List Report → Bool
 is_one_partial reports = list_any is_partial reports
 
--- These reports were told, and what they add up to is known. These bytes are written: with what is kept they are the texts of the reports,
--- and of rows, or a stream's bytes.
+-- These reports were taken, and what they add up to is known. These bytes are written: with what is kept they are the texts of the reports that are
+-- chosen, and of rows, or a stream's bytes.
 pub record Tells (start now : TargetSeen) (t : Teller) (reports : List Report) (written : List ℕ) : Type 0 where
   pub whole : AreTexts t.form reports (written ++ t.text.items)
   pub held : Appends start.held now.held written
   pub calm : now.failed ≡ start.failed
   pub torrents : t.torrents ≡ count_torrents reports
-  pub refused : t.is_refused ≡ is_one_refused reports
-  pub partial : t.is_partial ≡ is_one_partial reports
+  pub refused : t.is_refused ≡ is_one_refused (chosen_by t.form reports)
+  pub partial : t.is_partial ≡ is_one_partial (chosen_by t.form reports)
 
 -- A write failed: the first part of the texts is written.
 pub record IsStopped (form : Form) (start now : TargetSeen) (reports : List Report) (text : List ℕ) : Type 0 where

@@ -1,17 +1,10 @@
 //! The connections of a capture, and the reports of those that are over.
-ghost use Rattle.std.specs.Prelude.{◌≡◌, ◌∷◌, ◌++◌, [], ◌+◌, ◌-◌, ◌^◌, ◌<◌, ◌≤◌, min, ℕ, List, length, false, true, None, Some, is_some, unwrap_or, IfOk, OnOk, OnErr};
+ghost use Rattle.std.specs.Prelude.{◌≡◌, ◌∷◌, ◌++◌, [], ◌+◌, ◌<◌, ◌≤◌, ℕ, List, length, false, true, None, Some, IfOk, OnOk, OnErr};
 ghost use Rattle.std.specs.Map.{lookup};
 ghost use Rattle.std.specs.List.{All, Contains};
 ghost use Rattle.std.specs.List.Sorted.{IsNonDecreasing, IsPermutation};
-ghost use Rattle.bt_io.specs.Counts.{counted as counted_if, one_more};
 ghost use Rattle.bt_io.specs.Seen.{TargetSeen};
-ghost use Rattle.bt_pcap.specs.Formats.{Captured};
-ghost use Rattle.bt_pcap.specs.Steps.{captured};
-ghost use Rattle.bt_capture.specs.Arrivals.{AreEarlier, Arrival, Clock, arrived, arrivals, arrivals_in, clock_of, count_skipped, first_time, is_no_segment};
-ghost use Rattle.bt_capture.specs.Arrivals.{with_packet};
-ghost use Rattle.bt_utp.specs.States.{AreCounted};
-ghost use Rattle.bt_packet.specs.declared.utp.Utp.{Utp};
-ghost use Rattle.bt_capture.specs.FlowTexts.{datagrams, datagrams_in};
+ghost use Rattle.bt_capture.specs.Arrivals.{AreEarlier, Arrival, Clock, arrived, clock_of, with_packet};
 ghost use Rattle.bt_capture.specs.Connections.{Begins, IsOpen, is_opener};
 ghost use Rattle.bt_remarks.specs.declared.events.Side.{Side};
 ghost use Rattle.bt_talk.specs.Pasts.{Past};
@@ -23,11 +16,9 @@ ghost use Rattle.bt_capture.specs.Sending.{HasSent, IsSentOff};
 ghost use Rattle.bt_capture.specs.Rowed.{HasShown, ShowsOn, heading_of};
 ghost use Rattle.bt_capture.specs.Forms.{absent_from, handed, is_stream, showing_by, wanted_by};
 ghost use Rattle.bt_capture.specs.Bounds.{IsBounded, IsCounted};
-ghost use Rattle.bt_capture.specs.Following.{Phase, Coming, Cause, FollowsIn, GoesIn, Follows, Goes, Finds, MayEnd};
-ghost use Rattle.bt_capture.specs.Following.{given_up_by, left_in, numbers, over_for, with_over};
+ghost use Rattle.bt_capture.specs.Following.{Phase, Coming, Cause, FollowsIn, GoesIn, Follows, Goes, Finds, MayEnd, Since};
+ghost use Rattle.bt_capture.specs.Following.{asked_of, given_up_by, left_in, numbers, over_for, since, with_over};
 ghost use Rattle.bt_capture.specs.Tellings.{TellsOn};
-ghost use Rattle.bt_capture.specs.Runs.{utp_text};
-ghost use Rattle.bt_capture.specs.Sights.{seen};
 ghost use Rattle.bt_capture.specs.Tables.{Held, IsQuiet, same_pair, IsApart};
 ghost use Rattle.bt_capture.specs.declared.pair.Pair.{Pair};
 
@@ -35,15 +26,11 @@ use crate::connection::Connection;
 use crate::ended::Ended;
 use crate::ending::Form;
 use crate::pair::Pair;
-use crate::sight::{Sight, sight_of};
 use crate::table::Table;
 use crate::telling::Teller;
-use crate::utp::flow_lines;
 use bt_packet::Segment;
-use bt_pcap::Packet;
+use bt_report::Left;
 use bt_talk::{Room, Talk, Terms, When};
-use bt_told::Left;
-use bt_utp::UtpFlows;
 use std::alloc::{AllocError, Global};
 use std::hash::RandomState;
 
@@ -164,12 +151,12 @@ impl Losses {
 }
 
 /// The connections of a capture, and what is told of them.
+///
+/// Those that tell take the time of the first packet as `from`.
 #[derive(Drop)]
-pub struct Run {
+pub struct Connections {
     alloc: Global,
     terms: Terms,
-    /// The time of the first packet.
-    start: Option<u64>,
     table: Table,
     /// About how many bytes of memory those in the table take.
     bytes: u64,
@@ -178,14 +165,11 @@ pub struct Run {
     /// How many connections have begun.
     begun: u64,
     pub teller: Teller,
-    /// The packets of uTP, which are counted.
-    utp: UtpFlows,
     room: Room,
-    pub skipped: u64,
     pub lost: Losses,
 }
 
-impl Run {
+impl Connections {
     /// Starts before a capture's first packet. `keys` are those of the table of connections.
     ///
     /// # Errors
@@ -195,27 +179,20 @@ impl Run {
         keys: RandomState,
         terms: Terms,
         form: Form,
-    ) -> Result<Run, AllocError>
-        ensures follows { IfOk result (λ run. (start : TargetSeen) → Follows start start (clock_of []) [] run.table run) }
-        ensures start { IfOk result (λ run. run.start ≡ None) }
-        ensures terms { IfOk result (λ run. run.terms ≡ terms) }
-        ensures form { IfOk result (λ run. run.teller.form ≡ form) }
-        ensures utp { IfOk result (λ run. AreCounted [] run.utp) }
-        ensures skipped { IfOk result (λ run. run.skipped ≡ 0) }
+    ) -> Result<Connections, AllocError>
+        ensures follows { IfOk result (λ all. (start : Since) → Follows start start.target (clock_of []) [] all.table all) }
+        ensures asked { IfOk result (λ all. asked_of all ≡ record { terms = terms; form = form }) }
         ensures bounded { IfOk result IsBounded }
     {
-        Ok(Run {
+        Ok(Connections {
             alloc,
             terms,
-            start: None,
             table: Table::new(alloc, keys)?,
             bytes: 0,
             ended: Ended::new(alloc),
             begun: 0,
             teller: Teller::new(alloc, form),
-            utp: UtpFlows::new(alloc),
             room: Room::new(alloc),
-            skipped: 0,
             lost: Losses {
                 memory: 0,
                 crowd: 0,
@@ -226,14 +203,20 @@ impl Run {
 
     /// Tells of a connection that is over, if a byte of it was captured.
     ///
-    /// `over` says how it is over.
+    /// `over` says how it is over, and `from` is the time of the first packet.
     ///
     /// # Errors
     /// `AllocError` when out of memory. The connection isn't told then.
-    pub fn report(&mut self, mut connection: Box<Connection>, over: Over) -> Result<(), AllocError>
+    pub fn report(
+        &mut self,
+        mut connection: Box<Connection>,
+        over: Over,
+        from: u64,
+    ) -> Result<(), AllocError>
         ensures goes { (ph : Phase) (start now : TargetSeen) (clock : Clock) (came : List Arrival) (p : Pair) (es : List (Pair × Held)) (cause : Cause)
             → lookup (same_pair p) es ≡ None → MayEnd ph clock came cause p connection.value → over ≡ over_for cause
-            → FollowsIn ph start now clock came ((p, connection) ∷ es) self.old → GoesIn ph start now clock came es self.new result }
+            → FollowsIn ph (since start from) now clock came ((p, connection) ∷ es) self.old
+            → GoesIn ph (since start from) now clock came es self.new result }
         ensures sent { OnOk result ((terms : Terms) (taken : List Arrival) (side : Side) (sent : List ℕ) → connection.value.has_payload ≡ true
             → wanted_by self.old.teller.form connection.value.number ≡ Some side → HasSent side sent terms taken [] connection.value
             → IsSentOff side sent terms taken connection.value self.old self.new) }
@@ -241,17 +224,12 @@ impl Run {
             → (terms : Terms) (taken : List Arrival) → IsOpen terms taken [] connection.value → self.new.teller.text.items ≡ self.old.teller.text.items) }
         ensures table { self.new.table ≡ self.old.table }
         ensures bytes { self.new.bytes ≡ self.old.bytes }
-        ensures terms { self.new.terms ≡ self.old.terms }
-        ensures form { self.new.teller.form ≡ self.old.teller.form }
-        ensures start { self.new.start ≡ self.old.start }
-        ensures utp { self.new.utp ≡ self.old.utp }
-        ensures skipped { self.new.skipped ≡ self.old.skipped }
+        ensures asked { asked_of self.new ≡ asked_of self.old }
     {
         if connection.is_silent() {
             self.lost = self.lost.with(over);
             return Ok(());
         }
-        let from = self.start.unwrap_or(0);
         let wanted = self.teller.wanted(connection.number);
         self.room
             .turn_to(self.teller.showing(), connection.number, from, wanted);
@@ -275,23 +253,19 @@ impl Run {
     }
 
     /// Ends the connection that was used least recently, if there is one.
-    fn end_oldest(&mut self, when: When) -> Result<(), AllocError>
+    fn end_oldest(&mut self, when: When, from: u64) -> Result<(), AllocError>
         ensures goes { (start now : TargetSeen) (clock : Clock) (came : List Arrival) → Contains clock.packets when → when.packet ≡ clock.number
-            → All (λ x. x.when.packet ≤ when.packet) came → Follows start now clock came self.old.table self.old
-            → Goes start now clock came self.new.table self.new result }
+            → All (λ x. x.when.packet ≤ when.packet) came → Follows (since start from) now clock came self.old.table self.old
+            → Goes (since start from) now clock came self.new.table self.new result }
         ensures shorter { 0 < length self.old.table → length self.new.table < length self.old.table }
         ensures counted { IsCounted self.old → IsCounted self.new }
-        ensures terms { self.new.terms ≡ self.old.terms }
-        ensures form { self.new.teller.form ≡ self.old.teller.form }
-        ensures start { self.new.start ≡ self.old.start }
-        ensures utp { self.new.utp ≡ self.old.utp }
-        ensures skipped { self.new.skipped ≡ self.old.skipped }
+        ensures asked { asked_of self.new ≡ asked_of self.old }
     {
         match self.table.take_oldest() {
             Some((_, oldest)) => {
                 self.bytes = self.bytes.saturating_sub(oldest.size());
                 let over = left_given_up(&oldest.talk, when);
-                self.report(oldest, over)
+                self.report(oldest, over, from)
             }
             None => Ok(()),
         }
@@ -308,22 +282,15 @@ impl Run {
     /// Ends connections, as long as there are too many, or they take too much memory together: first the silent ones.
     ///
     /// The one that was used least recently is the first.
-    fn shrink(&mut self, when: When) -> Result<(), AllocError>
+    fn shrink(&mut self, when: When, from: u64) -> Result<(), AllocError>
         ensures goes { (start now : TargetSeen) (clock : Clock) (came : List Arrival) → Contains clock.packets when → when.packet ≡ clock.number
-            → All (λ x. x.when.packet ≤ when.packet) came → Follows start now clock came self.old.table self.old
-            → Goes start now clock came self.new.table self.new result }
+            → All (λ x. x.when.packet ≤ when.packet) came → Follows (since start from) now clock came self.old.table self.old
+            → Goes (since start from) now clock came self.new.table self.new result }
         ensures bounded { OnOk result (IsCounted self.old → IsBounded self.new) }
-        ensures terms { self.new.terms ≡ self.old.terms }
-        ensures form { self.new.teller.form ≡ self.old.teller.form }
-        ensures start { self.new.start ≡ self.old.start }
-        ensures utp { self.new.utp ≡ self.old.utp }
-        ensures skipped { self.new.skipped ≡ self.old.skipped }
+        ensures asked { asked_of self.new ≡ asked_of self.old }
     {
         'oldest: while self.is_full() && self.table.len() > 0 {
-            match self.end_oldest(when) {
-                Ok(()) => {}
-                Err(error) => return Err(error),
-            }
+            self.end_oldest(when, from)?;
         }
         Ok(())
     }
@@ -332,39 +299,35 @@ impl Run {
     ///
     /// # Errors
     /// `AllocError` when out of memory.
-    fn put(&mut self, pair: Pair, connection: Box<Connection>, when: When) -> Result<(), AllocError>
+    fn put(
+        &mut self,
+        pair: Pair,
+        connection: Box<Connection>,
+        when: When,
+        from: u64,
+    ) -> Result<(), AllocError>
         requires { lookup (same_pair pair) self.old.table ≡ None }
         ensures goes { (start now : TargetSeen) (clock : Clock) (came : List Arrival) → Contains clock.packets when → when.packet ≡ clock.number
-            → All (λ x. x.when.packet ≤ when.packet) came → Follows start now clock came ((pair, connection) ∷ self.old.table) self.old
-            → Goes start now clock came self.new.table self.new result }
+            → All (λ x. x.when.packet ≤ when.packet) came → Follows (since start from) now clock came ((pair, connection) ∷ self.old.table) self.old
+            → Goes (since start from) now clock came self.new.table self.new result }
         ensures bounded { OnOk result (IsBounded self.old → IsBounded self.new) }
-        ensures terms { self.new.terms ≡ self.old.terms }
-        ensures form { self.new.teller.form ≡ self.old.teller.form }
-        ensures start { self.new.start ≡ self.old.start }
-        ensures utp { self.new.utp ≡ self.old.utp }
-        ensures skipped { self.new.skipped ≡ self.old.skipped }
+        ensures asked { asked_of self.new ≡ asked_of self.old }
     {
         self.bytes = self.bytes.saturating_add(connection.size());
-        match self.table.put(pair, connection) {
-            Ok(()) => self.shrink(when),
-            Err(error) => Err(error),
-        }
+        self.table.put(pair, connection)?;
+        self.shrink(when, from)
     }
 
     /// Begins the connection of a segment.
     fn begin(&mut self, segment: &Segment) -> Result<Box<Connection>, AllocError>
-        ensures finds { (start now : TargetSeen) (clock : Clock) (came : List Arrival) (when : When) (p : Pair) (es : List (Pair × Held))
+        ensures finds { (start : Since) (now : TargetSeen) (clock : Clock) (came : List Arrival) (when : When) (p : Pair) (es : List (Pair × Held))
             → lookup (same_pair p) es ≡ None → let x = arrived segment.now when in FollowsIn (Coming p x) start now clock came es self.old
             → Finds start now clock came x p es self.new result }
         ensures number { IfOk result (λ c. c.value.number ≡ self.old.begun) }
         ensures sent { IfOk result (λ c. (when : When) (side : Side) → HasSent side [] self.old.terms [] (arrived segment.now when ∷ []) c.value) }
         ensures table { self.new.table ≡ self.old.table }
         ensures bytes { self.new.bytes ≡ self.old.bytes }
-        ensures terms { self.new.terms ≡ self.old.terms }
-        ensures form { self.new.teller.form ≡ self.old.teller.form }
-        ensures start { self.new.start ≡ self.old.start }
-        ensures utp { self.new.utp ≡ self.old.utp }
-        ensures skipped { self.new.skipped ≡ self.old.skipped }
+        ensures asked { asked_of self.new ≡ asked_of self.old }
     {
         let connection = Connection::new(self.alloc, self.begun, segment, self.terms);
         self.begun = self.begun.saturating_add(1);
@@ -382,26 +345,21 @@ impl Run {
         connection: Box<Connection>,
         segment: &Segment,
         when: When,
+        from: u64,
     ) -> Result<Box<Connection>, AllocError>
         ensures finds { (start now : TargetSeen) (clock : Clock) (came : List Arrival) (p : Pair) (es : List (Pair × Held))
             → lookup (same_pair p) es ≡ None → AreEarlier clock when.packet → when.packet ≡ clock.number
-            → Follows start now clock came ((p, connection) ∷ es) self.old
-            → Finds start now clock came (arrived segment.now when) p es self.new result }
+            → Follows (since start from) now clock came ((p, connection) ∷ es) self.old
+            → Finds (since start from) now clock came (arrived segment.now when) p es self.new result }
         ensures table { self.new.table ≡ self.old.table }
         ensures bytes { self.new.bytes ≡ self.old.bytes }
-        ensures terms { self.new.terms ≡ self.old.terms }
-        ensures form { self.new.teller.form ≡ self.old.teller.form }
-        ensures start { self.new.start ≡ self.old.start }
-        ensures utp { self.new.utp ≡ self.old.utp }
-        ensures skipped { self.new.skipped ≡ self.old.skipped }
+        ensures asked { asked_of self.new ≡ asked_of self.old }
     {
         if !begins_another(&connection.talk, segment, when) {
             return Ok(connection);
         }
-        match self.report(connection, Over::Replaced) {
-            Ok(()) => self.begin(segment),
-            Err(error) => Err(error),
-        }
+        self.report(connection, Over::Replaced, from)?;
+        self.begin(segment)
     }
 
     /// Takes out the connection to which a segment belongs, or begins it.
@@ -410,21 +368,18 @@ impl Run {
         pair: Pair,
         segment: &Segment,
         when: When,
+        from: u64,
     ) -> Result<Box<Connection>, AllocError>
         ensures finds { (start now : TargetSeen) (clock : Clock) (came : List Arrival) → AreEarlier clock when.packet → when.packet ≡ clock.number
-            → Follows start now clock came self.old.table self.old → Finds start now clock came (arrived segment.now when) pair self.new.table self.new result }
+            → Follows (since start from) now clock came self.old.table self.old → Finds (since start from) now clock came (arrived segment.now when) pair self.new.table self.new result }
         ensures absent { lookup (same_pair pair) self.new.table ≡ None }
         ensures bounded { IsBounded self.old → IsBounded self.new }
-        ensures terms { self.new.terms ≡ self.old.terms }
-        ensures form { self.new.teller.form ≡ self.old.teller.form }
-        ensures start { self.new.start ≡ self.old.start }
-        ensures utp { self.new.utp ≡ self.old.utp }
-        ensures skipped { self.new.skipped ≡ self.old.skipped }
+        ensures asked { asked_of self.new ≡ asked_of self.old }
     {
         match self.table.take_out(pair) {
             Some(connection) => {
                 self.bytes = self.bytes.saturating_sub(connection.size());
-                self.goes_on(connection, segment, when)
+                self.goes_on(connection, segment, when, from)
             }
             None => self.begin(segment),
         }
@@ -440,6 +395,7 @@ impl Run {
         connection: &mut Connection,
         segment: &Segment,
         when: When,
+        from: u64,
     ) -> Result<(), AllocError>
         ensures takes { (terms : Terms) (taken : List Arrival) → let a = arrived segment.now when in IsOpen terms taken (a ∷ []) connection.old
             → IsOpen terms (taken ++ a ∷ []) [] connection.new }
@@ -453,10 +409,10 @@ impl Run {
         ensures kept { OnErr result ((terms : Terms) (taken : List Arrival) → IsOpen terms taken (arrived segment.now when ∷ []) connection.old
             → is_stream self.old.teller.form ≡ true → self.new.teller.text.items ≡ self.old.teller.text.items) }
         ensures shows { (a b : Past) → IsTalk a b connection.old.talk → is_lost connection.new.talk ≡ false
-            → AreOfSegment (heading_by (showing_by self.old.teller.form) connection.old.number (unwrap_or self.old.start 0)) segment.now when a b
+            → AreOfSegment (heading_by (showing_by self.old.teller.form) connection.old.number from) segment.now when a b
             connection.old.talk connection.new.talk (rows_in self.new.room) }
         ensures shown { OnOk result ((terms : Terms) (taken : List Arrival) (before : List Shown) → let a = arrived segment.now when in
-            let h = heading_of self.old.teller.form connection.old.number (unwrap_or self.old.start 0) in HasShown h before terms taken (a ∷ []) connection.old
+            let h = heading_of self.old.teller.form connection.old.number from in HasShown h before terms taken (a ∷ []) connection.old
             → (rows : List Shown) × ShowsOn h before rows terms taken a connection.old connection.new
             × (self.new.teller.text.items ≡ self.old.teller.text.items ++ (shown_texts (showing_by self.old.teller.form) rows
             ++ handed self.old.teller.form connection.new.number self.new.room))) }
@@ -467,7 +423,6 @@ impl Run {
         ensures form { self.new.teller.form ≡ self.old.teller.form }
         ensures rest { self.new ≡ record self.old { teller = self.new.teller; room = self.new.room; ended = self.new.ended } }
     {
-        let from = self.start.unwrap_or(0);
         let wanted = self.teller.wanted(connection.number);
         self.room
             .turn_to(self.teller.showing(), connection.number, from, wanted);
@@ -479,21 +434,17 @@ impl Run {
     }
 
     /// Ends the connection of these ends, which is over, if there is one.
-    fn end(&mut self, pair: Pair) -> Result<(), AllocError>
+    fn end(&mut self, pair: Pair, from: u64) -> Result<(), AllocError>
         ensures goes { (start now : TargetSeen) (clock : Clock) (came : List Arrival) (at : When) → IsQuiet pair at.nanos self.old.table
-            → Contains clock.packets at → at.packet ≡ clock.number → All (λ x. x.when.packet ≤ at.packet) came → Follows start now clock came self.old.table self.old
-            → Goes start now clock came self.new.table self.new result }
+            → Contains clock.packets at → at.packet ≡ clock.number → All (λ x. x.when.packet ≤ at.packet) came → Follows (since start from) now clock came self.old.table self.old
+            → Goes (since start from) now clock came self.new.table self.new result }
         ensures bounded { IsBounded self.old → IsBounded self.new }
-        ensures terms { self.new.terms ≡ self.old.terms }
-        ensures form { self.new.teller.form ≡ self.old.teller.form }
-        ensures start { self.new.start ≡ self.old.start }
-        ensures utp { self.new.utp ≡ self.old.utp }
-        ensures skipped { self.new.skipped ≡ self.old.skipped }
+        ensures asked { asked_of self.new ≡ asked_of self.old }
     {
         match self.table.take_out(pair) {
             Some(connection) => {
                 self.bytes = self.bytes.saturating_sub(connection.size());
-                self.report(connection, Over::Open)
+                self.report(connection, Over::Open, from)
             }
             None => Ok(()),
         }
@@ -502,22 +453,18 @@ impl Run {
     /// Ends a connection that is over at this time, if there is one.
     ///
     /// With each packet one is looked at of those that have ended.
-    fn end_quiet(&mut self, when: When) -> Result<(), AllocError>
+    pub fn end_quiet(&mut self, when: When, from: u64) -> Result<(), AllocError>
         ensures goes { (start now : TargetSeen) (clock : Clock) (came : List Arrival) → Contains clock.packets when → when.packet ≡ clock.number
-            → All (λ x. x.when.packet ≤ when.packet) came → Follows start now clock came self.old.table self.old
-            → Goes start now clock came self.new.table self.new result }
+            → All (λ x. x.when.packet ≤ when.packet) came → Follows (since start from) now clock came self.old.table self.old
+            → Goes (since start from) now clock came self.new.table self.new result }
         ensures bounded { IsBounded self.old → IsBounded self.new }
-        ensures terms { self.new.terms ≡ self.old.terms }
-        ensures form { self.new.teller.form ≡ self.old.teller.form }
-        ensures start { self.new.start ≡ self.old.start }
-        ensures utp { self.new.utp ≡ self.old.utp }
-        ensures skipped { self.new.skipped ≡ self.old.skipped }
+        ensures asked { asked_of self.new ≡ asked_of self.old }
     {
         let Some(pair) = self.ended.take_due(when.nanos) else {
             return Ok(());
         };
         match self.table.is_over(pair, when.nanos) {
-            Some(true) => self.end(pair),
+            Some(true) => self.end(pair, from),
             Some(false) => {
                 self.ended.note(pair, when.nanos);
                 Ok(())
@@ -527,90 +474,22 @@ impl Run {
     }
 
     /// Takes a segment.
-    fn take_segment(&mut self, segment: &Segment, when: When) -> Result<(), AllocError>
+    pub fn take_segment(
+        &mut self,
+        segment: &Segment,
+        when: When,
+        from: u64,
+    ) -> Result<(), AllocError>
         ensures goes { (start now : TargetSeen) (clock : Clock) (came : List Arrival) → AreEarlier clock when.packet → when.packet ≡ clock.number
-            → All (λ x. x.when.packet ≤ when.packet) came → Follows start now clock came self.old.table self.old
-            → Goes start now (with_packet when clock) (came ++ arrived segment.now when ∷ []) self.new.table self.new result }
+            → All (λ x. x.when.packet ≤ when.packet) came → Follows (since start from) now clock came self.old.table self.old
+            → Goes (since start from) now (with_packet when clock) (came ++ arrived segment.now when ∷ []) self.new.table self.new result }
         ensures bounded { OnOk result (IsBounded self.old → IsBounded self.new) }
-        ensures terms { self.new.terms ≡ self.old.terms }
-        ensures form { self.new.teller.form ≡ self.old.teller.form }
-        ensures start { self.new.start ≡ self.old.start }
-        ensures utp { self.new.utp ≡ self.old.utp }
-        ensures skipped { self.new.skipped ≡ self.old.skipped }
+        ensures asked { asked_of self.new ≡ asked_of self.old }
     {
         let pair = Pair::of(segment.source, segment.target);
-        match self.connection_of(pair, segment, when) {
-            Ok(mut connection) => {
-                match self.give(pair, &mut connection, segment, when) {
-                    Ok(()) => self.put(pair, connection, when),
-                    Err(error) => Err(error),
-                }
-            }
-            Err(error) => Err(error),
-        }
-    }
-
-    /// Counts a packet that isn't TCP.
-    fn skip(&mut self)
-        ensures { self.new ≡ record self.old { skipped = one_more self.old.skipped } }
-    {
-        self.skipped = self.skipped.saturating_add(1);
-    }
-
-    /// Takes what a packet carries.
-    fn take_sight(&mut self, sight: &Sight, when: When) -> Result<(), AllocError>
-        ensures goes { (start now : TargetSeen) (clock : Clock) (came : List Arrival) → AreEarlier clock when.packet → when.packet ≡ clock.number
-            → All (λ x. x.when.packet ≤ when.packet) came → Follows start now clock came self.old.table self.old
-            → Goes start now (with_packet when clock) (came ++ arrivals_in when.packet when.nanos (seen sight.now)) self.new.table self.new result }
-        ensures bounded { OnOk result (IsBounded self.old → IsBounded self.new) }
-        ensures terms { self.new.terms ≡ self.old.terms }
-        ensures form { self.new.teller.form ≡ self.old.teller.form }
-        ensures start { self.new.start ≡ self.old.start }
-        ensures utp { OnOk result ((ds : List Utp) → AreCounted ds self.old.utp → AreCounted (ds ++ datagrams_in (seen sight.now)) self.new.utp) }
-        ensures skipped { self.new.skipped ≡ counted_if (is_no_segment (seen sight.now)) self.old.skipped }
-    {
-        match sight {
-            Sight::Segment(segment) => self.take_segment(segment, when),
-            Sight::Utp(datagram) => {
-                self.skip();
-                match self.utp.take(datagram) {
-                    Ok(()) => Ok(()),
-                    Err(error) => Err(error),
-                }
-            }
-            Sight::Other => {
-                self.skip();
-                Ok(())
-            }
-        }
-    }
-
-    /// Takes the next packet; `number` is its number in the capture, counted from 1.
-    ///
-    /// # Errors
-    /// `AllocError` when out of memory.
-    pub fn take(&mut self, packet: &Packet, number: u64) -> Result<(), AllocError>
-        ensures goes { (start now : TargetSeen) (packets : List Captured) → number ≡ min (length packets + 1) (2 ^ 64 - 1)
-            → self.old.start ≡ first_time packets → Follows start now (clock_of packets) (arrivals packets) self.old.table self.old
-            → let all = packets ++ captured packet.now ∷ [] in Goes start now (clock_of all) (arrivals all) self.new.table self.new result }
-        ensures bounded { OnOk result (IsBounded self.old → IsBounded self.new) }
-        ensures terms { self.new.terms ≡ self.old.terms }
-        ensures form { self.new.teller.form ≡ self.old.teller.form }
-        ensures start { (packets : List Captured) → self.old.start ≡ first_time packets → self.new.start ≡ first_time (packets ++ captured packet.now ∷ []) }
-        ensures utp { OnOk result ((packets : List Captured) → AreCounted (datagrams packets) self.old.utp
-            → AreCounted (datagrams (packets ++ captured packet.now ∷ [])) self.new.utp) }
-        ensures skipped { (packets : List Captured) → self.old.skipped ≡ count_skipped packets
-            → self.new.skipped ≡ count_skipped (packets ++ captured packet.now ∷ []) }
-    {
-        self.start = self.start.or(Some(packet.nanos));
-        let when = When {
-            nanos: packet.nanos,
-            packet: number,
-        };
-        match self.take_sight(&sight_of(packet), when) {
-            Ok(()) => self.end_quiet(when),
-            Err(error) => Err(error),
-        }
+        let mut connection = self.connection_of(pair, segment, when, from)?;
+        self.give(pair, &mut connection, segment, when, from)?;
+        self.put(pair, connection, when, from)
     }
 
     /// Takes out the connections that aren't over, in the order of their numbers.
@@ -629,19 +508,6 @@ impl Run {
         }
         rest.sort_by_key(|(_, connection)| connection.number)?;
         Ok(rest)
-    }
-
-    /// Returns the lines on packets of uTP. There are none if only a stream is told.
-    ///
-    /// # Errors
-    /// `AllocError` when out of memory.
-    pub fn utp_lines(&self) -> Result<Vec<u8>, AllocError>
-        ensures { IfOk result (λ text. (ds : List Utp) → AreCounted ds self.now.utp → text.items ≡ utp_text self.now.teller.form ds) }
-    {
-        if self.teller.form.stream.is_some() {
-            return Ok(Vec::new(self.alloc));
-        }
-        flow_lines(self.alloc, &self.utp, self.teller.form.json)
     }
 
     /// Returns the number of the connection whose stream is told, if none of that number has begun.

@@ -2,6 +2,7 @@
 ghost use Rattle.std.specs.Prelude.{◌≡◌};
 ghost use Rattle.bt_capture.specs.Forms.{showing_by, wanted_by};
 
+use crate::choice::Choice;
 use bt_pcap::FileFault;
 use bt_remarks::Side;
 use bt_talk::{Showing, Terms};
@@ -18,6 +19,8 @@ pub struct CaptureJob {
     pub json: bool,
     /// The number of a connection and one of its sides: only the stream of that side is written, and neither reports nor rows.
     pub stream: Option<(u64, Side)>,
+    /// Which reports are told. Rows, a stream and packets of uTP are told of all connections.
+    pub choice: Choice,
 }
 
 /// How it is told.
@@ -29,6 +32,8 @@ pub struct Form {
     pub json: bool,
     /// The number of a connection and its side of which only the stream is told.
     pub stream: Option<(u64, Side)>,
+    /// Which reports are told.
+    pub choice: Choice,
 }
 
 impl Form {
@@ -76,13 +81,13 @@ pub struct CaptureEnd {
     pub packets: u64,
     /// How many packets aren't TCP.
     pub skipped: u64,
-    /// How many BitTorrent connections were reported.
+    /// How many BitTorrent connections there are, those that aren't chosen too.
     pub torrents: u64,
     /// How many connections aren't reported, since memory ran out.
     pub lost: u64,
-    /// Whether a direction is refused under the lenient rules, and not only cut.
+    /// Whether a direction of a chosen connection is refused under the lenient rules, and not only cut.
     pub is_refused: bool,
-    /// Whether of a BitTorrent connection only a part was read: a direction has a gap, or bytes and no whole handshake, or the connection
+    /// Whether of a chosen BitTorrent connection only a part was read: a direction has a gap, or bytes and no whole handshake, or the connection
     /// wasn't read further.
     pub is_partial: bool,
     pub ending: Ending,

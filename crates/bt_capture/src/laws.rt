@@ -2,16 +2,16 @@
 ghost use Rattle.std.specs.Prelude.{◌≡◌, ◌<◌, ◌-◌, ◌^◌, ℕ, List, Option, Some, None, false};
 ghost use Rattle.bt_io.specs.Seen.{SourceSeen, TargetSeen};
 ghost use Rattle.bt_remarks.specs.declared.events.Side.{Side};
-ghost use Rattle.bt_told.specs.declared.report.Report.{Report};
+ghost use Rattle.bt_report.specs.declared.report.Report.{Report};
 ghost use Rattle.bt_capture.specs.declared.ending.CaptureEnd.{CaptureEnd};
 ghost use Rattle.bt_capture.specs.declared.ending.Form.{Form};
 ghost use Rattle.bt_capture.specs.Runs.{IsEndOf, IsOnlyStream, Origin};
-ghost use Rattle.bt_capture.specs.Tellings.{AreTexts, texts};
+ghost use Rattle.bt_capture.specs.Tellings.{AreTexts, chosen_by, texts};
 
-/// If neither rows nor a stream are told, what is told are the texts of the reports, in order, and nothing else.
+/// If neither rows nor a stream are told, what is told are the texts of the chosen reports, in order, and nothing else.
 pub fn only_reports()
     ensures { (form : Form) (reports : List Report) (text : List ℕ) → form.show ≡ false → form.stream ≡ None → AreTexts form reports text
-        → text ≡ texts form.json reports }
+        → text ≡ texts form.json (chosen_by form reports) }
 {}
 
 /// If a stream is asked for and reading ended, nothing is written if no connection has the number. Otherwise one has it, and

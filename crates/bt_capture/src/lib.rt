@@ -2,6 +2,7 @@
 #![tactic(auto)]
 
 mod buffer;
+mod choice;
 mod connection;
 mod connections;
 mod ended;
@@ -18,6 +19,7 @@ mod telling;
 mod utp;
 mod walk;
 
+pub use choice::{Choice, Peer};
 pub use ending::{CaptureEnd, CaptureFault, CaptureJob, Ending, Form};
 pub use fault::ReadFault;
 pub use packets::{FileEnd, Packets};

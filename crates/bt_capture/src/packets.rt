@@ -115,13 +115,9 @@ impl Packets {
     {
         self.buffer.drop_front(self.walk.at);
         self.walk.at = 0;
-        match self.buffer.read(reader) {
-            Ok(count) => {
-                self.bytes = self.bytes.saturating_add(count as u64);
-                Ok(count)
-            }
-            Err(fault) => Err(fault),
-        }
+        let count = self.buffer.read(reader)?;
+        self.bytes = self.bytes.saturating_add(count as u64);
+        Ok(count)
     }
 
     /// Tells how the file ended, if what was read is all of it.

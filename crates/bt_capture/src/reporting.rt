@@ -4,17 +4,16 @@ ghost use Rattle.bt_intro.specs.Hellos.{IsStartOf};
 ghost use Rattle.bt_talk.specs.Pasts.{Past};
 ghost use Rattle.bt_talk.specs.Shown.{Turn};
 ghost use Rattle.bt_talk.specs.Talks.{HasHeard, IsTalk, closing_of};
-ghost use Rattle.bt_told.specs.Names.{title_text};
+ghost use Rattle.bt_report.specs.Names.{title_text};
 ghost use Rattle.bt_capture.specs.Reportings.{IsSenderOf, IsDirectionOf, IsBodyOf, HasBegun, IsBeforeOf, IsClosedBy, AreRemarksOf};
 ghost use Rattle.bt_capture.specs.Reportings.{left_after, offset_gap, shifted as shifted_by, title_by, means_by};
 
 use bt_intro::Receiver;
 use bt_remarks::Side;
+use bt_report::{Before, Body, Closed, Direction, Judged, Left, Sender, Title, Told};
+use bt_rows::{Means, Remarked};
 use bt_talk::Talk;
 use bt_tcp::{Gap, Gaps};
-use bt_told::{
-    Before, Body, Closed, Direction, Judged, Left, Means, Remarked, Sender, Title, Told,
-};
 use bt_wire::Handshake;
 
 /// No remark.
@@ -101,6 +100,7 @@ fn direction_of(talk: &Talk, side: Side) -> Direction
         sender: sender_of(talk, side),
         exchange,
         conflicts: talk.conflicts(side),
+        strays: talk.strays(side),
         gaps: shifted(exchange, talk.gaps(side)),
         is_final: talk.is_final(side),
     }

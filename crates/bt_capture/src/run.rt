@@ -2,7 +2,7 @@
 ghost use Rattle.std.specs.Prelude.{◌≡◌, ◌<◌, ℕ, List, [], ◌∷◌, length, Option, None, Ok, OnOk, IfErr, false, true};
 ghost use Rattle.std.specs.Map.{lookup};
 ghost use Rattle.bt_io.specs.Seen.{SourceSeen, TargetSeen};
-ghost use Rattle.bt_packet.specs.declared.utp.Utp.{Utp};
+ghost use Rattle.bt_packet.specs.Utp.{UtpPacket};
 ghost use Rattle.bt_utp.specs.States.{AreCounted};
 ghost use Rattle.bt_capture.specs.Ends.{HasEndedSo, IsAllRead, IsMore, IsTurn, IsWhyHeld, ending_by};
 ghost use Rattle.bt_capture.specs.Readings.{Reading, Advances, GoesOn, Waits};
@@ -12,27 +12,153 @@ ghost use Rattle.bt_capture.specs.Tellings.{IsEmpty};
 ghost use Rattle.bt_capture.specs.Following.{Phase, AtEnd};
 ghost use Rattle.bt_capture.specs.Runs.{Adds, Origin, done, origin, IsTelling, IsTellingIn, IsAfter, IsAfterIn, IsTold, IsEndOf};
 ghost use Rattle.bt_capture.specs.Runs.{utp_lines, utp_text};
-ghost use Rattle.bt_capture.specs.declared.connections.Run.{Run};
+ghost use Rattle.bt_capture.specs.declared.run.Run.{Run};
 ghost use Rattle.bt_capture.specs.declared.pair.Pair.{Pair};
 
 use crate::connection::Connection;
-use crate::connections::{Over, Run};
+use crate::connections::{Connections, Over};
 use crate::ending::{CaptureEnd, CaptureFault, CaptureJob, Ending, Form, Stop};
 use crate::fault::ReadFault;
 use crate::packets::{FileEnd, Packets};
+use crate::sight::{Sight, sight_of};
+use crate::utp::flow_lines;
 use bt_io::{Source, Target};
 use bt_jobs::output::write_out;
-use std::alloc::Global;
+use bt_pcap::Packet;
+use bt_talk::{Terms, When};
+use bt_utp::UtpFlows;
+use std::alloc::{AllocError, Global};
 use std::hash::RandomState;
+
+/// A capture that is read: its connections, and the packets that aren't TCP.
+#[derive(Drop)]
+pub(crate) struct Run {
+    alloc: Global,
+    /// The time of the first packet.
+    start: Option<u64>,
+    /// The packets of uTP, which are counted.
+    utp: UtpFlows,
+    skipped: u64,
+    connections: Connections,
+}
+
+impl Run {
+    ghost use Rattle.std.specs.Prelude.{◌++◌, ◌+◌, ◌-◌, ◌^◌, ◌≤◌, min, IfOk};
+    ghost use Rattle.std.specs.List.{All};
+    ghost use Rattle.bt_io.specs.Counts.{counted as counted_if, one_more};
+    ghost use Rattle.bt_pcap.specs.Formats.{Captured};
+    ghost use Rattle.bt_pcap.specs.Steps.{captured};
+    ghost use Rattle.bt_capture.specs.Arrivals.{AreEarlier, Arrival, Clock, arrivals, arrivals_in, clock_of, count_skipped, first_time, is_no_segment, with_packet};
+    ghost use Rattle.bt_capture.specs.Bounds.{IsBounded};
+    ghost use Rattle.bt_capture.specs.FlowTexts.{datagrams, datagrams_in};
+    ghost use Rattle.bt_capture.specs.Following.{Follows, Goes, Since, asked_of, since};
+    ghost use Rattle.bt_capture.specs.Runs.{since_first};
+    ghost use Rattle.bt_capture.specs.Sights.{seen};
+
+    /// Starts before a capture's first packet. `keys` are those of the table of connections.
+    ///
+    /// # Errors
+    /// `AllocError` when out of memory.
+    fn new(alloc: Global, keys: RandomState, terms: Terms, form: Form) -> Result<Run, AllocError>
+        ensures follows { IfOk result (λ run. (start : Since) → Follows start start.target (clock_of []) [] run.connections.table run.connections) }
+        ensures asked { IfOk result (λ run. asked_of run.connections ≡ record { terms = terms; form = form }) }
+        ensures start { IfOk result (λ run. run.start ≡ None) }
+        ensures utp { IfOk result (λ run. AreCounted [] run.utp) }
+        ensures skipped { IfOk result (λ run. run.skipped ≡ 0) }
+        ensures bounded { IfOk result (λ run. IsBounded run.connections) }
+    {
+        Ok(Run {
+            alloc,
+            start: None,
+            utp: UtpFlows::new(alloc),
+            skipped: 0,
+            connections: Connections::new(alloc, keys, terms, form)?,
+        })
+    }
+
+    /// Counts a packet that isn't TCP.
+    fn skip(&mut self)
+        ensures { self.new ≡ record self.old { skipped = one_more self.old.skipped } }
+    {
+        self.skipped = self.skipped.saturating_add(1);
+    }
+
+    /// Takes what a packet carries.
+    fn take_sight(&mut self, sight: &Sight, when: When, from: u64) -> Result<(), AllocError>
+        ensures goes { (start now : TargetSeen) (clock : Clock) (came : List Arrival) → AreEarlier clock when.packet → when.packet ≡ clock.number
+            → All (λ x. x.when.packet ≤ when.packet) came → Follows (since start from) now clock came self.old.connections.table self.old.connections
+            → Goes (since start from) now (with_packet when clock) (came ++ arrivals_in when.packet when.nanos (seen sight.now)) self.new.connections.table
+            self.new.connections result }
+        ensures bounded { OnOk result (IsBounded self.old.connections → IsBounded self.new.connections) }
+        ensures asked { asked_of self.new.connections ≡ asked_of self.old.connections }
+        ensures start { self.new.start ≡ self.old.start }
+        ensures utp { OnOk result ((ds : List UtpPacket) → AreCounted ds self.old.utp → AreCounted (ds ++ datagrams_in (seen sight.now)) self.new.utp) }
+        ensures skipped { self.new.skipped ≡ counted_if (is_no_segment (seen sight.now)) self.old.skipped }
+    {
+        match sight {
+            Sight::Segment(segment) => self.connections.take_segment(segment, when, from),
+            Sight::Utp(datagram) => {
+                self.skip();
+                self.utp.take(datagram)
+            }
+            Sight::Other => {
+                self.skip();
+                Ok(())
+            }
+        }
+    }
+
+    /// Takes the next packet; `number` is its number in the capture, counted from 1.
+    ///
+    /// # Errors
+    /// `AllocError` when out of memory.
+    fn take(&mut self, packet: &Packet, number: u64) -> Result<(), AllocError>
+        ensures goes { (start now : TargetSeen) (packets : List Captured) → number ≡ min (length packets + 1) (2 ^ 64 - 1)
+            → self.old.start ≡ first_time packets
+            → Follows (since_first start packets) now (clock_of packets) (arrivals packets) self.old.connections.table self.old.connections
+            → let all = packets ++ captured packet.now ∷ [] in
+            Goes (since_first start all) now (clock_of all) (arrivals all) self.new.connections.table self.new.connections result }
+        ensures bounded { OnOk result (IsBounded self.old.connections → IsBounded self.new.connections) }
+        ensures asked { asked_of self.new.connections ≡ asked_of self.old.connections }
+        ensures start { (packets : List Captured) → self.old.start ≡ first_time packets → self.new.start ≡ first_time (packets ++ captured packet.now ∷ []) }
+        ensures utp { OnOk result ((packets : List Captured) → AreCounted (datagrams packets) self.old.utp
+            → AreCounted (datagrams (packets ++ captured packet.now ∷ [])) self.new.utp) }
+        ensures skipped { (packets : List Captured) → self.old.skipped ≡ count_skipped packets
+            → self.new.skipped ≡ count_skipped (packets ++ captured packet.now ∷ []) }
+    {
+        let from = self.start.unwrap_or(packet.nanos);
+        self.start = Some(from);
+        let when = When {
+            nanos: packet.nanos,
+            packet: number,
+        };
+        self.take_sight(&sight_of(packet), when, from)?;
+        self.connections.end_quiet(when, from)
+    }
+
+    /// Returns the lines on packets of uTP. There are none if only a stream is told.
+    ///
+    /// # Errors
+    /// `AllocError` when out of memory.
+    fn utp_lines(&self) -> Result<Vec<u8>, AllocError>
+        ensures { IfOk result (λ text. (ds : List UtpPacket) → AreCounted ds self.now.utp → text.items ≡ utp_text self.now.connections.teller.form ds) }
+    {
+        let form = self.connections.teller.form;
+        if form.stream.is_some() {
+            return Ok(Vec::new(self.alloc));
+        }
+        flow_lines(self.alloc, &self.utp, form.json)
+    }
+}
 
 /// Writes the text that is kept.
 fn write<W: Target>(run: &mut Run, writer: &mut W) -> Result<(), CaptureFault>
     ensures after { (ph : Phase) (o : Origin) (left : Option (List ℕ)) (es : List (Pair × Held)) (r : Reading)
         → IsTellingIn ph o left (W.seen writer.old) es run.old r → IsAfterIn ph o left (W.seen writer.new) es run.new r result }
-    ensures table { run.new.table ≡ run.old.table }
-    ensures empty { OnOk result (IsEmpty run.new.teller) }
+    ensures table { run.new.connections.table ≡ run.old.connections.table }
+    ensures empty { OnOk result (IsEmpty run.new.connections.teller) }
 {
-    match run.teller.flush(writer) {
+    match run.connections.teller.flush(writer) {
         Ok(()) => Ok(()),
         Err(_) => Err(CaptureFault::Write),
     }
@@ -42,9 +168,9 @@ fn write<W: Target>(run: &mut Run, writer: &mut W) -> Result<(), CaptureFault>
 fn write_if_full<W: Target>(run: &mut Run, writer: &mut W) -> Result<(), CaptureFault>
     ensures after { (ph : Phase) (o : Origin) (left : Option (List ℕ)) (es : List (Pair × Held)) (r : Reading)
         → IsTellingIn ph o left (W.seen writer.old) es run.old r → IsAfterIn ph o left (W.seen writer.new) es run.new r result }
-    ensures table { run.new.table ≡ run.old.table }
+    ensures table { run.new.connections.table ≡ run.old.connections.table }
 {
-    if run.teller.is_full() {
+    if run.connections.teller.is_full() {
         write(run, writer)
     } else {
         Ok(())
@@ -53,8 +179,8 @@ fn write_if_full<W: Target>(run: &mut Run, writer: &mut W) -> Result<(), Capture
 
 /// Takes the next packet of what was read, and tells whether there was one.
 fn step(run: &mut Run, packets: &mut Packets) -> Result<bool, Stop>
-    ensures after { (o : Origin) (left : Option (List ℕ)) (now : TargetSeen) → IsTelling o left now run.old.table run.old packets.old
-        → IsAfter o left now run.new.table run.new packets.new result }
+    ensures after { (o : Origin) (left : Option (List ℕ)) (now : TargetSeen) → IsTelling o left now run.old.connections.table run.old packets.old
+        → IsAfter o left now run.new.connections.table run.new packets.new result }
     ensures advances { result ≡ Ok true → Advances packets.old packets.new }
     ensures stays { result ≡ Ok false → GoesOn packets.old [] [] packets.new }
     ensures waits { result ≡ Ok false → Waits packets.new }
@@ -79,8 +205,8 @@ fn read_more<R: Source, W: Target>(
     writer: &mut W,
 ) -> Result<bool, Stop>
     requires { length packets.old.held < 1048604 }
-    ensures after { (o : Origin) → IsTelling o (R.seen reader.old).left (W.seen writer.old) run.old.table run.old packets.old
-        → IsAfter o (R.seen reader.new).left (W.seen writer.new) run.new.table run.new packets.new result }
+    ensures after { (o : Origin) → IsTelling o (R.seen reader.old).left (W.seen writer.old) run.old.connections.table run.old packets.old
+        → IsAfter o (R.seen reader.new).left (W.seen writer.new) run.new.connections.table run.new packets.new result }
     ensures advances { result ≡ Ok true → Advances packets.old packets.new }
     ensures more { Waits packets.old → IsMore result packets.new (R.seen reader.old) (R.seen reader.new) }
 {
@@ -115,26 +241,22 @@ fn turn<R: Source, W: Target>(
     reader: &mut R,
     writer: &mut W,
 ) -> Result<Option<FileEnd>, Stop>
-    ensures after { (o : Origin) → IsTelling o (R.seen reader.old).left (W.seen writer.old) run.old.table run.old packets.old
-        → IsAfter o (R.seen reader.new).left (W.seen writer.new) run.new.table run.new packets.new result }
+    ensures after { (o : Origin) → IsTelling o (R.seen reader.old).left (W.seen writer.old) run.old.connections.table run.old packets.old
+        → IsAfter o (R.seen reader.new).left (W.seen writer.new) run.new.connections.table run.new packets.new result }
     ensures advances { result ≡ Ok None → Advances packets.old packets.new }
     ensures turn { IsTurn result packets.new (R.seen reader.old) (R.seen reader.new) }
 {
-    match step(run, packets) {
-        Ok(true) => match write_if_full(run, writer) {
+    if step(run, packets)? {
+        return match write_if_full(run, writer) {
             Ok(()) => Ok(None),
             Err(fault) => Err(Stop::Fault(fault)),
-        },
-        Ok(false) => match read_more(run, packets, reader, writer) {
-            Ok(true) => Ok(None),
-            Ok(false) => match ended(packets) {
-                Ok(end) => Ok(Some(end)),
-                Err(stop) => Err(stop),
-            },
-            Err(stop) => Err(stop),
-        },
-        Err(stop) => Err(stop),
+        };
     }
+    if read_more(run, packets, reader, writer)? {
+        return Ok(None);
+    }
+    let end = ended(packets)?;
+    Ok(Some(end))
 }
 
 /// Takes all packets of the file.
@@ -144,15 +266,13 @@ fn read_all<R: Source, W: Target>(
     reader: &mut R,
     writer: &mut W,
 ) -> Result<FileEnd, Stop>
-    ensures after { (o : Origin) → IsTelling o (R.seen reader.old).left (W.seen writer.old) run.old.table run.old packets.old
-        → IsAfter o (R.seen reader.new).left (W.seen writer.new) run.new.table run.new packets.new result }
+    ensures after { (o : Origin) → IsTelling o (R.seen reader.old).left (W.seen writer.old) run.old.connections.table run.old packets.old
+        → IsAfter o (R.seen reader.new).left (W.seen writer.new) run.new.connections.table run.new packets.new result }
     ensures all { IsAllRead result packets.new (R.seen reader.old) (R.seen reader.new) }
 {
     for _turn in 0..u64::MAX {
-        match turn(run, packets, reader, writer) {
-            Ok(None) => {}
-            Ok(Some(end)) => return Ok(end),
-            Err(stop) => return Err(stop),
+        if let Some(end) = turn(run, packets, reader, writer)? {
+            return Ok(end);
         }
     }
     Err(Stop::Fault(CaptureFault::Turns))
@@ -167,7 +287,8 @@ fn tell_last<W: Target>(
     ensures after { (o : Origin) (left : Option (List ℕ)) (p : Pair) (es : List (Pair × Held)) (r : Reading) → lookup (same_pair p) es ≡ None
         → IsTellingIn AtEnd o left (W.seen writer.old) ((p, connection) ∷ es) run.old r → IsAfterIn AtEnd o left (W.seen writer.new) es run.new r result }
 {
-    match run.report(connection, Over::Open) {
+    let from = run.start.unwrap_or(0);
+    match run.connections.report(connection, Over::Open, from) {
         Ok(()) => write_if_full(run, writer),
         Err(_) => Err(CaptureFault::Memory),
     }
@@ -175,26 +296,23 @@ fn tell_last<W: Target>(
 
 /// Tells of the connections that are left, and writes all text.
 fn finish<W: Target>(run: &mut Run, writer: &mut W) -> Result<(), CaptureFault>
-    ensures after { (o : Origin) (left : Option (List ℕ)) (r : Reading) → IsTelling o left (W.seen writer.old) run.old.table run.old r
+    ensures after { (o : Origin) (left : Option (List ℕ)) (r : Reading) → IsTelling o left (W.seen writer.old) run.old.connections.table run.old r
         → IsAfterIn AtEnd o left (W.seen writer.new) [] run.new r result }
-    ensures empty { OnOk result (IsEmpty run.new.teller) }
+    ensures empty { OnOk result (IsEmpty run.new.connections.teller) }
 {
-    let Ok(rest) = run.rest() else {
+    let Ok(rest) = run.connections.rest() else {
         return Err(CaptureFault::Memory);
     };
     for (_, connection) in rest {
-        match tell_last(run, connection, writer) {
-            Ok(()) => {}
-            Err(fault) => return Err(fault),
-        }
+        tell_last(run, connection, writer)?;
     }
     write(run, writer)
 }
 
 /// Writes the lines on packets of uTP, after all reports. There are none if only a stream is told.
 fn write_utp<W: Target>(run: &Run, writer: &mut W) -> Result<(), CaptureFault>
-    ensures added { (ds : List Utp) → AreCounted ds run.now.utp
-        → Adds (utp_text run.now.teller.form ds) (W.seen writer.old) (W.seen writer.new) result }
+    ensures added { (ds : List UtpPacket) → AreCounted ds run.now.utp
+        → Adds (utp_text run.now.connections.teller.form ds) (W.seen writer.old) (W.seen writer.new) result }
 {
     let Ok(lines) = run.utp_lines() else {
         return Err(CaptureFault::Memory);
@@ -218,20 +336,20 @@ fn ending_of(end: FileEnd) -> Ending
 /// Returns what the capture had, once all is told.
 fn end_of(run: &Run, packets: &Packets, ending: Ending) -> CaptureEnd
     ensures { (o : Origin) (seen : SourceSeen) (before now : TargetSeen) (i : IsTellingIn AtEnd o seen.left before [] run.now packets.now)
-        → IsEmpty run.now.teller → HasEndedSo ending packets.now o.source seen → Adds (utp_lines run.now.teller.form i.packets) before now done
+        → IsEmpty run.now.connections.teller → HasEndedSo ending packets.now o.source seen → Adds (utp_lines run.now.connections.teller.form i.packets) before now done
         → IsEndOf o seen now result }
 {
     CaptureEnd {
         packets: packets.packets(),
         skipped: run.skipped,
-        torrents: run.teller.torrents(),
-        lost: run.lost.memory,
-        is_refused: run.teller.is_refused(),
-        is_partial: run.teller.is_partial(),
+        torrents: run.connections.teller.torrents(),
+        lost: run.connections.lost.memory,
+        is_refused: run.connections.teller.is_refused(),
+        is_partial: run.connections.teller.is_partial(),
         ending,
-        absent: run.absent(),
-        unread: run.lost.crowd,
-        early: run.lost.early,
+        absent: run.connections.absent(),
+        unread: run.connections.lost.crowd,
+        early: run.connections.lost.early,
     }
 }
 
@@ -242,16 +360,12 @@ fn end_read<W: Target>(
     ending: Ending,
     writer: &mut W,
 ) -> Result<CaptureEnd, CaptureFault>
-    ensures { (o : Origin) (seen : SourceSeen) → IsTelling o seen.left (W.seen writer.old) run.old.table run.old packets.now
+    ensures { (o : Origin) (seen : SourceSeen) → IsTelling o seen.left (W.seen writer.old) run.old.connections.table run.old packets.now
         → HasEndedSo ending packets.now o.source seen → IsTold o seen (W.seen writer.new) result }
 {
-    match finish(run, writer) {
-        Ok(()) => match write_utp(run, writer) {
-            Ok(()) => Ok(end_of(run, packets, ending)),
-            Err(fault) => Err(fault),
-        },
-        Err(fault) => Err(fault),
-    }
+    finish(run, writer)?;
+    write_utp(run, writer)?;
+    Ok(end_of(run, packets, ending))
 }
 
 /// Takes all packets of the file, and tells of their connections.
@@ -261,7 +375,7 @@ fn tell_all<R: Source, W: Target>(
     reader: &mut R,
     writer: &mut W,
 ) -> Result<CaptureEnd, CaptureFault>
-    ensures { (o : Origin) → IsTelling o (R.seen reader.old).left (W.seen writer.old) run.old.table run.old packets.old
+    ensures { (o : Origin) → IsTelling o (R.seen reader.old).left (W.seen writer.old) run.old.connections.table run.old packets.old
         → HasGone o.source (R.seen reader.old) → IsTold o (R.seen reader.new) (W.seen writer.new) result }
 {
     match read_all(run, packets, reader, writer) {
@@ -300,6 +414,7 @@ pub fn run_capture<R: Source, W: Target>(
         show: job.show,
         json: job.json,
         stream: job.stream,
+        choice: job.choice,
     };
     match Run::new(alloc, keys, job.terms, form) {
         Ok(mut run) => match Packets::new(alloc) {

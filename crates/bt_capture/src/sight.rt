@@ -11,7 +11,7 @@ pub enum Sight<'a> {
     /// A segment of TCP.
     Segment(Segment<'a>),
     /// A packet of uTP.
-    Utp(Utp),
+    Utp(Utp<'a>),
     /// Something else.
     Other,
 }

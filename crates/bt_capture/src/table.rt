@@ -200,13 +200,9 @@ impl Table {
     {
         match self.last.take() {
             Some((last, other)) => {
-                match keep_either(&mut self.others, &mut self.silent, last, other) {
-                    Ok(()) => {
-                        self.last = Some((pair, connection));
-                        Ok(())
-                    }
-                    Err(error) => Err(error),
-                }
+                keep_either(&mut self.others, &mut self.silent, last, other)?;
+                self.last = Some((pair, connection));
+                Ok(())
             }
             None => {
                 self.last = Some((pair, connection));

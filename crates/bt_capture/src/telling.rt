@@ -1,20 +1,21 @@
 //! The text of reports and rows, or their JSON objects, or a stream's bytes, which are written in large pieces.
-ghost use Rattle.std.specs.Prelude.{◌≡◌, ◌⊎◌, ◌∷◌, ◌++◌, [], ℕ, List, OnOk, OnErr, true};
+ghost use Rattle.std.specs.Prelude.{◌≡◌, ◌⊎◌, ◌∷◌, ◌++◌, [], ℕ, List, OnOk, OnErr, string_bytes, true};
 ghost use Rattle.bt_io.specs.Counts.{counted as counted_by};
 ghost use Rattle.bt_io.specs.Seen.{TargetSeen, WriteFailed};
-ghost use Rattle.bt_told.specs.declared.report.Report.{Report};
+ghost use Rattle.bt_report.specs.declared.report.Report.{Report};
 ghost use Rattle.bt_capture.specs.Forms.{handed, is_stream, showing_by, wanted_by};
 ghost use Rattle.bt_capture.specs.Shown.{HasRows};
 ghost use Rattle.bt_talk.specs.Rooms.{heading_by, rows_in};
-ghost use Rattle.bt_capture.specs.Tellings.{is_told_with, is_refused_with, report_by, text_by};
+ghost use Rattle.bt_capture.specs.Tellings.{is_told_with, report_by, text_by};
 
+use crate::choice::{is_chosen, is_refused};
 use crate::ending::Form;
 use crate::reporting::body_of;
 use bt_io::{Target, WriteFault};
 use bt_jobs::output::write_out;
 use bt_remarks::Side;
+use bt_report::{Finding, Left, Report, ReportObject};
 use bt_talk::{Room, Showing, Talk};
-use bt_told::{Finding, Left, Report, put_report, put_report_object};
 use std::alloc::{AllocError, Global};
 
 /// How many bytes of text are kept before they are written.
@@ -31,17 +32,6 @@ fn is_told(finding: Finding) -> bool
     }
 }
 
-/// Tells whether a direction of a report with this finding is refused under the lenient rules.
-fn is_refused(finding: Finding) -> bool
-    ensures { result ≡ is_refused_with finding }
-{
-    match finding {
-        Finding::NotBitTorrent => false,
-        Finding::Accepted => false,
-        Finding::Refused => true,
-    }
-}
-
 /// Returns a count, one more after a report on a BitTorrent connection.
 fn counted(torrents: u64, finding: Finding) -> u64
     ensures { result ≡ counted_by (is_told_with finding) torrents }
@@ -54,42 +44,47 @@ fn counted(torrents: u64, finding: Finding) -> u64
 }
 
 /// Appends a report as text or, with `json`, as a JSON object.
-fn put_by(json: bool, report: &Report, text: &mut Vec<u8>) -> Result<(), AllocError>
-    ensures ok { OnOk result (text.new.items ≡ text.old.items ++ text_by json report.now) }
-    ensures err { OnErr result (text.new.items ≡ text.old.items) }
+fn put_by(json: bool, report: &Report, line: &mut String) -> Result<(), AllocError>
+    ensures { OnOk result (string_bytes line.new ≡ string_bytes line.old ++ text_by json report.now) }
 {
     if json {
-        put_report_object(report, text)
+        let object = ReportObject(report);
+        write!(line, "{object}")
     } else {
-        put_report(report, text)
+        write!(line, "{report}")
     }
 }
 
-/// Appends a report as it is told in this form. It has no text if only a stream is told.
-fn put_in(form: Form, report: &Report, text: &mut Vec<u8>) -> Result<(), AllocError>
-    ensures ok { OnOk result (text.new.items ≡ text.old.items ++ report_by form report.now) }
-    ensures err { OnErr result (text.new.items ≡ text.old.items) }
+/// Appends a report as it is told in this form. It has no text if it isn't chosen, or if only a stream is told.
+fn put_in(form: Form, report: &Report, line: &mut String) -> Result<(), AllocError>
+    ensures { OnOk result (string_bytes line.new ≡ string_bytes line.old ++ report_by form report.now) }
 {
     if form.stream.is_some() {
         return Ok(());
     }
-    put_by(form.json, report, text)
+    if !is_chosen(form.choice, report) {
+        return Ok(());
+    }
+    put_by(form.json, report, line)
 }
 
 /// Tells reports, and rows between them, or a stream: the text is kept, and written in large pieces.
 #[derive(Drop)]
 pub struct Teller {
     text: Vec<u8>,
+    /// The report that is told last: an error while it is written leaves the text as before.
+    line: String,
     pub(crate) form: Form,
-    /// How many reports are on BitTorrent connections.
+    /// How many reports are on BitTorrent connections, those that aren't chosen too.
     torrents: u64,
+    /// Whether a direction of a chosen report is refused.
     is_refused: bool,
-    /// Whether a report is on a connection of which only a part was read.
+    /// Whether a chosen report is on a connection of which only a part was read.
     is_partial: bool,
 }
 
 impl Teller {
-    ghost use Rattle.bt_capture.specs.Tellings.{Tells, TellsOn, Says, SaysAfter, IsStopped, count_torrents, is_one_partial, is_one_refused, IsEmpty};
+    ghost use Rattle.bt_capture.specs.Tellings.{Tells, TellsOn, Says, SaysAfter, IsStopped, chosen_by, count_torrents, is_one_partial, is_one_refused, IsEmpty};
 
     /// Starts with no report.
     pub fn new(alloc: Global, form: Form) -> Teller
@@ -99,6 +94,7 @@ impl Teller {
     {
         Teller {
             text: Vec::new(alloc),
+            line: String::new(alloc),
             form,
             torrents: 0,
             is_refused: false,
@@ -118,11 +114,14 @@ impl Teller {
         ensures kept { OnErr result (self.new.text.items ≡ self.old.text.items) }
         ensures form { self.new.form ≡ self.old.form }
     {
-        put_in(self.form, report, &mut self.text)?;
+        self.line.clear();
+        put_in(self.form, report, &mut self.line)?;
+        self.text.extend_from_slice(self.line.as_bytes())?;
         let finding = report.finding();
         self.torrents = counted(self.torrents, finding);
-        self.is_refused |= is_refused(finding);
-        self.is_partial |= report.is_partial();
+        let chosen = is_chosen(self.form.choice, report);
+        self.is_refused |= chosen & is_refused(finding);
+        self.is_partial |= chosen & report.is_partial();
         Ok(())
     }
 
@@ -279,18 +278,18 @@ impl Teller {
         self.torrents
     }
 
-    /// Tells whether a direction of a report is refused under the lenient rules.
+    /// Tells whether a direction of a chosen report is refused under the lenient rules.
     pub fn is_refused(&self) -> bool
         ensures { (start now : TargetSeen) (reports : List Report) (written : List ℕ) → Tells start now self.now reports written
-            → result ≡ is_one_refused reports }
+            → result ≡ is_one_refused (chosen_by self.now.form reports) }
     {
         self.is_refused
     }
 
-    /// Tells whether a report is on a BitTorrent connection of which only a part was read.
+    /// Tells whether a chosen report is on a BitTorrent connection of which only a part was read.
     pub fn is_partial(&self) -> bool
         ensures { (start now : TargetSeen) (reports : List Report) (written : List ℕ) → Tells start now self.now reports written
-            → result ≡ is_one_partial reports }
+            → result ≡ is_one_partial (chosen_by self.now.form reports) }
     {
         self.is_partial
     }

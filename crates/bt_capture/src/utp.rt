@@ -1,18 +1,17 @@
 //! The lines on packets of uTP.
-ghost use Rattle.std.specs.Prelude.{◌≡◌, ◌++◌, ◌+◌, take, List, IfOk, OnOk, OnErr};
-ghost use Rattle.bt_packet.specs.declared.utp.Utp.{Utp};
+ghost use Rattle.std.specs.Prelude.{◌≡◌, ◌++◌, ◌+◌, take, List, IfOk, OnOk, string_bytes};
+ghost use Rattle.bt_packet.specs.Utp.{UtpPacket};
 ghost use Rattle.bt_utp.specs.Flows.{flows as flows_of};
 ghost use Rattle.bt_utp.specs.States.{AreCounted};
 ghost use Rattle.bt_capture.specs.FlowTexts.{flow_text, flow_texts};
 
-use bt_told::{UtpPackets, put_utp, put_utp_object};
+use bt_report::{UtpObject, UtpPackets};
 use bt_utp::{Counted, UtpFlows};
 use std::alloc::{AllocError, Global};
 
 /// Appends the line on a flow, as text or as a JSON object, if one of its datagrams has another one near.
-fn put_flow(json: bool, flow: Counted, text: &mut Vec<u8>) -> Result<(), AllocError>
-    ensures ok { OnOk result (text.new.items ≡ text.old.items ++ flow_text json flow) }
-    ensures err { OnErr result (text.new.items ≡ text.old.items) }
+fn put_flow(json: bool, flow: Counted, text: &mut String) -> Result<(), AllocError>
+    ensures { OnOk result (string_bytes text.new ≡ string_bytes text.old ++ flow_text json flow) }
 {
     if flow.count == 0 {
         return Ok(());
@@ -22,11 +21,14 @@ fn put_flow(json: bool, flow: Counted, text: &mut Vec<u8>) -> Result<(), AllocEr
         target: flow.target,
         count: flow.count,
         is_least: flow.is_least,
+        source_reason: flow.source_reason,
+        target_reason: flow.target_reason,
     };
     if json {
-        put_utp_object(&packets, text)
+        let object = UtpObject(&packets);
+        write!(text, "{object}")
     } else {
-        put_utp(&packets, text)
+        write!(text, "{packets}")
     }
 }
 
@@ -35,10 +37,10 @@ fn put_place(
     json: bool,
     flows: &UtpFlows,
     place: usize,
-    text: &mut Vec<u8>,
+    text: &mut String,
 ) -> Result<(), AllocError>
-    ensures { OnOk result ((ds : List Utp) → AreCounted ds flows.now → text.old.items ≡ flow_texts json (take place (flows_of ds))
-        → text.new.items ≡ flow_texts json (take (place + 1) (flows_of ds))) }
+    ensures { OnOk result ((ds : List UtpPacket) → AreCounted ds flows.now → string_bytes text.old ≡ flow_texts json (take place (flows_of ds))
+        → string_bytes text.new ≡ flow_texts json (take (place + 1) (flows_of ds))) }
 {
     match flows.counted(place) {
         Some(flow) => put_flow(json, flow, text),
@@ -51,14 +53,14 @@ fn put_place(
 /// # Errors
 /// `AllocError` when out of memory.
 pub fn flow_lines(alloc: Global, flows: &UtpFlows, json: bool) -> Result<Vec<u8>, AllocError>
-    ensures { IfOk result (λ text. (ds : List Utp) → AreCounted ds flows.now → text.items ≡ flow_texts json (flows_of ds)) }
+    ensures { IfOk result (λ text. (ds : List UtpPacket) → AreCounted ds flows.now → text.items ≡ flow_texts json (flows_of ds)) }
 {
-    let mut text = Vec::new(alloc);
+    let mut text = String::new(alloc);
     for place in 0..flows.len() {
         match put_place(json, flows, place, &mut text) {
             Ok(()) => {}
             Err(error) => return Err(error),
         }
     }
-    Ok(text)
+    Ok(text.into_bytes())
 }

@@ -15,7 +15,7 @@ const SEGMENT: &[u8] = b"\x02\0\0\0\0\x02\x02\0\0\0\0\x01\x08\0\x45\0\0\x29\0\x0
 
 /// The same hosts, and uTP with the id 4660.
 const UTP: &[u8] = b"\x02\0\0\0\0\x02\x02\0\0\0\0\x01\x08\0\x45\0\0\x30\0\x01\x40\0\x40\x11\0\0\
-    \x0a\0\0\x01\x0a\0\0\x02\x1a\xe1\0\x50\0\x1c\0\0\x01\0\x12\x34\0\0\0\x01\0\0\0\0\0\x10\0\0\0\x05\0\x04";
+    \x0a\0\0\x01\x0a\0\0\x02\x1a\xe1\0\x50\0\x1c\0\0\x21\0\x12\x34\0\0\0\x01\0\0\0\0\0\x10\0\0\0\x05\0\x04";
 
 /// How reading a capture ended.
 #[derive(Clone, Copy, PartialEq, Eq)]

@@ -17,35 +17,43 @@ const LITTLE_NANOS: &[u8] = b"\x4d\x3c\xb2\xa1\x02\0\x04\0\0\0\0\0\0\0\0\0\xff\x
 const BIG_NANOS: &[u8] = b"\xa1\xb2\x3c\x4d\0\x02\0\x04\0\0\0\0\0\0\0\0\0\0\xff\xff\0\0\0\x71\
     \0\0\0\x01\0\0\0\x02\0\0\0\x03\0\0\0\x05abc\xff\xff\xff\xff\0\x0f\x42\x3f\0\0\0\0\0\0\0\0";
 
-/// A section with interfaces of micro- and nanoseconds, each kind of packet, a packet of an unknown
-/// interface and a block of another type; then a section in the other byte order, with packets before
-/// its interface, which counts eighths of a second.
+/// A section with interfaces of micro- and nanoseconds, each kind of packet and a block of another type; then a section in the other
+/// byte order, whose interface counts eighths of a second.
 const SECTIONS: &[u8] =
     b"\x0a\x0d\x0d\x0a\x1c\0\0\0\x4d\x3c\x2b\x1a\x01\0\0\0\xff\xff\xff\xff\xff\xff\xff\xff\x1c\0\0\0\
     \x01\0\0\0\x14\0\0\0\x01\0\0\0\xff\xff\0\0\x14\0\0\0\
     \x01\0\0\0\x28\0\0\0\x71\0\0\0\xff\xff\0\0\x02\0\x03\0eth\0\x09\0\x01\0\x09\0\0\0\0\0\0\0\x28\0\0\0\
     \x06\0\0\0\x24\0\0\0\x01\0\0\0\0\0\0\0\x07\0\0\0\x03\0\0\0\x09\0\0\0abc\0\x24\0\0\0\
     \x06\0\0\0\x24\0\0\0\0\0\0\0\x01\0\0\0\x01\0\0\0\x02\0\0\0\x02\0\0\0de\0\0\x24\0\0\0\
-    \x06\0\0\0\x20\0\0\0\x02\0\0\0\0\0\0\0\0\0\0\0\0\0\0\0\0\0\0\0\x20\0\0\0\
     \x03\0\0\0\x14\0\0\0\x03\0\0\0fgh\0\x14\0\0\0\
     \x02\0\0\0\x24\0\0\0\x01\0\x05\0\0\0\0\0\x08\0\0\0\x01\0\0\0\x01\0\0\0i\0\0\0\x24\0\0\0\
     \x04\0\0\0\x0c\0\0\0\x0c\0\0\0\
     \x0a\x0d\x0d\x0a\0\0\0\x1c\x1a\x2b\x3c\x4d\0\x01\0\0\xff\xff\xff\xff\xff\xff\xff\xff\0\0\0\x1c\
-    \0\0\0\x03\0\0\0\x10\0\0\0\0\0\0\0\x10\
-    \0\0\0\x06\0\0\0\x20\0\0\0\0\0\0\0\0\0\0\0\x07\0\0\0\0\0\0\0\0\0\0\0\x20\
     \0\0\0\x01\0\0\0\x1c\0\x65\0\0\0\0\xff\xff\0\x09\0\x01\x83\0\0\0\0\0\0\x1c\
     \0\0\0\x06\0\0\0\x24\0\0\0\0\0\0\0\0\0\0\0\x14\0\0\0\x09\0\0\0\x09jklm\0\0\0\x24";
+
+/// Interfaces whose time stamps count microseconds, since the option that says otherwise comes after the last one, 10^-20 s, 2^-64 s and
+/// 10^-127 s; a packet of each.
+const RESOLUTIONS: &[u8] = b"\x0a\x0d\x0d\x0a\x10\0\0\0\x4d\x3c\x2b\x1a\x10\0\0\0\
+    \x01\0\0\0\x20\0\0\0\x01\0\0\0\0\0\0\0\0\0\0\0\x09\0\x01\0\x09\0\0\0\x20\0\0\0\
+    \x01\0\0\0\x1c\0\0\0\x02\0\0\0\0\0\0\0\x09\0\x01\0\x14\0\0\0\x1c\0\0\0\
+    \x01\0\0\0\x1c\0\0\0\x03\0\0\0\0\0\0\0\x09\0\x01\0\xc0\0\0\0\x1c\0\0\0\
+    \x01\0\0\0\x1c\0\0\0\x04\0\0\0\0\0\0\0\x09\0\x01\0\x7f\0\0\0\x1c\0\0\0\
+    \x06\0\0\0\x20\0\0\0\0\0\0\0\0\0\0\0\x07\0\0\0\0\0\0\0\0\0\0\0\x20\0\0\0\
+    \x06\0\0\0\x20\0\0\0\x01\0\0\0\xe8\0\0\0\0\x10\xa5\xd4\0\0\0\0\0\0\0\0\x20\0\0\0\
+    \x06\0\0\0\x20\0\0\0\x02\0\0\0\0\0\0\x80\0\0\0\0\0\0\0\0\0\0\0\0\x20\0\0\0\
+    \x06\0\0\0\x20\0\0\0\x03\0\0\0\xff\xff\xff\xff\xff\xff\xff\xff\0\0\0\0\0\0\0\0\x20\0\0\0";
 
 /// A section header, an interface and a packet of the interface of that number.
 const SECTION: &[u8] = b"\x0a\x0d\x0d\x0a\x10\0\0\0\x4d\x3c\x2b\x1a\x10\0\0\0";
 
 const INTERFACE: &[u8] = b"\x01\0\0\0\x14\0\0\0\x01\0\0\0\xff\xff\0\0\x14\0\0\0";
 
-const PACKET_63: &[u8] =
-    b"\x06\0\0\0\x20\0\0\0\x3f\0\0\0\0\0\0\0\0\0\0\0\0\0\0\0\0\0\0\0\x20\0\0\0";
+const PACKET_1023: &[u8] =
+    b"\x06\0\0\0\x20\0\0\0\xff\x03\0\0\0\0\0\0\0\0\0\0\0\0\0\0\0\0\0\0\x20\0\0\0";
 
-const PACKET_64: &[u8] =
-    b"\x06\0\0\0\x20\0\0\0\x40\0\0\0\0\0\0\0\0\0\0\0\0\0\0\0\0\0\0\0\x20\0\0\0";
+const PACKET_1024: &[u8] =
+    b"\x06\0\0\0\x20\0\0\0\0\x04\0\0\0\0\0\0\0\0\0\0\0\0\0\0\0\0\0\0\x20\0\0\0";
 
 /// A packet of a row.
 fn packet(link: u32, nanos: u64, bytes: &[u8], length: u32) -> Packet<'_> {
@@ -143,6 +151,21 @@ fn reads_sections(rt: HostRuntime) {
     );
 }
 
+/// Time stamps of the finest resolutions, and one that no option changes any more.
+#[test]
+fn reads_resolutions(rt: HostRuntime) {
+    check(
+        &rt,
+        RESOLUTIONS,
+        &[
+            packet(1, 7_000, b"", 0),
+            packet(2, 10, b"", 0),
+            packet(3, 500_000_000, b"", 0),
+            packet(4, 0, b"", 0),
+        ],
+    );
+}
+
 /// The last interface that is noted, and the first one that isn't.
 #[test]
 fn notes_interfaces(rt: HostRuntime) {
@@ -157,8 +180,8 @@ fn notes_interfaces(rt: HostRuntime) {
         used: 32,
         skip: 0,
     });
-    assert!(rt; reader.step(PACKET_63) == found);
-    assert!(rt; reader.step(PACKET_64) == Ok(Step::Passed { used: 32, skip: 0 }));
+    assert!(rt; reader.step(PACKET_1023) == found);
+    assert!(rt; reader.step(PACKET_1024) == Err(FileFault::Undescribed));
 }
 
 /// Records longer than what is kept, of 2 MiB and of 16 MiB, which is the most.
@@ -197,7 +220,7 @@ fn skips_the_rest(rt: HostRuntime) -> Result<(), AllocError> {
 /// Each fault, which stays when the bytes are given again, and its text.
 #[test]
 fn finds_faults(rt: HostRuntime) -> Result<(), AllocError> {
-    let rows: [(&[u8], &[u8], FileFault, &str); 9] = [
+    let rows: [(&[u8], &[u8], FileFault, &str); 15] = [
         (
             b"",
             b"\xd4\xc3\xb2\xa2",
@@ -245,6 +268,42 @@ fn finds_faults(rt: HostRuntime) -> Result<(), AllocError> {
             b"\x03\0\0\0\x11\0\0\x01",
             FileFault::Length,
             "a block of a pcapng file has an impossible length",
+        ),
+        (
+            SECTION,
+            b"\x06\0\0\0\x20\0\0\0\0\0\0\0\0\0\0\0\0\0\0\0\0\0\0\0\0\0\0\0\x20\0\0\0",
+            FileFault::Undescribed,
+            "a packet of a pcapng file names an interface that isn't described, or is beyond the first 1,024",
+        ),
+        (
+            SECTION,
+            b"\x02\0\0\0\x20\0\0\0\0\0\0\0\0\0\0\0\0\0\0\0\0\0\0\0\0\0\0\0\x20\0\0\0",
+            FileFault::Undescribed,
+            "a packet of a pcapng file names an interface that isn't described, or is beyond the first 1,024",
+        ),
+        (
+            SECTION,
+            b"\x03\0\0\0\x10\0\0\0\0\0\0\0\x10\0\0\0",
+            FileFault::Undescribed,
+            "a packet of a pcapng file names an interface that isn't described, or is beyond the first 1,024",
+        ),
+        (
+            SECTION,
+            b"\x05\0\0\0\x0c\0\0\0\x0d\0\0\0",
+            FileFault::Unlike,
+            "the two lengths of a block of a pcapng file differ",
+        ),
+        (
+            SECTION,
+            b"\x0a\x0d\x0d\x0a\x10\0\0\0\x4d\x3c\x2b\x1a\0\0\0\x10",
+            FileFault::Unlike,
+            "the two lengths of a block of a pcapng file differ",
+        ),
+        (
+            SECTION,
+            b"\x03\0\0\0\x10\0\0\0\0\0\0\0\x0f\0\0\0",
+            FileFault::Unlike,
+            "the two lengths of a block of a pcapng file differ",
         ),
         (
             LITTLE_RECORDS,

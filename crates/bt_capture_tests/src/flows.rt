@@ -197,6 +197,28 @@ fn out_of_order(rt: HostRuntime) -> Result<(), Fail> {
     check(&rt, rt.alloc(), OUT_OF_ORDER)
 }
 
+const WHOLE: &[Step] = &[
+    Step::Syn(999),
+    Step::Data(1004, b"ef"),
+    Step::Data(1000, b"abcd??gh"),
+    Step::Data(1002, b"??"),
+    Step::Data(1008, b"ij"),
+    Step::Data(1011, b"l"),
+    Step::Out(b"abcdefghij"),
+    Step::Next(10),
+    Step::Conflicts(4),
+    Step::FirstGap(Some(Gap {
+        place: 10,
+        length: 1,
+    })),
+];
+
+/// A whole direction: swapped, repeated, changed on the second time, and with a gap in the end.
+#[test]
+fn makes_the_stream(rt: HostRuntime) -> Result<(), Fail> {
+    check(&rt, rt.alloc(), WHOLE)
+}
+
 const WITHOUT_SYN: &[Step] = &[
     Step::Base(None),
     Step::Data(0xffff_fffe, b"abc"),
@@ -295,6 +317,42 @@ const GIVES_UP: &[Step] = &[
 #[test]
 fn gives_up(rt: HostRuntime) -> Result<(), Fail> {
     check(&rt, rt.alloc(), GIVES_UP)
+}
+
+const STAYS_OPEN: &[Step] = &[
+    Step::Data(0, b"ab"),
+    Step::Hear(2),
+    Step::Data(15_728_640, b"far"),
+    Step::IsLost(false),
+    Step::Data(2, b"cd"),
+    Step::Out(b"abcd"),
+    Step::HasHole(true),
+    Step::Hear(5),
+    Step::Data(15_728_643, b"far"),
+    Step::IsLost(true),
+];
+
+/// As above, but the first missing byte isn't acknowledged: the gap may still be filled. Once it is, it is final.
+#[test]
+fn stays_open(rt: HostRuntime) -> Result<(), Fail> {
+    check(&rt, rt.alloc(), STAYS_OPEN)
+}
+
+const KEEPS_ALIVE: &[Step] = &[
+    Step::Data(0, b"abcd"),
+    Step::Data(3, b"?"),
+    Step::Conflicts(0),
+    Step::Data(2, b"?"),
+    Step::Conflicts(1),
+    Step::Data(2, b"??"),
+    Step::Conflicts(3),
+    Step::Out(b"abcd"),
+];
+
+/// A keep-alive may have any byte before the next one (RFC 1122 4.2.3.6).
+#[test]
+fn keeps_alive(rt: HostRuntime) -> Result<(), Fail> {
+    check(&rt, rt.alloc(), KEEPS_ALIVE)
 }
 
 const FAR: &[Step] = &[

@@ -19,6 +19,11 @@ enum Step {
     Take(u32, bool, bool, usize, u64, Result<u64, PlaceFault>),
     /// An acknowledgement, and whether it came with a SYN.
     Hear(u32, bool, u64),
+    /// An acknowledgement that is passed over.
+    Unsent(u32),
+    /// Whether a segment without a FIN and without data would be passed over: its number, and whether it has a SYN.
+    Passes(u32, bool, bool),
+    IsPastFilling(u64, bool),
     Base(Option<u64>),
     Opening(Option<u32>),
     /// From this place on.
@@ -28,6 +33,7 @@ enum Step {
     Acked(u64),
     Fin(Option<u64>),
     High(u64),
+    MayBeNext(u32, bool),
 }
 
 /// Whether a call answers so.
@@ -36,7 +42,10 @@ fn goes(half: &mut Half, step: &Step) -> bool {
         Step::Take(sequence, syn, fin, captured, length, answer) => {
             half.take(sequence, syn, fin, captured, length) == answer
         }
-        Step::Hear(acked, opens, place) => half.hear(acked, opens) == place,
+        Step::Hear(acked, opens, place) => half.hear(acked, opens) == Some(place),
+        Step::Unsent(acked) => half.hear(acked, false).is_none(),
+        Step::Passes(sequence, syn, answer) => half.passes(sequence, syn, false, 0, 0) == answer,
+        Step::IsPastFilling(place, answer) => half.is_past_filling(place) == answer,
         Step::Base(place) => half.base() == place,
         Step::Opening(number) => half.opening() == number,
         Step::HasHole(next, answer) => half.has_hole(next) == answer,
@@ -44,6 +53,7 @@ fn goes(half: &mut Half, step: &Step) -> bool {
         Step::Acked(place) => half.acked() == place,
         Step::Fin(place) => half.fin() == place,
         Step::High(place) => half.high() == place,
+        Step::MayBeNext(number, answer) => half.may_be_next(number) == answer,
     }
 }
 
@@ -85,6 +95,70 @@ const SERVER: &[Step] = &[
 fn opens_and_closes(rt: HostRuntime) {
     check(&rt, "client", CLIENT);
     check(&rt, "server", SERVER);
+}
+
+const RESETS: &[Step] = &[
+    Step::MayBeNext(0x8000_0000, true),
+    Step::Take(0xffff_fffe, true, false, 0, 0, Ok(FIRST)),
+    Step::MayBeNext(0xffff_fffe, false),
+    Step::MayBeNext(0xffff_ffff, true),
+    Step::MayBeNext(0, false),
+    Step::Take(0xffff_ffff, false, false, 0, 8, Ok(FIRST)),
+    Step::MayBeNext(3, true),
+    Step::MayBeNext(7, true),
+    Step::MayBeNext(8, false),
+    Step::Hear(3, true, FIRST + 4),
+    Step::MayBeNext(2, false),
+    Step::MayBeNext(3, true),
+    Step::MayBeNext(0x8000_0003, false),
+    Step::MayBeNext(0x8000_0002, false),
+    Step::Hear(12, false, FIRST + 13),
+    Step::MayBeNext(11, false),
+    Step::MayBeNext(12, true),
+    Step::Take(12, false, true, 0, 0, Ok(FIRST + 13)),
+    Step::MayBeNext(13, true),
+    Step::MayBeNext(14, false),
+];
+
+/// A receiver may expect a number from what it acknowledged up to what was sent, which a FIN is too (RFC 9293 3.4). Numbers wrap.
+#[test]
+fn expects_next(rt: HostRuntime) {
+    check(&rt, "resets", RESETS);
+}
+
+/// The greatest window is 65,535 times 2^14, 0x3fff_c000.
+const WINDOW: &[Step] = &[
+    Step::Passes(0x3fff_c3e9, false, false),
+    Step::Take(1000, true, false, 0, 0, Ok(FIRST)),
+    Step::Passes(0x3fff_c3e8, false, false),
+    Step::Passes(0x3fff_c3e9, false, true),
+    Step::Passes(0x8000_0000, true, false),
+    Step::IsPastFilling(FIRST + 8, true),
+    Step::Hear(1001, true, FIRST),
+    Step::IsPastFilling(FIRST, false),
+    Step::Take(1001, false, false, 8, 8, Ok(FIRST)),
+    Step::Passes(0x8000_0000, true, true),
+    Step::Passes(0x3fff_c3f0, false, false),
+    Step::Passes(0x3fff_c3f1, false, true),
+    Step::Take(0x3fff_c3f1, false, true, 0, 0, Err(PlaceFault)),
+    Step::Fin(None),
+    Step::Sent(FIRST + 8, FIRST + 8),
+    Step::Take(0x8000_0000, false, false, 1, 1, Err(PlaceFault)),
+    Step::High(FIRST + 8),
+    Step::Unsent(0x3fff_c3f2),
+    Step::Acked(FIRST),
+    Step::Hear(1009, false, FIRST + 8),
+    Step::IsPastFilling(FIRST + 7, true),
+    Step::IsPastFilling(FIRST + 8, false),
+    Step::Take(1007, false, true, 0, 0, Err(PlaceFault)),
+    Step::Take(1008, false, true, 0, 0, Ok(FIRST + 7)),
+    Step::Hear(0x3fff_c3f1, false, FIRST + 8 + 0x3fff_c000),
+];
+
+/// A segment past the window changes nothing, nor an acknowledgement of what can't have been sent, nor a FIN before what was acknowledged.
+#[test]
+fn looks_at_the_window(rt: HostRuntime) {
+    check(&rt, "window", WINDOW);
 }
 
 const LATE: &[Step] = &[

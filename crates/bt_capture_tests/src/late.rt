@@ -1,8 +1,8 @@
 //! A report on gaps that are final, so that bytes of them may have come too late.
 use crate::objects::object_of;
 use crate::told::{both, text_of};
+use bt_report::{Direction, Report, Sender};
 use bt_tcp::{Gap, Gaps};
-use bt_told::{Direction, Report, Sender};
 use std::test::Fail;
 
 /// A direction of which these bytes came before a gap that is final.
@@ -11,6 +11,7 @@ fn lost(sent: u64, length: u64, count: u64, sum: u64) -> Direction {
         sender: Sender::Unknown(sent),
         exchange: 0,
         conflicts: 0,
+        strays: 0,
         gaps: Gaps {
             first: Some(Gap {
                 place: sent,

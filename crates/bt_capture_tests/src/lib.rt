@@ -18,6 +18,8 @@ mod late;
 #[cfg(test)]
 mod objects;
 #[cfg(test)]
+mod order;
+#[cfg(test)]
 mod remarks;
 #[cfg(test)]
 mod rings;

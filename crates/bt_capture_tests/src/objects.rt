@@ -1,23 +1,22 @@
 //! Reports and rows as JSON objects. The facts are those of the lines in told.rt, and of `show --json`.
+use crate::datagrams::{CLOSES, packets};
 use crate::told::{
-    NO_REMARKS, bad, known, own, packets, refused_twice, report, row, sample_rows, with_a_guess,
-    with_gaps, with_remarks,
+    NO_REMARKS, bad, known, own, refused_twice, report, row, sample_rows, with_a_guess, with_gaps,
+    with_remarks,
 };
 use bt_feed::View;
 use bt_json::message_line;
 use bt_remarks::Side;
+use bt_report::{Body, Direction, Left, Report, ReportObject, Title, Told, UtpObject};
+use bt_rows::{Deed, Words, put_row_object};
 use bt_text::ended::Ended;
-use bt_told::{
-    Body, Deed, Direction, Left, Report, Title, Told, Words, put_report_object, put_row_object,
-    put_utp_object,
-};
 use bt_wire::{Handshake, MessageView, Reason, Reserved};
 use std::test::Fail;
 
 pub(crate) fn object_of(rt: &HostRuntime, report: &Report) -> Result<Vec<u8>, Fail> {
-    let mut out = Vec::new(rt.alloc());
-    put_report_object(report, &mut out)?;
-    Ok(out)
+    let object = ReportObject(report);
+    let text = format!(in rt.alloc(); "{object}")?;
+    Ok(text.into_bytes())
 }
 
 #[test]
@@ -66,8 +65,8 @@ fn guessed(rt: HostRuntime) -> Result<(), Fail> {
     let out = object_of(&rt, &with_a_guess())?;
     let wanted = b"\
 {\"connection\":0,\"a\":\"10.0.0.1:51413\",\"b\":\"10.0.0.2:6881\",\"bittorrent\":true,\"from_a\":{\"sent\":0,\
-\"gap\":{\"offset\":0,\"bytes\":278},\"gaps\":1,\"missing\":278},\"from_b\":{\"name\":\"libtorrent/2.0.8.0\",\
-\"conflicts\":2,\"free\":{\"verdict\":\"ok\",\"messages\":6,\"bytes\":25889},\"bep\":{\"verdict\":\"ok\",\
+\"strays\":1,\"gap\":{\"offset\":0,\"bytes\":278},\"gaps\":1,\"missing\":278},\"from_b\":{\"name\":\"libtorrent/2.0.8.0\",\
+\"conflicts\":2,\"strays\":3,\"free\":{\"verdict\":\"ok\",\"messages\":6,\"bytes\":25889},\"bep\":{\"verdict\":\"ok\",\
 \"messages\":6,\"bytes\":25889},\"receiver\":{\"reserved\":\"0000000000100005\",\"guessed\":true}},\
 \"closed\":{\"side\":\"A\",\"by\":\"FIN\",\"time\":0.057000,\"b\":{\"sent\":25889,\"last\":{\"offset\":16736,\
 \"item\":\"extended\",\"id\":3,\"bytes\":9147}}}}
@@ -244,14 +243,21 @@ fn messages(rt: HostRuntime) -> Result<(), Fail> {
 
 #[test]
 fn utp(rt: HostRuntime) -> Result<(), Fail> {
-    let mut out = Vec::new(rt.alloc());
-    for is_least in [false, true] {
-        put_utp_object(&packets(is_least), &mut out)?;
+    let mut out = String::new(rt.alloc());
+    for row in CLOSES {
+        let packets = packets(row);
+        let object = UtpObject(&packets);
+        write!(out, "{object}")?;
     }
     let wanted = b"\
 {\"utp\":{\"source\":\"10.0.0.1:51413\",\"target\":\"10.0.0.2:6881\",\"packets\":3}}
-{\"utp\":{\"source\":\"10.0.0.1:51413\",\"target\":\"10.0.0.2:6881\",\"packets\":3,\"at_least\":true}}
+{\"utp\":{\"source\":\"10.0.0.1:51413\",\"target\":\"10.0.0.2:6881\",\"packets\":3,\
+\"closed\":[{\"by\":\"10.0.0.1:51413\",\"reason\":8,\"name\":\"timeout\"}]}}
+{\"utp\":{\"source\":\"10.0.0.1:51413\",\"target\":\"10.0.0.2:6881\",\"packets\":3,\
+\"closed\":[{\"by\":\"10.0.0.2:6881\",\"reason\":271,\"name\":\"invalid request message\"}]}}
+{\"utp\":{\"source\":\"10.0.0.1:51413\",\"target\":\"10.0.0.2:6881\",\"packets\":3,\"at_least\":true,\
+\"closed\":[{\"by\":\"10.0.0.1:51413\",\"reason\":16,\"name\":\"too many files\"},{\"by\":\"10.0.0.2:6881\",\"reason\":289}]}}
 ";
-    assert_eq!(rt; out.as_slice(), wanted.as_slice());
+    assert_eq!(rt; out.as_bytes(), wanted.as_slice());
     Ok(())
 }

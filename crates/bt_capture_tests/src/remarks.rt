@@ -94,6 +94,22 @@ fn unanswered(count: u64, mark: u64, block: Block) -> Unanswered {
     }
 }
 
+/// The handshakes of two sides that have the Fast Extension.
+const BOTH_FAST: [Row<'static>; 2] = [
+    Row {
+        side: Side::A,
+        event: Event::Handshake { fast: true },
+        known: true,
+        remarks: NO,
+    },
+    Row {
+        side: Side::B,
+        event: Event::Handshake { fast: true },
+        known: true,
+        remarks: NO,
+    },
+];
+
 /// Takes the rows' events, whose marks are their numbers from 0 on, and compares the remarks.
 fn check(rt: &impl Abort, matcher: &mut Matcher, rows: &[Row]) -> Result<(), Fail> {
     for (mark, row) in rows.iter().enumerate() {
@@ -145,6 +161,7 @@ fn remarks_on_known_events(rt: HostRuntime) -> Result<(), Fail> {
         known(Side::A, Event::Request(block(5, 0, 16384)), NO),
         known(Side::A, Event::Other, NO),
     ];
+    check(&rt, &mut matcher, &BOTH_FAST)?;
     check(&rt, &mut matcher, &rows)?;
     let of_a = Tally {
         unasked: found(1, 14),
@@ -181,13 +198,13 @@ fn remarks_on_known_events(rt: HostRuntime) -> Result<(), Fail> {
     Ok(())
 }
 
-/// Without knowledge of the other side only a request again has a remark, and nothing is named.
+/// Without knowledge of the other side no event has a remark, and nothing is named.
 #[test]
 fn remarks_on_unknown_events(rt: HostRuntime) -> Result<(), Fail> {
     let mut matcher = Matcher::new(rt.alloc());
     let rows = [
         unknown(Side::A, Event::Request(block(0, 0, 16384)), NO),
-        unknown(Side::A, Event::Request(block(0, 0, 16384)), AGAIN),
+        unknown(Side::A, Event::Request(block(0, 0, 16384)), NO),
         unknown(Side::B, Event::Piece(block(1, 0, 16384)), NO),
         unknown(Side::B, Event::Have(4), NO),
         unknown(Side::B, Event::Bitfield(b"\xff"), NO),
@@ -196,6 +213,7 @@ fn remarks_on_unknown_events(rt: HostRuntime) -> Result<(), Fail> {
         known(Side::B, Event::Piece(block(0, 0, 16384)), NO),
         known(Side::A, Event::Have(1), NO),
     ];
+    check(&rt, &mut matcher, &BOTH_FAST)?;
     check(&rt, &mut matcher, &rows)?;
     Ok(())
 }
@@ -215,6 +233,56 @@ fn chokes_without_a_reject(rt: HostRuntime) -> Result<(), Fail> {
         matcher.unanswered(Side::A, OPEN),
         unanswered(1, 1, block(0, 0, 1))
     );
+    Ok(())
+}
+
+/// Unless both sides have the Fast Extension, a choke drops requests, and a cancel its own. Their blocks may still come.
+#[test]
+fn drops_requests(rt: HostRuntime) -> Result<(), Fail> {
+    let mut matcher = Matcher::new(rt.alloc());
+    let asked = Event::Request(block(0, 0, 16));
+    let rows = [
+        known(Side::A, Event::Handshake { fast: true }, NO),
+        known(Side::B, Event::Handshake { fast: false }, NO),
+        known(Side::B, Event::Unchoke, NO),
+        known(Side::A, asked, NO),
+        known(Side::A, Event::Cancel(block(0, 0, 17)), NO),
+        known(Side::A, asked, AGAIN),
+        known(Side::A, Event::Cancel(block(0, 0, 16)), NO),
+        known(Side::A, asked, NO),
+        known(Side::A, asked, AGAIN),
+        known(Side::B, Event::Choke, NO),
+        known(Side::A, asked, CHOKED),
+        known(Side::B, Event::Unchoke, NO),
+        known(Side::A, asked, NO),
+        known(Side::B, Event::Unchoke, NO),
+        known(Side::A, asked, AGAIN),
+        known(Side::A, Event::Cancel(block(0, 0, 16)), NO),
+        known(Side::B, Event::Piece(block(0, 0, 16)), NO),
+        known(Side::B, Event::Piece(block(0, 0, 16)), UNASKED),
+    ];
+    check(&rt, &mut matcher, &rows)?;
+    Ok(())
+}
+
+/// With the Fast Extension of both sides a request is open until its answer.
+#[test]
+fn keeps_requests_with_the_fast_extension(rt: HostRuntime) -> Result<(), Fail> {
+    let mut matcher = Matcher::new(rt.alloc());
+    let asked = Event::Request(block(0, 0, 16));
+    let rows = [
+        known(Side::B, Event::Unchoke, NO),
+        known(Side::A, asked, NO),
+        known(Side::A, Event::Cancel(block(0, 0, 16)), NO),
+        known(Side::A, asked, AGAIN),
+        known(Side::B, Event::Choke, NO),
+        known(Side::B, Event::Unchoke, NO),
+        known(Side::A, asked, AGAIN),
+        known(Side::B, Event::Reject(block(0, 0, 16)), NO),
+        known(Side::A, asked, NO),
+    ];
+    check(&rt, &mut matcher, &BOTH_FAST)?;
+    check(&rt, &mut matcher, &rows)?;
     Ok(())
 }
 

@@ -13,7 +13,6 @@ use std::test::Fail;
 pub(crate) enum Step {
     Put(u32, &'static [u8], Put),
     Ready(&'static [u8]),
-    GiveUp(usize),
     Next(u64),
     /// So many bytes of a segment differ from those ahead.
     Conflicts(u32, &'static [u8], usize),
@@ -53,10 +52,6 @@ impl Window {
         self.ring.ready(&mut self.known, &self.bytes) == wanted
     }
 
-    fn give_up(&mut self) -> usize {
-        self.ring.give_up(&self.known, &self.bytes)
-    }
-
     pub(crate) fn next(&self) -> u64 {
         self.ring.next()
     }
@@ -76,7 +71,6 @@ impl Window {
         match *step {
             Step::Put(at, part, answer) => Ok(self.put(at, part) == answer),
             Step::Ready(bytes) => Ok(self.is_ready(bytes)),
-            Step::GiveUp(count) => Ok(self.give_up() == count),
             Step::Next(place) => Ok(self.next() == place),
             Step::Conflicts(at, part, count) => Ok(self.conflicts(at, part) == count),
             Step::Lengthen(count) => {

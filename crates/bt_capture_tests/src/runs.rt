@@ -1,5 +1,5 @@
 //! A capture file from its bytes to the report of its connection.
-use bt_capture::{CaptureEnd, CaptureFault, CaptureJob, Ending, run_capture};
+use bt_capture::{CaptureEnd, CaptureFault, CaptureJob, Choice, Ending, run_capture};
 use bt_io::{MemSource, MemTarget};
 use bt_pcap::FileFault;
 use bt_remarks::Side;
@@ -95,6 +95,7 @@ fn run_for(
         show,
         json: false,
         stream,
+        choice: Choice::ALL,
     };
     let Ok(keys) = RandomState::new(rt) else {
         return (Err(CaptureFault::Turns), writer);
@@ -133,6 +134,44 @@ fn a_have_out_of_range(rt: HostRuntime) -> Result<(), Fail> {
     for most in [1, 7, 65_536] {
         let (end, writer) = run(&rt, Vec::from_slice(rt.alloc(), FILE)?, most, false);
         right = right && is_reported(&end, writer.bytes());
+    }
+    assert!(rt; right);
+    Ok(())
+}
+
+/// The head of a packet of A without data.
+const RESET: &[u8] =
+    b"\x01\0\0\0\x88\x13\0\0(\0\0\0(\0\0\0E\0\0(\0\x01\0\0@\x06\0\0\x0a\0\0\x01\x0a\0\0\x02\
+    \x03\xe8\x1a\xe1";
+
+/// The line of the report on one segment that is passed over.
+const OUTSIDE: &[u8] = b"    1 segment outside the window\n";
+
+/// Whether a text reports that a RST closed the connection, or that it was passed over.
+fn is_told(text: &[u8], is_close: bool) -> bool {
+    if is_close {
+        return after_report(text).starts_with(b"  A closed first, by RST, at 0.005000 s\n");
+    }
+    let more = OUTSIDE.len().saturating_add(STILL.len());
+    text.ends_with(STILL) && text.len() == FOUR.len().saturating_add(more)
+}
+
+/// A RST of A closes the connection if it has A's next number. One that B can't expect next doesn't, also if it is a SYN.
+#[test]
+fn a_reset(rt: HostRuntime) -> Result<(), Fail> {
+    let mut right = true;
+    for (number, flags, is_close) in [
+        (0xb2u32, 4u8, true),
+        (0x8000_00b2, 4, false),
+        (0xb3, 6, false),
+        (0xa8, 4, false),
+    ] {
+        let mut file = Vec::from_slice(rt.alloc(), FILE)?;
+        file.extend_from_slice(RESET)?;
+        file.extend_from_slice(&number.to_be_bytes())?;
+        file.extend_from_slice(&[0, 0, 0, 0, 0x50, flags, 3, 0xe8, 0, 0, 0, 0])?;
+        let (_, writer) = run(&rt, file, 65_536, false);
+        right = right && is_told(writer.bytes(), is_close);
     }
     assert!(rt; right);
     Ok(())

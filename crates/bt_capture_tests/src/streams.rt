@@ -1,6 +1,6 @@
 //! Numbers that wrap, and segments that come out of order, twice or not at all. All values are by hand.
 use crate::rings::{Step, Window};
-use bt_tcp::{Captured, Put, place, reassemble};
+use bt_tcp::{Put, place};
 use std::test::Fail;
 
 /// A number near the wrap stands before or after it, whichever is nearer.
@@ -23,7 +23,7 @@ const FILLS: &[Step] = &[
     Step::Ready(b""),
     Step::Next(1008),
     Step::Put(1014, b"op", Put::Taken { from: 0, len: 0 }),
-    Step::GiveUp(6),
+    Step::Put(1008, b"ijklmn", Put::Taken { from: 0, len: 6 }),
     Step::Ready(b"op"),
     Step::Next(1016),
 ];
@@ -32,37 +32,4 @@ const FILLS: &[Step] = &[
 #[test]
 fn fills_a_gap(rt: HostRuntime) -> Result<(), Fail> {
     Window::new(rt.alloc())?.check(&rt, FILLS)
-}
-
-/// A whole direction: swapped, repeated, changed on the second time, and with a gap in the end.
-#[test]
-fn makes_the_stream(rt: HostRuntime) {
-    let mut known = [0xffu8; 1];
-    let mut bytes = [0u8; 8];
-    let captured = [
-        Captured {
-            place: 1004,
-            bytes: b"ef",
-        },
-        Captured {
-            place: 1000,
-            bytes: b"abcd??gh",
-        },
-        Captured {
-            place: 1002,
-            bytes: b"??",
-        },
-        Captured {
-            place: 1008,
-            bytes: b"ij",
-        },
-        Captured {
-            place: 1011,
-            bytes: b"l",
-        },
-    ];
-    match reassemble(rt.alloc(), 1000, &mut known, &mut bytes, &captured) {
-        Ok(out) => assert_eq!(rt; out.as_slice(), b"abcdefghij".as_slice()),
-        Err(_) => panic!(rt; "no stream"),
-    }
 }

@@ -1,15 +1,17 @@
 //! Reports and rows as text. The expected lines were worked out by hand and by another program, of the captures of the tests.
+use crate::datagrams::{CLOSES, packets};
 use bt_ext::{ExtId, Registered, Rules};
 use bt_feed::View;
 use bt_packet::{Address, Host};
 use bt_remarks::{Remarks, Side};
+use bt_report::{
+    Before, Body, Closed, Direction, Finding, Judged, Left, Report, Sender, Title, Told,
+};
+use bt_rows::{
+    Deed, Last, Means, Noted, Numbers, RefusedMessage, Remarked, Row, Said, Words, put_row,
+};
 use bt_tcp::{Gap, Gaps};
 use bt_text::ended::Ended;
-use bt_told::{
-    Before, Body, Closed, Deed, Direction, Finding, Judged, Last, Left, Means, Noted, Numbers,
-    RefusedMessage, Remarked, Report, Row, Said, Sender, Title, Told, UtpPackets, Words,
-    put_report, put_row, put_utp,
-};
 use bt_wire::{Handshake, MessageView, Own, Reason, Refusal, Reserved};
 use std::test::Fail;
 
@@ -71,6 +73,7 @@ pub(crate) fn known(title: Title, ended: Ended, receiver: Own) -> Direction {
         }),
         exchange: 0,
         conflicts: 0,
+        strays: 0,
         gaps: NO_GAPS,
         is_final: false,
     }
@@ -88,7 +91,7 @@ fn refused(message: u64, at: u64, reason: Reason) -> Ended {
     })
 }
 
-fn said(offset: u64, name: bt_told::Name, numbers: Numbers) -> Said {
+fn said(offset: u64, name: bt_rows::Name, numbers: Numbers) -> Said {
     Said {
         offset,
         words: Words::Message(name, numbers),
@@ -112,9 +115,8 @@ fn hello(id: &[u8; 20]) -> Last {
 }
 
 pub(crate) fn text_of(rt: &HostRuntime, report: &Report) -> Result<Vec<u8>, Fail> {
-    let mut out = Vec::new(rt.alloc());
-    put_report(report, &mut out)?;
-    Ok(out)
+    let text = format!(in rt.alloc(); "{report}")?;
+    Ok(text.into_bytes())
 }
 
 const A_ID: &[u8; 20] = b"-AA0001-000000000000";
@@ -150,11 +152,11 @@ pub(crate) fn with_gaps() -> Report {
         at: 57_000_999,
         a: sent(
             278,
-            Last::Item(said(247, bt_told::Name::MetadataRequest, Numbers::One(1))),
+            Last::Item(said(247, bt_rows::Name::MetadataRequest, Numbers::One(1))),
         ),
         b: sent(
             25889,
-            Last::Item(said(296, bt_told::Name::Choke, Numbers::Zero)),
+            Last::Item(said(296, bt_rows::Name::Choke, Numbers::Zero)),
         ),
     };
     report(Body::Told(Told {
@@ -181,7 +183,7 @@ fn gaps(rt: HostRuntime) -> Result<(), Fail> {
     bep  refused message=5 at=1000 EndInside (cut by the gap)
     options --reserved 0000000000100004 --metadata-id 3
   A closed first, by FIN, at 0.057000 s
-    B had sent 25889 bytes, last: 296 choke
+    B had sent 25889 bytes, last read: 296 choke
     A had sent 278 bytes, last: 247 metadata-request 1
 ";
     assert_eq!(rt; out.as_slice(), wanted.as_slice());
@@ -194,7 +196,7 @@ fn noted(count: u64, first: Said) -> Option<Noted> {
 
 /// A report in which both directions have remarks, and B closed.
 pub(crate) fn with_remarks() -> Report {
-    let name = bt_told::Name::Request;
+    let name = bt_rows::Name::Request;
     let a = known(
         Title::PeerId(*A_ID),
         accepted(8, 176),
@@ -206,7 +208,7 @@ pub(crate) fn with_remarks() -> Report {
         own(0x100005, 0, 0, None),
     );
     let last = said(159, name, Numbers::Three(1, 2, 1));
-    let choke = said(158, bt_told::Name::Choke, Numbers::Zero);
+    let choke = said(158, bt_rows::Name::Choke, Numbers::Zero);
     let closed = Closed {
         first: Side::B,
         by: Means::Fin,
@@ -220,12 +222,12 @@ pub(crate) fn with_remarks() -> Report {
         choked: noted(1, said(73, name, Numbers::Three(0, 0, 1))),
         again: noted(1, again),
         unanswered: noted(3, again),
-        elsewhere: noted(1, said(150, bt_told::Name::Have, Numbers::One(5))),
+        elsewhere: noted(1, said(150, bt_rows::Name::Have, Numbers::One(5))),
     };
-    let block = said(102, bt_told::Name::Piece, Numbers::Three(2, 0, 1));
+    let block = said(102, bt_rows::Name::Piece, Numbers::Three(2, 0, 1));
     let remarked_b = Remarked {
         unasked: noted(2, block),
-        elsewhere: noted(1, said(149, bt_told::Name::Have, Numbers::One(3))),
+        elsewhere: noted(1, said(149, bt_rows::Name::Have, Numbers::One(3))),
         ..NO_REMARKS
     };
     let told = Told {
@@ -271,6 +273,7 @@ pub(crate) fn with_a_guess() -> Report {
         sender: Sender::Unknown(0),
         exchange: 0,
         conflicts: 0,
+        strays: 1,
         gaps: Gaps {
             first: Some(Gap {
                 place: 0,
@@ -293,10 +296,11 @@ pub(crate) fn with_a_guess() -> Report {
         }),
         exchange: 0,
         conflicts: 2,
+        strays: 3,
         gaps: NO_GAPS,
         is_final: false,
     };
-    let last = said(16736, bt_told::Name::Extended, Numbers::Two(3, 9147));
+    let last = said(16736, bt_rows::Name::Extended, Numbers::Two(3, 9147));
     let closed = Closed {
         first: Side::A,
         by: Means::Fin,
@@ -320,9 +324,11 @@ fn guessed(rt: HostRuntime) -> Result<(), Fail> {
     let out = text_of(&rt, &with_a_guess())?;
     let wanted = b"connection 0  A 10.0.0.1:51413 > B 10.0.0.2:6881
   A sent 0 bytes and no whole handshake
+    1 segment outside the window
     gap at 0: 278 bytes aren't in the capture
   B libtorrent/2.0.8.0
     repeated with other bytes: 2; the first ones count
+    3 segments outside the window
     free ok messages=6 bytes=25889
     bep  ok messages=6 bytes=25889
     options --reserved 0000000000100005 --metadata-id 0 (guessed: its receiver's handshake isn't there)
@@ -406,7 +412,7 @@ fn open(rt: HostRuntime) -> Result<(), Fail> {
 #[test]
 fn cut_by_the_other(rt: HostRuntime) -> Result<(), Fail> {
     let (a, b) = cut(75, None);
-    let last = said(68, bt_told::Name::HaveNone, Numbers::Zero);
+    let last = said(68, bt_rows::Name::HaveNone, Numbers::Zero);
     let closed = Closed {
         first: Side::B,
         by: Means::Rst,
@@ -492,7 +498,7 @@ fn refused_and_limited(rt: HostRuntime) -> Result<(), Fail> {
     options --reserved 0000000000100005 --metadata-id 0 --pieces 38
   B closed first, by FIN, at 1.009000 s
     A had sent 87 bytes, last: refused message=2 at=78 BadIndex
-    B had sent 0 bytes, last: nothing
+    B had sent 0 bytes, last read: nothing
 ";
     assert_eq!(rt; out.as_slice(), wanted.as_slice());
     Ok(())
@@ -527,6 +533,7 @@ pub(crate) fn refused_twice(
         }),
         exchange: 0,
         conflicts: 0,
+        strays: 0,
         gaps: NO_GAPS,
         is_final: false,
     }
@@ -723,27 +730,21 @@ fn rows(rt: HostRuntime) -> Result<(), Fail> {
     Ok(())
 }
 
-/// Three packets of uTP between two ends, or at least three.
-pub(crate) fn packets(is_least: bool) -> UtpPackets {
-    UtpPackets {
-        source: address(1, 51413),
-        target: address(2, 6881),
-        count: 3,
-        is_least,
-    }
-}
-
 #[test]
 fn utp(rt: HostRuntime) -> Result<(), Fail> {
-    let mut out = Vec::new(rt.alloc());
-    for is_least in [false, true] {
-        put_utp(&packets(is_least), &mut out)?;
+    let mut out = String::new(rt.alloc());
+    for row in CLOSES {
+        let packets = packets(row);
+        write!(out, "{packets}")?;
     }
     let wanted = b"\
 uTP  10.0.0.1:51413 > 10.0.0.2:6881  3 packets, not read: this is BitTorrent over UDP (BEP 29)
-uTP  10.0.0.1:51413 > 10.0.0.2:6881  at least 3 packets, not read: this is BitTorrent over UDP (BEP 29)
+uTP  10.0.0.1:51413 > 10.0.0.2:6881  3 packets, not read: this is BitTorrent over UDP (BEP 29); 10.0.0.1:51413 closed: 8 (timeout)
+uTP  10.0.0.1:51413 > 10.0.0.2:6881  3 packets, not read: this is BitTorrent over UDP (BEP 29); 10.0.0.2:6881 closed: 271 (invalid request message)
+uTP  10.0.0.1:51413 > 10.0.0.2:6881  at least 3 packets, not read: this is BitTorrent over UDP (BEP 29); \
+10.0.0.1:51413 closed: 16 (too many files); 10.0.0.2:6881 closed: 289
 ";
-    assert_eq!(rt; out.as_slice(), wanted.as_slice());
+    assert_eq!(rt; out.as_bytes(), wanted.as_slice());
     Ok(())
 }
 

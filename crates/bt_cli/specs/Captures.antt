@@ -1,12 +1,13 @@
 -- What `capture` says at its end, and its exit status.
-use Rattle.std.specs.Prelude.{◌<◌, ◌+◌, ◌≡◌, ◌==◌, ◌⊎◌, ◌++◌, ◌&&◌, ℕ, Bool, true, false, List, [], codes, decimal, nat_lt, is_some, Option, Some, None, Result, Ok, Err, if◌then◌else◌}
+use Rattle.std.specs.Prelude.{◌<◌, ◌+◌, ◌≡◌, ◌==◌, ◌⊎◌, ◌++◌, ◌&&◌, ℕ, Bool, true, false, List, [], codes, decimal, nat_lt, is_some, Option, Some, None, Result, Ok, Err, String, string_bytes, if◌then◌else◌}
+use Rattle.std.specs.declared.alloc.AllocError.{AllocError}
 use Rattle.bt_io.specs.Seen.{TargetSeen}
 use Rattle.bt_text.specs.declared.ended.ToolFault.TheVariants as fault
 use Rattle.bt_text.specs.Lines.{fault_line}
 use Rattle.bt_run.specs.Endings.{fault_status, fault_words}
 use Rattle.bt_run.specs.Runs.{IsSaid}
 use Rattle.bt_pcap.specs.declared.fault.FileFault.{FileFault}
-use Rattle.bt_pcap.specs.declared.fault.FileFault.TheVariants.{NoCapture, ByteOrder, Length, TooShort, RecordLength}
+use Rattle.bt_pcap.specs.declared.fault.FileFault.TheVariants.{NoCapture, ByteOrder, Length, TooShort, RecordLength, Unlike, Undescribed}
 use Rattle.bt_capture.specs.declared.ending.CaptureEnd.{CaptureEnd}
 use Rattle.bt_capture.specs.declared.ending.CaptureFault.{CaptureFault}
 use Rattle.bt_capture.specs.declared.ending.CaptureFault.TheVariants.{Write, Memory, Turns}
@@ -46,6 +47,8 @@ file_words ByteOrder = codes "fault: capture: a section of a pcapng file has an 
 file_words Length = codes "fault: capture: a block of a pcapng file has an impossible length\n"
 file_words TooShort = codes "fault: capture: a block of a pcapng file is too short\n"
 file_words RecordLength = codes "fault: capture: a record of a pcap file has an impossible length\n"
+file_words Unlike = codes "fault: capture: the two lengths of a block of a pcapng file differ\n"
+file_words Undescribed = codes "fault: capture: a packet of a pcapng file names an interface that isn't described, or is beyond the first 1,024\n"
 
 -- how reading ended, if that isn't after a whole item
 abbrev pub ending_line_words : Ending → List ℕ
@@ -77,6 +80,11 @@ nothing_words packets skipped =
 abbrev pub absent_words : Option ℕ → List ℕ
 absent_words None = []
 absent_words (Some n) = (codes "no connection " ++ decimal n) ++ codes "\n"
+
+-- a text, or the fault's line if there is no memory for it
+abbrev pub words_or_fault : {A : Type 0} → Result (String A) AllocError → List ℕ
+words_or_fault (Ok text) = string_bytes text
+words_or_fault (Err error) = fault_line fault.Memory
 
 -- Connections that memory didn't last for are a fault. A capture without the connection of a stream or without a BitTorrent connection has
 -- its line, if there is memory for that; one that can't be read to its end has none.

@@ -9,7 +9,7 @@ use Rattle.bt_run.specs.declared.commands.Notice.{Notice}
 use Rattle.bt_run.specs.declared.commands.Notice.TheVariants.{Help, Version, Usage}
 use Rattle.bt_run.specs.Commands.{HasLimit, HasLoopLimit, IsDefault}
 use Rattle.bt_cli.specs.declared.commands.Asked.{Asked}
-use Rattle.bt_cli.specs.declared.commands.Asked.TheVariants.{Run, Link, Capture, Fetch, Serve, Told, Loop}
+use Rattle.bt_cli.specs.declared.commands.Asked.TheVariants.{Run, Link, Capture, Fetch, Peers, Serve, Told, Loop}
 
 -- a receiver that is asked for has such a limit, and so have the ends
 abbrev pub IsLimited : Asked → Type 0
@@ -17,6 +17,7 @@ IsLimited (Run r) = HasLimit r.own
 IsLimited (Link files) = Unit {0}
 IsLimited (Capture request) = Unit {0}
 IsLimited (Fetch job) = IsWish job.wish
+IsLimited (Peers job) = Unit {0}
 IsLimited (Serve job) = HasLoopLimit job.limit
 IsLimited (Loop rules limit) = HasLoopLimit limit
 IsLimited (Told notice text) = Unit {0}
@@ -27,6 +28,7 @@ HasText kind (Run r) = ⊥
 HasText kind (Link files) = ⊥
 HasText kind (Capture request) = ⊥
 HasText kind (Fetch job) = ⊥
+HasText kind (Peers job) = ⊥
 HasText kind (Serve job) = ⊥
 HasText kind (Loop rules limit) = ⊥
 HasText kind (Told notice text) = notice ≡ kind
@@ -40,6 +42,7 @@ IsShowByDefault (Run r) = (r.job ≡ Show) × IsDefault r.own × (r.given ≡ re
 IsShowByDefault (Link files) = ⊥
 IsShowByDefault (Capture request) = ⊥
 IsShowByDefault (Fetch job) = ⊥
+IsShowByDefault (Peers job) = ⊥
 IsShowByDefault (Serve job) = ⊥
 IsShowByDefault (Loop rules limit) = ⊥
 IsShowByDefault (Told notice text) = ⊥

@@ -6,6 +6,7 @@ pub mod Announced
 pub mod Tallies
 pub mod Streams
 pub mod Readings
+pub mod Chosen
 pub mod Wanted
 pub mod Services
 pub mod Lists

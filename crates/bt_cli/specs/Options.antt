@@ -12,9 +12,10 @@ use Rattle.bt_run.specs.declared.commands.Request.{Request}
 use Rattle.bt_run.specs.declared.values.Written.{Written}
 use Rattle.bt_run.specs.Commands.{as_json, job_of}
 use Rattle.bt_run.specs.Options.{IsReceiver, hints_in, limit_in, rules_in}
+use Rattle.bt_peers.specs.Searches.{IsPeersAsked}
 use Rattle.bt_cli.specs.Wanted.{IsCaptureRequested, IsFetchAsked, IsServeAsked}
 use Rattle.bt_cli.specs.declared.commands.Asked.{Asked}
-use Rattle.bt_cli.specs.declared.commands.Asked.TheVariants.{Run, Link, Capture, Fetch, Serve, Told, Loop}
+use Rattle.bt_cli.specs.declared.commands.Asked.TheVariants.{Run, Link, Capture, Fetch, Peers, Serve, Told, Loop}
 
 -- ---- the texts
 
@@ -65,6 +66,7 @@ IsAskedBy name f (Loop rules limit) =
     (bytes_eq name (codes "loop") ≡ true) × (rules_in Check (first_value f (codes "rules")) ≡ Some rules)
     × (limit_in (first_value f (codes "limit")) ≡ Some limit)
 IsAskedBy name f (Fetch job) = (bytes_eq name (codes "fetch") ≡ true) × IsFetchAsked f job
+IsAskedBy name f (Peers job) = (bytes_eq name (codes "peers") ≡ true) × IsPeersAsked f job
 IsAskedBy name f (Serve job) = (bytes_eq name (codes "serve") ≡ true) × IsServeAsked f job
 IsAskedBy name f (Told notice text) = notice ≡ Usage
 

@@ -5,6 +5,7 @@ use Rattle.bt_fetch.specs.declared.device.Ending.{Ending}
 use Rattle.bt_fetch.specs.declared.device.Ending.TheVariants.{By, Left}
 use Rattle.bt_fetch.specs.declared.device.Outcome.{Outcome}
 use Rattle.bt_fetch.specs.declared.device.Outcome.TheVariants as outcome
+use Rattle.bt_finding.specs.declared.summary.Counts.{Counts}
 use Rattle.bt_cli.specs.declared.report.Tally.{Tally}
 
 abbrev pub one_more : ℕ → ℕ
@@ -51,3 +52,9 @@ abbrev pub tally_fields : ℕ → Tally → List ℕ
 tally_fields seconds t =
     decimal seconds ++ (codes ",\"tried\":" ++ (decimal t.tried ++ (codes ",\"silent\":" ++ (decimal t.silent
     ++ (codes ",\"unreachable\":" ++ (decimal t.unreachable ++ (codes ",\"refused\":" ++ (decimal t.refused ++ codes "}\n"))))))))
+
+-- whom a search has asked, and how many peers it has found
+abbrev pub asked_fields : Counts → ℕ → List ℕ
+asked_fields counts found =
+    codes "{\"trackers\":" ++ (decimal counts.trackers ++ (codes ",\"nodes\":" ++ (decimal counts.nodes ++ (codes ",\"found\":" ++ (decimal found
+    ++ (codes ",\"private\":" ++ (decimal counts.private ++ codes "}\n")))))))

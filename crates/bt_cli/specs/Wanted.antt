@@ -1,16 +1,18 @@
 -- What the options of `fetch`, `serve` and `capture` say.
-use Rattle.std.specs.Prelude.{◌≡◌, ◌&&◌, ◌||◌, ℕ, Bool, false, List, [], map, string_bytes, is_some, unwrap_or, codes, Option, Some, None, option_map}
-use Rattle.std.specs.Str.{bytes_eq}
+use Rattle.std.specs.Prelude.{◌≡◌, ◌==◌, ◌&&◌, ◌||◌, not, length, ℕ, Bool, false, List, [], map, string_bytes, is_some, codes, Option, Some, None, option_map}
 use Rattle.std.specs.Net.Grammar.{IsSocketText}
 use Rattle.clap.specs.declared.parser.matches.Found.{Found}
-use Rattle.clap.specs.Matches.{first_value, matched_of, raw_values}
+use Rattle.clap.specs.Matches.{first_value}
 use Rattle.bt_ext.specs.declared.ids.Rules.{Rules}
 use Rattle.bt_ext.specs.declared.ids.Rules.TheVariants.{Free}
 use Rattle.bt_magnet.specs.Links.{IsMagnet}
+use Rattle.bt_peers.specs.Searches.{IsSearchAsked}
+use Rattle.bt_peers.specs.Words.{flag_in, text_in, words_in}
 use Rattle.bt_run.specs.Options.{number_in, rules_of, value_of}
 use Rattle.bt_fetch.specs.declared.wish.Wish.{Wish}
 use Rattle.bt_remarks.specs.declared.events.Side.{Side}
 use Rattle.bt_capture.specs.declared.ending.CaptureJob.{CaptureJob}
+use Rattle.bt_cli.specs.Chosen.{IsChoiceAsked, is_choosing}
 use Rattle.bt_cli.specs.Streams.{direction_in}
 use Rattle.bt_cli.specs.declared.capture.CaptureRequest.{CaptureRequest}
 use Rattle.bt_cli.specs.declared.fetch.FetchJob.{FetchJob}
@@ -54,17 +56,6 @@ capture_limit_in t = number_or 1 1048576 262144 t
 abbrev pub capture_stream_in : Option (List ℕ) → Option (Option (ℕ × Side))
 capture_stream_in t = value_of None (λ s. option_map (λ d. Some d) (direction_in s)) t
 
--- the texts of all words of this name
-abbrev pub words_in : Found → List ℕ → List (List ℕ)
-words_in f name = unwrap_or (option_map raw_values (matched_of f name)) []
-
-abbrev pub text_in : Found → List ℕ → List ℕ → List ℕ
-text_in f name default = unwrap_or (first_value f name) default
-
--- a flag is given
-abbrev pub flag_in : Found → List ℕ → Bool
-flag_in f name = bytes_eq (text_in f name []) (codes "true")
-
 -- ---- `fetch`
 
 -- the options say how it is fetched
@@ -74,6 +65,10 @@ pub record IsWished (f : Found) (w : Wish) : Type 0 where
   pub timeout : timeout_in (first_value f (codes "timeout")) ≡ Some w.patience
   pub window : window_in (first_value f (codes "window")) ≡ Some w.window
   pub max_size : max_size_in (first_value f (codes "max-size")) ≡ Some w.most
+
+-- peers are searched: no peer and no list of peers is named, or a tracker or a node is
+abbrev pub is_seeking : ℕ → Bool → ℕ → ℕ → Bool
+is_seeking peers has_list trackers nodes = ((peers == 0) && not has_list) || (not (trackers == 0) || not (nodes == 0))
 
 -- the link says what is fetched and names peers, and so do the words
 pub record IsFetchAsked (f : Found) (job : FetchJob) : Type 0 where
@@ -85,6 +80,8 @@ pub record IsFetchAsked (f : Found) (job : FetchJob) : Type 0 where
   pub torrent : job.torrent ≡ flag_in f (codes "torrent")
   pub at_once : at_once_in (first_value f (codes "at-once")) ≡ Some job.at_once
   pub json : job.json ≡ flag_in f (codes "json")
+  pub search : IsSearchAsked f job.search
+  pub seeks : job.seeks ≡ is_seeking (length job.peers.items) (is_some job.list) (length job.search.trackers.items) (length job.search.nodes.items)
 
 -- ---- `serve`
 
@@ -113,6 +110,8 @@ pub record IsCaptureAsked (f : Found) (job : CaptureJob) : Type 0 where
   pub show : job.show ≡ flag_in f (codes "show")
   pub stream : capture_stream_in (first_value f (codes "stream")) ≡ Some job.stream
   pub alone : is_some job.stream && (job.show || job.json) ≡ false
+  pub choice : IsChoiceAsked f job.choice
+  pub unchosen : is_choosing job.choice && (job.show || is_some job.stream) ≡ false
 
 pub record IsCaptureRequested (f : Found) (r : CaptureRequest) : Type 0 where
   pub job : IsCaptureAsked f r.job

@@ -1,20 +1,21 @@
 //! The command `capture`: what its words ask for, what it says at its end, and the exit status.
-ghost use Rattle.std.specs.Prelude.{◌≡◌, ◌++◌, ◌+◌, ◌<◌, ◌&&◌, ℕ, List, IfOk, OnErr, OnOk, is_some, option_map, Some};
+ghost use Rattle.std.specs.Prelude.{◌≡◌, ◌++◌, ◌+◌, ◌<◌, ◌&&◌, IfOk, OnErr, is_some, option_map, Some, [], string_bytes, if◌then◌else◌};
 ghost use Rattle.clap.specs.Matches.{first_value, found_of};
 ghost use Rattle.bt_run.specs.Runs.{IsSaid};
 ghost use Rattle.bt_text.specs.Lines.{fault_line};
 ghost use Rattle.bt_text.specs.declared.ended.ToolFault.TheVariants as fault;
-ghost use Rattle.bt_cli.specs.Captures.{IsCaptureSaid, IsEndSaid, IsEndSaidAfter, IsLastLine, absent_words, capture_fault_status, capture_fault_words, capture_status, ending_line_words, file_words};
-ghost use Rattle.bt_cli.specs.Captures.{crowd_words, is_stopped, nothing_words, outcome_in, outcome_status, so_many_words};
+ghost use Rattle.bt_cli.specs.Captures.{IsCaptureSaid, IsEndSaid, IsLastLine, absent_words, capture_fault_status, capture_fault_words, capture_status, ending_line_words, file_words};
+ghost use Rattle.bt_cli.specs.Captures.{crowd_words, is_stopped, nothing_words, outcome_in, outcome_status, so_many_words, words_or_fault};
 ghost use Rattle.bt_cli.specs.Wanted.{IsCaptureAsked, capture_pieces_in, capture_stream_in};
 
-use crate::fetch::{DEFAULT_LIMIT, is_given, number_or};
+use crate::chosen::{choice_in, is_choosing};
+use crate::fetch::{DEFAULT_LIMIT, number_or};
 use crate::stream::direction_of;
 use bt_capture::{CaptureEnd, CaptureFault, CaptureJob, Ending};
 use bt_feed::Target;
 use bt_jobs::output::write_out;
-use bt_link::text::push_number;
 use bt_pcap::FileFault;
+use bt_peers::is_given;
 use bt_remarks::Side;
 use bt_run::ending::{end_by_fault, say_both};
 use bt_run::values::number_within;
@@ -104,6 +105,10 @@ pub fn capture_in(options: &ArgMatches<'_>) -> Result<CaptureJob, &'static str>
     if stream.is_some() && (show || json) {
         return Err("'--stream' can't be given with '--show' or '--json'");
     }
+    let choice = choice_in(options)?;
+    if is_choosing(choice) && (show || stream.is_some()) {
+        return Err("'--only' and '--peer' can't be given with '--show' or '--stream'");
+    }
     Ok(CaptureJob {
         terms: Terms {
             limit,
@@ -113,6 +118,7 @@ pub fn capture_in(options: &ArgMatches<'_>) -> Result<CaptureJob, &'static str>
         show,
         json,
         stream,
+        choice,
     })
 }
 
@@ -157,85 +163,83 @@ fn status_of(outcome: Outcome, is_partial: bool) -> u8
     }
 }
 
-/// Appends the line on so many connections, if there are some. Its end differs for one.
-#[tactic(auto, using(std::proofs::lemmas::List::append_assoc))]
-fn push_so_many(count: u64, one: &[u8], more: &[u8], text: &mut Vec<u8>) -> Result<(), AllocError>
-    ensures line { OnOk result (text.new.items ≡ text.old.items ++ so_many_words count one.now more.now) }
-    ensures some { OnErr result (0 < count) }
+/// Returns the line on so many connections, and nothing if there are none. Its end differs for one.
+fn so_many(alloc: Global, count: u64, one: &str, more: &str) -> Result<String, AllocError>
+    ensures { IfOk result (λ line. string_bytes line ≡ so_many_words count one.now more.now) }
 {
-    if count == 0 {
-        return Ok(());
-    }
-    text.extend_from_slice(b"capture: ")?;
-    push_number(count, text)?;
-    if count == 1 {
-        text.extend_from_slice(one)
-    } else {
-        text.extend_from_slice(more)
+    match count {
+        0 => Ok(String::new(alloc)),
+        1 => format!(in alloc; "capture: {count}{one}"),
+        _ => format!(in alloc; "capture: {count}{more}"),
     }
 }
 
 /// Returns the lines on connections of which there were too many at once, if there are some.
-fn crowd_lines(alloc: Global, unread: u64, early: u64) -> Result<Vec<u8>, AllocError>
-    ensures lines { IfOk result (λ lines. lines.items ≡ crowd_words unread early) }
+fn crowd_lines(alloc: Global, unread: u64, early: u64) -> Result<String, AllocError>
+    ensures lines { IfOk result (λ lines. string_bytes lines ≡ crowd_words unread early) }
     ensures some { OnErr result (0 < unread + early) }
 {
-    let mut text = Vec::new(alloc);
-    push_so_many(
+    if unread == 0 && early == 0 {
+        return Ok(String::new(alloc));
+    }
+    let unread = so_many(
+        alloc,
         unread,
-        b" connection was not read further: too many at once\n",
-        b" connections were not read further: too many at once\n",
-        &mut text,
+        " connection was not read further: too many at once\n",
+        " connections were not read further: too many at once\n",
     )?;
-    push_so_many(
+    let early = so_many(
+        alloc,
         early,
-        b" connection that had ended was given up early: too many at once\n",
-        b" connections that had ended were given up early: too many at once\n",
-        &mut text,
+        " connection that had ended was given up early: too many at once\n",
+        " connections that had ended were given up early: too many at once\n",
     )?;
-    Ok(text)
+    format!(in alloc; "{unread}{early}")
 }
 
 /// Returns the line on a capture without a connection of this number.
-fn absent_line(alloc: Global, number: u64) -> Result<Vec<u8>, AllocError>
-    ensures { IfOk result (λ line. line.items ≡ absent_words (Some number)) }
+#[tactic(auto, using(std::proofs::lemmas::List::append_assoc))]
+fn absent_line(alloc: Global, number: u64) -> Result<String, AllocError>
+    ensures { IfOk result (λ line. string_bytes line ≡ absent_words (Some number)) }
 {
-    let mut text = Vec::new(alloc);
-    text.extend_from_slice(b"no connection ")?;
-    push_number(number, &mut text)?;
-    text.push(b'\n')?;
-    Ok(text)
+    format!(in alloc; "no connection {number}\n")
 }
 
 /// Returns the line on a capture without a BitTorrent connection.
-fn nothing_line(alloc: Global, packets: u64, skipped: u64) -> Result<Vec<u8>, AllocError>
-    ensures { IfOk result (λ line. line.items ≡ nothing_words packets skipped) }
+fn nothing_line(alloc: Global, packets: u64, skipped: u64) -> Result<String, AllocError>
+    ensures { IfOk result (λ line. string_bytes line ≡ nothing_words packets skipped) }
 {
-    let mut text = Vec::new(alloc);
-    text.extend_from_slice(b"no BitTorrent connection in ")?;
-    push_number(packets, &mut text)?;
-    text.extend_from_slice(b" packets; ")?;
-    push_number(skipped, &mut text)?;
-    text.extend_from_slice(b" of them aren't TCP\n")?;
-    Ok(text)
+    format!(in alloc;
+        "no BitTorrent connection in {packets} packets; {skipped} of them aren't TCP\n"
+    )
 }
 
 /// Returns the last line on a capture.
 ///
 /// # Errors
 /// `AllocError` if memory ran out, with a connection or for the line.
-fn last_line(alloc: Global, end: &CaptureEnd) -> Result<Vec<u8>, AllocError>
-    ensures line { IfOk result (λ line. IsLastLine (outcome_in end.now) end.now line.items) }
+fn last_line(alloc: Global, end: &CaptureEnd) -> Result<String, AllocError>
+    ensures line { IfOk result (λ line. IsLastLine (outcome_in end.now) end.now (string_bytes line)) }
     ensures memory { OnErr result (IsLastLine (outcome_in end.now) end.now (fault_line fault.Memory)) }
 {
     match outcome_of(end) {
         Outcome::Lost => Err(AllocError),
         Outcome::Absent => match end.absent {
             Some(number) => absent_line(alloc, number),
-            None => Ok(Vec::new(alloc)),
+            None => Ok(String::new(alloc)),
         },
         Outcome::Nothing => nothing_line(alloc, end.packets, end.skipped),
-        Outcome::Stopped | Outcome::Refused | Outcome::Accepted => Ok(Vec::new(alloc)),
+        Outcome::Stopped | Outcome::Refused | Outcome::Accepted => Ok(String::new(alloc)),
+    }
+}
+
+/// Returns a text, or the line of the fault if there is no memory for it.
+fn text_or_fault(text: &Result<String, AllocError>) -> &[u8]
+    ensures { result.now ≡ words_or_fault text.now }
+{
+    match text {
+        Ok(text) => text.as_bytes(),
+        Err(_) => fault_line(ToolFault::Memory),
     }
 }
 
@@ -251,6 +255,10 @@ fn file_line(fault: FileFault) -> &'static [u8]
         FileFault::TooShort => b"fault: capture: a block of a pcapng file is too short\n",
         FileFault::RecordLength =>
             b"fault: capture: a record of a pcap file has an impossible length\n",
+        FileFault::Unlike =>
+            b"fault: capture: the two lengths of a block of a pcapng file differ\n",
+        FileFault::Undescribed =>
+            b"fault: capture: a packet of a pcapng file names an interface that isn't described, or is beyond the first 1,024\n",
     }
 }
 
@@ -286,59 +294,26 @@ fn say_four<E: Target>(prefix: &[u8], first: &[u8], second: &[u8], third: &[u8],
     }
 }
 
-/// Writes these texts and the last line.
-fn say_last<E: Target>(
-    alloc: Global,
-    end: &CaptureEnd,
-    prefix: &[u8],
-    words: &[u8],
-    crowd: &[u8],
-    errors: &mut E,
-)
-    ensures { (line : List ℕ) × IsLastLine (outcome_in end.now) end.now line
-        × IsSaid ((prefix.now ++ words.now) ++ (crowd.now ++ line)) (E.seen errors.old) (E.seen errors.new) }
+/// Returns what comes before the line on how reading ended: the prefix, if the file can't be read to its end.
+fn prefix_for<'a>(ending: Ending, prefix: &'a [u8]) -> &'a [u8]
+    ensures { result.now ≡ (if is_stopped ending then prefix.now else []) }
 {
-    match last_line(alloc, end) {
-        Ok(line) => say_four(prefix, words, crowd, line.as_slice(), errors),
-        Err(_) => say_four(prefix, words, crowd, fault_line(ToolFault::Memory), errors),
-    }
-}
-
-/// Writes these texts, which say how reading ended, and the lines after them.
-fn say_after<E: Target>(
-    alloc: Global,
-    end: &CaptureEnd,
-    prefix: &[u8],
-    words: &[u8],
-    errors: &mut E,
-)
-    ensures { IsEndSaidAfter (prefix.now ++ words.now) end.now (E.seen errors.old) (E.seen errors.new) }
-{
-    match crowd_lines(alloc, end.unread, end.early) {
-        Ok(lines) => say_last(alloc, end, prefix, words, lines.as_slice(), errors),
-        Err(_) => {
-            say_last(
-                alloc,
-                end,
-                prefix,
-                words,
-                fault_line(ToolFault::Memory),
-                errors,
-            );
-        }
-    }
+    if is_unread(ending) { prefix } else { b"" }
 }
 
 /// Says what a capture had.
 fn say_end<E: Target>(alloc: Global, end: &CaptureEnd, prefix: &[u8], errors: &mut E)
     ensures { IsEndSaid prefix.now end.now (E.seen errors.old) (E.seen errors.new) }
 {
-    let line = ending_line(end.ending);
-    if is_unread(end.ending) {
-        say_after(alloc, end, prefix, line, errors);
-    } else {
-        say_after(alloc, end, b"", line, errors);
-    }
+    let crowd = crowd_lines(alloc, end.unread, end.early);
+    let line = last_line(alloc, end);
+    say_four(
+        prefix_for(end.ending, prefix),
+        ending_line(end.ending),
+        text_or_fault(&crowd),
+        text_or_fault(&line),
+        errors,
+    );
 }
 
 /// Says which fault ended the command, and returns the exit status.

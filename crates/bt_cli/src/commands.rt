@@ -3,6 +3,7 @@ use crate::capture::CaptureRequest;
 use crate::fetch::FetchJob;
 use crate::serve::ServeJob;
 use bt_ext::Rules;
+use bt_peers::PeersJob;
 pub use bt_run::commands::{
     DEFAULT_LIMIT, DEFAULT_METADATA_ID, DEFAULT_RESERVED, Given, Hints, Job, Notice, Request,
     default_own, default_rules, pack_status, status, status_of,
@@ -19,6 +20,8 @@ pub enum Asked {
     Capture(CaptureRequest),
     /// A fetch of metadata from peers.
     Fetch(FetchJob),
+    /// A search for the peers of a magnet link.
+    Peers(PeersJob),
     /// A service of metadata to peers.
     Serve(ServeJob),
     /// Two ends over a connection of the process to itself, by these rules, with this limit of a message.

@@ -1,13 +1,16 @@
 //! What the words of the command `fetch` ask for. The fetch itself is in `fetching`.
-ghost use Rattle.std.specs.Prelude.{◌≡◌, ◌≤◌, Some, IfOk, IfSome, codes, map, option_map, string_bytes};
+ghost use Rattle.std.specs.Prelude.{◌≡◌, ◌≤◌, Some, IfOk, IfSome, codes, is_some, length, map, option_map, string_bytes};
 ghost use Rattle.clap.specs.Matches.{found_of, first_value};
 ghost use Rattle.bt_fetch.specs.Wishes.{IsWish};
-ghost use Rattle.bt_cli.specs.Wanted.{IsFetchAsked, IsWished, flag_in, at_once_in as at_once_in_by_rule, number_or as number_or_by_rule, peer_rules_in, window_in as window_in_by_rule, words_in};
+ghost use Rattle.bt_peers.specs.Words.{words_in};
+ghost use Rattle.bt_cli.specs.Wanted.{IsFetchAsked, IsWished, at_once_in as at_once_in_by_rule, is_seeking as is_seeking_by, number_or as number_or_by_rule, peer_rules_in, window_in as window_in_by_rule};
 
 use bt_end::Window;
 use bt_ext::Rules;
 use bt_fetch::Wish;
-use bt_magnet::{Magnet, MagnetError, is_peer, read_magnet};
+use bt_magnet::Magnet;
+pub use bt_peers::Mistake;
+use bt_peers::{SearchJob, asks_nobody, is_given, magnet_in, peers_in, search_in};
 use bt_run::values::number_within;
 use clap::ArgMatches;
 use std::alloc::{AllocError, Global};
@@ -40,44 +43,10 @@ pub struct FetchJob {
     pub at_once: usize,
     /// Standard error gets JSON objects in place of lines.
     pub json: bool,
-}
-
-/// Why words ask for no fetch or service.
-#[derive(Clone, Copy, PartialEq, Eq, Debug)]
-pub enum Mistake {
-    /// What an option or a word has to be.
-    Text(&'static str),
-    /// What is wrong with the magnet link, at this offset.
-    Link(&'static str, usize),
-    /// Out of memory.
-    Memory,
-}
-
-impl From<AllocError> for Mistake {
-    ghost use Rattle.bt_cli.specs.declared.fetch.Mistake.TheVariants.{Memory};
-    ghost use Rattle.std.specs.Prelude.{◌≡◌};
-
-    ghost from_gives = { λ _ e. e ≡ Memory };
-
-    fn from(_: AllocError) -> Mistake {
-        Mistake::Memory
-    }
-}
-
-/// Returns what is wrong with a link.
-fn mistake_of(error: MagnetError) -> Mistake {
-    match error {
-        MagnetError::NoDigits => Mistake::Text(
-            "INFOHASH takes a magnet link, 40 hex digits or 32 base32 digits",
-        ),
-        MagnetError::NoHash => Mistake::Text("the magnet link has no 'xt=urn:btih:'"),
-        MagnetError::Hash(place) => Mistake::Link(
-            "no 40 hex digits and no 32 base32 digits",
-            place,
-        ),
-        MagnetError::Peer(place) => Mistake::Link("a peer that is none", place),
-        MagnetError::Memory => Mistake::Memory,
-    }
+    /// Who is asked for more peers, if it seeks.
+    pub search: SearchJob,
+    /// Peers are searched while the fetch goes on.
+    pub seeks: bool,
 }
 
 /// Returns the number of an option, or the default if it isn't given.
@@ -114,16 +83,6 @@ fn window_in(text: Option<&str>) -> Option<Option<Window>>
     }
 }
 
-/// Returns whether a flag is given.
-pub(crate) fn is_given(options: &ArgMatches<'_>, name: &str) -> bool
-    ensures { result ≡ flag_in (found_of options.now) name.now }
-{
-    match options.get_str(name) {
-        Some(given) => given == "true",
-        None => false,
-    }
-}
-
 /// Returns what is to be fetched.
 fn wish_in(options: &ArgMatches<'_>, info_hash: [u8; 20]) -> Result<Wish, &'static str>
     ensures wish { IfOk result (λ wish. IsWish wish) }
@@ -152,20 +111,6 @@ fn wish_in(options: &ArgMatches<'_>, info_hash: [u8; 20]) -> Result<Wish, &'stat
         window,
         most: most as u64,
     })
-}
-
-/// Returns copies of the words, if each of them names a peer.
-fn peers_in(alloc: Global, words: &[&str]) -> Result<Option<Vec<String>>, AllocError>
-    ensures { IfOk result (λ found. IfSome found (λ v. map string_bytes v.items ≡ map (λ s. s.now) words.now)) }
-{
-    let mut peers = Vec::new(alloc);
-    for word in words {
-        if !is_peer(word) {
-            return Ok(None);
-        }
-        peers.push(String::from_str(alloc, word)?)?;
-    }
-    Ok(Some(peers))
 }
 
 /// Returns the peers of the words.
@@ -201,6 +146,13 @@ fn at_once_in(options: &ArgMatches<'_>) -> Result<usize, Mistake>
     }
 }
 
+/// Returns whether peers are searched: the words name none, or they name somebody who is asked for peers.
+fn is_seeking(peers: &[String], list: &Option<String>, search: &SearchJob) -> bool
+    ensures { result ≡ is_seeking_by (length peers.now) (is_some list.now) (length search.now.trackers.items) (length search.now.nodes.items) }
+{
+    peers.is_empty() && list.is_none() || !search.trackers.is_empty() || !search.nodes.is_empty()
+}
+
 /// Returns the fetch that the words of the command ask for.
 ///
 /// # Errors
@@ -209,10 +161,7 @@ pub fn fetch_asked(alloc: Global, options: &ArgMatches<'_>) -> Result<FetchJob, 
     ensures wish { IfOk result (λ job. IsWish job.wish) }
     ensures asked { IfOk result (IsFetchAsked (found_of options.now)) }
 {
-    let magnet = match read_magnet(alloc, options.get_str("INFOHASH").unwrap_or("")) {
-        Ok(magnet) => magnet,
-        Err(error) => return Err(mistake_of(error)),
-    };
+    let magnet = magnet_in(alloc, options)?;
     let wish = match wish_in(options, magnet.info_hash) {
         Ok(wish) => wish,
         Err(what) => return Err(Mistake::Text(what)),
@@ -220,9 +169,15 @@ pub fn fetch_asked(alloc: Global, options: &ArgMatches<'_>) -> Result<FetchJob, 
     let at_once = at_once_in(options)?;
     let list = list_in(alloc, options)?;
     let peers = addresses_in(alloc, options)?;
-    if peers.is_empty() && magnet.peers.is_empty() && list.is_none() {
+    let search = search_in(alloc, options)?;
+    let seeks = is_seeking(&peers, &list, &search);
+    if peers.is_empty()
+        && magnet.peers.is_empty()
+        && list.is_none()
+        && asks_nobody(&magnet, &search)
+    {
         return Err(Mistake::Text(
-            "a peer is missing: an ADDRESS, '--peers', or 'x.pe' in the link",
+            "a peer is missing: an ADDRESS, '--peers', 'x.pe' in the link, or somebody who is asked for peers",
         ));
     }
     Ok(FetchJob {
@@ -233,5 +188,7 @@ pub fn fetch_asked(alloc: Global, options: &ArgMatches<'_>) -> Result<FetchJob, 
         list,
         at_once,
         json: is_given(options, "json"),
+        search,
+        seeks,
     })
 }

@@ -11,8 +11,9 @@ use crate::announced::announce_pairs;
 use crate::fetch::FetchJob;
 use crate::report::{Form, Lines, NO_TRY, Tally, counted, say_end};
 use bt_feed::Target;
-use bt_fetch::{DIALS, Ending, FetchError, Outcome, TcpSwarm, fetch};
-use bt_magnet::Magnet;
+use bt_fetch::{DIALS, Ending, FetchError, Outcome, TcpSwarm, Watcher, fetch};
+use bt_finding::{Passed, places_of};
+use bt_peers::{Order, UNASKED, WRONG, drawn_peer_id, seek_and_fetch, wanted_of};
 use bt_run::ending::end_by_fault;
 use bt_run::run::say;
 use bt_text::ended::ToolFault;
@@ -21,45 +22,43 @@ use std::net::{Net, SocketAddr, ToSocketAddrs};
 use std::random::RandomSource;
 use std::time::Clock;
 
-/// The beginning of a peer id: this project's prefix and version. Twelve random digits follow.
-const PEER_PREFIX: &[u8; 8] = b"-TZ0001-";
-
 /// How many peers a fetch has at its places at most.
 const MOST_AT_ONCE: usize = 256;
 
-/// Returns a peer id of this project's prefix and twelve digits.
-///
-/// The digits are random, or zeros if the system's random source fails.
-pub fn drawn_peer_id<R: RandomSource>(random: &R) -> [u8; 20] {
-    let mut drawn = [0u8; 12];
-    if random.fill_bytes(&mut drawn).is_err() {
-        drawn = [0; 12];
+/// Says a note.
+fn say_note<E: Target>(form: Form, line: &[u8], object: &[u8], errors: &mut E) {
+    match form {
+        Form::Json => say(object, errors),
+        _ => say(line, errors),
     }
-    let mut peer_id = [48u8; 20];
-    peer_id[..8].copy_from_slice(PEER_PREFIX);
-    for (digit, byte) in peer_id[8..].iter_mut().zip(drawn.iter()) {
-        *digit = 48 + *byte % 10;
-    }
-    peer_id
 }
 
 /// Says what of a link isn't used.
-fn say_passed<E: Target>(form: Form, magnet: &Magnet, errors: &mut E) {
-    let (trackers, others): (&[u8], &[u8]) = match form {
-        Form::Json => (
-            b"{\"note\":\"trackers aren't asked\"}\n",
-            b"{\"note\":\"other keys of the link aren't used\"}\n",
-        ),
-        _ => (
-            b"bt_tool: trackers aren't asked\n",
-            b"bt_tool: other keys of the link aren't used\n",
-        ),
-    };
-    if !magnet.trackers.is_empty() {
-        say(trackers, errors);
+fn say_passed<E: Target>(form: Form, job: &FetchJob, errors: &mut E) {
+    if !job.magnet.trackers.is_empty() && (!job.seeks || job.search.no_trackers) {
+        let object = b"{\"note\":\"trackers aren't asked\"}\n";
+        say_note(form, b"bt_tool: trackers aren't asked\n", object, errors);
     }
-    if magnet.passed.others {
-        say(others, errors);
+    if job.magnet.passed.others {
+        let object = b"{\"note\":\"other keys of the link aren't used\"}\n";
+        say_note(
+            form,
+            b"bt_tool: other keys of the link aren't used\n",
+            object,
+            errors,
+        );
+    }
+}
+
+/// Says which trackers aren't asked.
+fn say_unasked<E: Target>(form: Form, passed: Passed, errors: &mut E) {
+    if passed.unasked {
+        let object = b"{\"note\":\"trackers by https, ws and wss aren't asked\"}\n";
+        say_note(form, UNASKED, object, errors);
+    }
+    if passed.wrong {
+        let object = b"{\"note\":\"trackers of the link with a wrong URL aren't asked\"}\n";
+        say_note(form, WRONG, object, errors);
     }
 }
 
@@ -156,17 +155,36 @@ fn pairs_for(alloc: Global, job: &FetchJob) -> Result<Option<Vec<u8>>, AllocErro
     Ok(Some(pairs))
 }
 
+/// Fetches from these addresses, and returns who heard what happened too.
+fn fetch_named<R: Net + Clock, T: Watcher + Drop, W: Target>(
+    rt: &R,
+    alloc: Global,
+    order: &Order<'_>,
+    addresses: &[SocketAddr],
+    watcher: T,
+    writer: &mut W,
+) -> (Result<usize, FetchError>, T)
+    requires { IsWish order.now.wish.now }
+    ensures written { IsWritten (option_map (λ p. p.now) order.now.pairs) order.now.wish.now.info_hash (W.seen writer.old).held (W.seen writer.new).held result.0 }
+    ensures fault { result.0 ≡ Err FetchError.Write → WriteFailed (W.seen writer.old) (W.seen writer.new) }
+{
+    let at_once = order.at_once.max(1).min(MOST_AT_ONCE);
+    let mut swarm = TcpSwarm::sleeping(rt, alloc, addresses, watcher, at_once + DIALS, 0);
+    let fetched = fetch(alloc, order.wish, order.pairs, at_once, &mut swarm, writer);
+    (fetched, swarm.watcher())
+}
+
 /// Fetches what is asked for over TCP, from the peers of the words and the link, and from those of `listed`.
 ///
 /// It says on `errors` how each connection ended, how far it came if `errors` is a terminal, and at the end a summary.
 ///
 /// # Errors
 /// `NotFetched` if no peer gave the metadata, `Write` if a write failed, `Memory` when out of memory.
-pub fn run_fetch<R: Net + Clock + RandomSource, W: Target, E: Target>(
-    rt: &R,
+pub fn run_fetch<'a, R: Net + Clock + RandomSource, W: Target, E: Target>(
+    rt: &'a R,
     alloc: Global,
-    job: &FetchJob,
-    listed: &[String],
+    job: &'a FetchJob,
+    listed: &'a [String],
     writer: &mut W,
     errors: &mut E,
     is_terminal: bool,
@@ -182,34 +200,32 @@ pub fn run_fetch<R: Net + Clock + RandomSource, W: Target, E: Target>(
     wish.peer_id = drawn_peer_id(rt);
     let begun = seconds_of(rt);
     let form = form_of(job.json, is_terminal);
-    say_passed(form, &job.magnet, errors);
+    say_passed(form, job, errors);
     let Ok((targets, tally)) = targets_of(rt, alloc, form, job, listed, errors) else {
         return Err(FetchError::Memory);
     };
-    let lines = Lines::new(
-        rt,
-        alloc,
-        targets.names.as_slice(),
-        errors,
-        form,
-        tally,
-        begun,
-    );
-    let at_once = job.at_once.max(1).min(MOST_AT_ONCE);
-    let count = targets.addresses.len();
-    let addresses = targets.addresses.as_slice();
-    let places = at_once + DIALS;
-    let mut swarm = TcpSwarm::sleeping(rt, alloc, addresses, lines, places);
-    let fetched = fetch(
-        alloc,
-        &wish,
-        pairs.as_deref(),
-        count,
-        at_once,
-        &mut swarm,
-        writer,
-    );
-    let mut lines = swarm.watcher();
+    let Ok((places, passed)) = places_of(alloc, &wanted_of(&job.magnet, &job.search)) else {
+        return Err(FetchError::Memory);
+    };
+    if job.seeks {
+        say_unasked(form, passed, errors);
+    }
+    let Targets { addresses, names } = targets;
+    let lines = Lines::new(rt, alloc, names.as_slice(), errors, form, tally, begun);
+    let order = Order {
+        wish: &wish,
+        pairs: pairs.as_deref(),
+        at_once: job.at_once,
+        is_local: job.search.is_local,
+    };
+    if job.seeks {
+        let sought = seek_and_fetch(rt, alloc, &order, addresses, places, lines, writer);
+        let mut lines = sought.watcher;
+        lines.say_asked(&sought.counts, sought.found);
+        lines.say_summary(seconds_of(rt));
+        return sought.fetched;
+    }
+    let (fetched, mut lines) = fetch_named(rt, alloc, &order, &addresses, lines, writer);
     lines.say_summary(seconds_of(rt));
     fetched
 }

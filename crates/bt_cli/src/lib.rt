@@ -6,6 +6,7 @@
 
 mod announced;
 pub mod capture;
+mod chosen;
 pub mod commands;
 pub mod ending;
 pub mod fetch;

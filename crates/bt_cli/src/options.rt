@@ -10,13 +10,14 @@ ghost use Rattle.bt_cli.specs.Options.{IsAskedBy, IsChosen, IsRequested, IsWritt
 
 use crate::capture::{CaptureRequest, capture_in};
 use crate::commands::{Asked, Given, Hints, Job, Notice, Request, default_own};
-use crate::fetch::{Mistake, fetch_asked, is_given};
+use crate::fetch::{Mistake, fetch_asked};
 use crate::serve::serve_asked;
 use crate::texts::{
     ABOUT, AFTER, CALL, CAPTURE, CHECK, CommandText, FETCH, LINK, LOOP, OperandText, OptionText,
-    PACK, SERVE, SHOW, UNPACK, usage_of,
+    PACK, PEERS_OF_LINK, SERVE, SHOW, UNPACK, usage_of,
 };
 use bt_ext::Rules;
+use bt_peers::{copied, is_given, peers_asked};
 use bt_run::values::{Setting, Written, own_of, read_hints};
 use bt_wire::Own;
 use clap::error::ErrorKind;
@@ -93,7 +94,12 @@ fn option<'a>(alloc: Global, text: &OptionText) -> Result<Arg<'a>, AllocError> {
     let argument = if text.value.is_empty() {
         argument.action(ArgAction::SetTrue)
     } else {
-        argument.value_name(text.value).action(ArgAction::Set)
+        let action = if text.is_repeated {
+            ArgAction::Append
+        } else {
+            ArgAction::Set
+        };
+        argument.value_name(text.value).action(action)
     };
     if text.alias.is_empty() {
         Ok(argument)
@@ -170,6 +176,11 @@ fn fetch_command<'a>(alloc: Global) -> Result<Command<'a>, AllocError> {
     command_of(alloc, &FETCH)
 }
 
+/// Returns the command `peers`.
+fn peers_command<'a>(alloc: Global) -> Result<Command<'a>, AllocError> {
+    command_of(alloc, &PEERS_OF_LINK)
+}
+
 /// Returns the command `serve`.
 fn serve_command<'a>(alloc: Global) -> Result<Command<'a>, AllocError> {
     command_of(alloc, &SERVE)
@@ -192,6 +203,7 @@ fn command_line<'a>(alloc: Global) -> Result<Command<'a>, AllocError> {
         .subcommand(capture_command(alloc)?)?
         .subcommand(loop_command(alloc)?)?
         .subcommand(fetch_command(alloc)?)?
+        .subcommand(peers_command(alloc)?)?
         .subcommand(serve_command(alloc)?)
 }
 
@@ -331,17 +343,6 @@ fn named(
         Some(name) => Ok(Some(String::from_str(alloc, name)?)),
         None => Ok(None),
     }
-}
-
-/// Returns copies of the texts.
-fn copied(alloc: Global, texts: &[&str]) -> Result<Vec<String>, AllocError>
-    ensures { IfOk result (λ v. map string_bytes v.items ≡ map (λ s. s.now) texts.now) }
-{
-    let mut copies = Vec::with_capacity(alloc, texts.len())?;
-    for text in texts {
-        copies.push(String::from_str(alloc, text)?)?;
-    }
-    Ok(copies)
 }
 
 /// Returns the files that are read.
@@ -502,7 +503,7 @@ fn loop_asked(alloc: Global, name: &str, options: &ArgMatches<'_>) -> Result<Ask
     }
 }
 
-/// Returns what went wrong with the words of `fetch` or `serve`.
+/// Returns what went wrong with the words of `fetch`, `peers` or `serve`.
 fn mistaken(alloc: Global, name: &str, why: Mistake) -> Result<Asked, AllocError>
     ensures limited { IfOk result IsLimited }
     ensures told { IfOk result (HasText Notice.Usage) }
@@ -511,6 +512,12 @@ fn mistaken(alloc: Global, name: &str, why: Mistake) -> Result<Asked, AllocError
         Mistake::Text(what) => mistake(alloc, usage_of(name), what),
         Mistake::Link(what, place) => {
             let text = format!(in alloc; "the magnet link has {what} at offset {place}")?;
+            mistake(alloc, usage_of(name), text.as_str())
+        }
+        Mistake::Tracker(place) => {
+            let text = format!(in alloc;
+                "'--tracker' takes udp://HOST:PORT or http://HOST[:PORT][/PATH]: it is something else from offset {place} on"
+            )?;
             mistake(alloc, usage_of(name), text.as_str())
         }
         Mistake::Memory => Err(AllocError),
@@ -540,6 +547,10 @@ fn command_asked(alloc: Global, name: &str, options: &ArgMatches<'_>) -> Result<
         "loop" => loop_asked(alloc, name, options),
         "fetch" => match fetch_asked(alloc, options) {
             Ok(job) => Ok(Asked::Fetch(job)),
+            Err(why) => mistaken(alloc, name, why),
+        },
+        "peers" => match peers_asked(alloc, options) {
+            Ok(job) => Ok(Asked::Peers(job)),
             Err(why) => mistaken(alloc, name, why),
         },
         "serve" => match serve_asked(alloc, options) {

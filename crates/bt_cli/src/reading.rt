@@ -1,10 +1,9 @@
 //! How much of a long file is read, shown on a terminal.
-ghost use Rattle.std.specs.Prelude.{◌≡◌, IfOk};
+ghost use Rattle.std.specs.Prelude.{◌≡◌, IfOk, string_bytes};
 ghost use Rattle.bt_cli.specs.Readings.{is_drawn_again, is_long_by, progress_words, source_of};
 
 use bt_feed::Target;
 use bt_io::{Failed, Source};
-use bt_link::text::push_number;
 use bt_run::run::say;
 use std::alloc::{AllocError, Global};
 use std::time::Clock;
@@ -39,16 +38,11 @@ fn is_due(drawn: u64, time: u64) -> bool
 }
 
 /// Returns the line of a file of which so many bytes are read, in units of 10^6.
-fn line_of(alloc: Global, read: u64, size: u64) -> Result<Vec<u8>, AllocError>
-    ensures { IfOk result (λ line. line.items ≡ progress_words read size) }
+fn line_of(alloc: Global, read: u64, size: u64) -> Result<String, AllocError>
+    ensures { IfOk result (λ line. string_bytes line ≡ progress_words read size) }
 {
-    let mut text = Vec::new(alloc);
-    text.extend_from_slice(b"capture: ")?;
-    push_number(read / MEGABYTE, &mut text)?;
-    text.extend_from_slice(b" of ")?;
-    push_number(size / MEGABYTE, &mut text)?;
-    text.extend_from_slice(b" MB")?;
-    Ok(text)
+    let (read, size) = (read / MEGABYTE, size / MEGABYTE);
+    format!(in alloc; "capture: {read} of {size} MB")
 }
 
 /// Returns the time of a clock in milliseconds; 0 if it fails.
@@ -114,7 +108,7 @@ impl<'a, R: Clock, S, E: Target> Shown<'a, R, S, E> {
         };
         self.is_shown = true;
         say(CLEAR, self.errors);
-        say(line.as_slice(), self.errors);
+        say(line.as_bytes(), self.errors);
         say(BACK, self.errors);
     }
 

@@ -1,14 +1,16 @@
 //! What standard error gets of a fetch: how each connection goes and ends, and the summary.
 ghost use Rattle.std.specs.Prelude.{◌≡◌, ◌≢◌, ◌++◌, [], IfOk, codes, string_bytes};
-ghost use Rattle.bt_cli.specs.Tallies.{counted as counted_by_rule, ending_word, is_due as is_due_by_rule, tally_fields, tally_words};
+ghost use Rattle.bt_cli.specs.Tallies.{asked_fields, counted as counted_by_rule, ending_word, is_due as is_due_by_rule, tally_fields, tally_words};
 
 use bt_end::Progress;
 use bt_feed::Target;
 use bt_fetch::{Ending, Outcome, Watcher};
+use bt_finding::{Counts, summary_line};
 use bt_run::run::say;
 use bt_text::ended::Ended;
 use bt_text::lines::verdict_line;
 use std::alloc::{AllocError, Global};
+use std::net::SocketAddr;
 use std::time::Clock;
 
 /// How many tries ended so. Each stays at 2^32 - 1.
@@ -125,6 +127,20 @@ fn tally_object(alloc: Global, seconds: u64, tally: Tally) -> Result<String, All
     )
 }
 
+/// Returns whom a search has asked, and how many peers it has found, as a JSON object.
+fn asked_object(alloc: Global, counts: &Counts, found: usize) -> Result<String, AllocError>
+    ensures { IfOk result (λ text. string_bytes text ≡ asked_fields counts.now found) }
+{
+    let Counts {
+        trackers,
+        nodes,
+        private,
+    } = *counts;
+    format!(in alloc;
+        "{{\"trackers\":{trackers},\"nodes\":{nodes},\"found\":{found},\"private\":{private}}}\n"
+    )
+}
+
 /// Returns the word for how a connection ended.
 fn word_of(ending: Ending) -> &'static str
     ensures { result.now ≡ ending_word ending }
@@ -224,15 +240,30 @@ fn moved(front: Option<Front>, progress: Progress, time: u64) -> Front {
     }
 }
 
-/// Returns the line of a terminal: how many connections are open, the blocks of the one that has come furthest, and its rate.
-fn progress_line(alloc: Global, inside: u32, front: Option<Front>) -> Result<String, AllocError> {
+/// Returns what a terminal's line says of the peers that were found.
+fn found_text(alloc: Global, found: usize) -> Result<String, AllocError> {
+    if found == 0 {
+        return Ok(String::new(alloc));
+    }
+    format!(in alloc; ", {found} found")
+}
+
+/// Returns the line of a terminal: how many connections are open, the blocks of the one that has come furthest, and its rate; and how many
+/// peers were found, if any were.
+fn progress_line(
+    alloc: Global,
+    inside: u32,
+    found: usize,
+    front: Option<Front>,
+) -> Result<String, AllocError> {
+    let found = found_text(alloc, found)?;
     let Some(front) = front else {
-        return format!(in alloc; "fetching, {inside} open");
+        return format!(in alloc; "fetching, {inside} open{found}");
     };
     let (held, blocks) = (front.progress.held, front.progress.blocks);
     let time = front.time.saturating_sub(front.since).max(1);
     let rate = (held as u64).saturating_mul(BLOCK * 1000) / time;
-    format!(in alloc; "fetching {held} of {blocks} blocks at {rate} KiB/s, {inside} open")
+    format!(in alloc; "fetching {held} of {blocks} blocks at {rate} KiB/s, {inside} open{found}")
 }
 
 /// How many milliseconds pass before a terminal's line is drawn again.
@@ -253,7 +284,10 @@ fn is_due(drawn: Option<u64>, time: u64) -> bool
 pub struct Lines<'a, R: Clock, E: Target> {
     clock: &'a R,
     alloc: Global,
+    /// The names of the peers that were named.
     names: &'a [&'a str],
+    /// The addresses of those that were found, which come after them.
+    found: Vec<SocketAddr>,
     errors: &'a mut E,
     form: Form,
     /// A line that is to be cleared stands there.
@@ -266,8 +300,8 @@ pub struct Lines<'a, R: Clock, E: Target> {
     front: Option<Front>,
     /// When the fetch began, in seconds.
     begun: u64,
-    /// The peer that the metadata came from, or nothing.
-    source: &'a str,
+    /// The number of the peer that the metadata came from.
+    source: Option<usize>,
 }
 
 impl<'a, R: Clock, E: Target> Lines<'a, R, E> {
@@ -285,6 +319,7 @@ impl<'a, R: Clock, E: Target> Lines<'a, R, E> {
             clock,
             alloc,
             names,
+            found: Vec::new(alloc),
             errors,
             form,
             is_shown: false,
@@ -293,17 +328,48 @@ impl<'a, R: Clock, E: Target> Lines<'a, R, E> {
             inside: 0,
             front: None,
             begun,
-            source: "",
+            source: None,
+        }
+    }
+
+    /// Returns the name of a peer; nothing if it has none.
+    fn name_of(&self, address: usize) -> Result<String, AllocError> {
+        if let Some(name) = self.names.get(address) {
+            return String::from_str(self.alloc, name);
+        }
+        match self.found.get(address.saturating_sub(self.names.len())) {
+            Some(at) => format!(in self.alloc; "{at}"),
+            None => Ok(String::new(self.alloc)),
+        }
+    }
+
+    /// Returns the summary of a fetch that took so many seconds.
+    fn summary_text(&self, seconds: u64) -> Result<String, AllocError> {
+        let source = match self.source {
+            Some(address) => self.name_of(address)?,
+            None => String::new(self.alloc),
+        };
+        match self.form {
+            Form::Json => summary_object(self.alloc, source.as_str(), seconds, self.tally),
+            _ => summary(self.alloc, source.as_str(), seconds, self.tally),
+        }
+    }
+
+    /// Says whom a search has asked, and how many peers it has found.
+    pub fn say_asked(&mut self, counts: &Counts, found: usize) {
+        let text = match self.form {
+            Form::Json => asked_object(self.alloc, counts, found),
+            _ => summary_line(self.alloc, counts, found),
+        };
+        if let Ok(text) = text {
+            say(text.as_str().as_bytes(), self.errors);
         }
     }
 
     /// Says the summary of a fetch that ended at this second.
     pub fn say_summary(&mut self, ended: u64) {
         let seconds = ended.saturating_sub(self.begun);
-        let text = match self.form {
-            Form::Json => summary_object(self.alloc, self.source, seconds, self.tally),
-            _ => summary(self.alloc, self.source, seconds, self.tally),
-        };
+        let text = self.summary_text(seconds);
         if let Ok(text) = text {
             say(text.as_str().as_bytes(), self.errors);
         }
@@ -327,7 +393,8 @@ impl<'a, R: Clock, E: Target> Lines<'a, R, E> {
             return;
         }
         self.drawn = Some(time);
-        let Ok(text) = progress_line(self.alloc, self.inside, self.front) else {
+        let found = self.found.len();
+        let Ok(text) = progress_line(self.alloc, self.inside, found, self.front) else {
             return;
         };
         self.is_shown = true;
@@ -342,11 +409,12 @@ impl<'a, R: Clock, E: Target> Lines<'a, R, E> {
             say(CLEAR, self.errors);
         }
         self.tally = counted(self.tally, ending);
-        let name = self.names.get(address).copied().unwrap_or("");
         if ending == Ending::By(Outcome::Fetched) {
-            self.source = name;
+            self.source = Some(address);
         }
-        say_end(self.alloc, self.form, name, ending, self.errors);
+        if let Ok(name) = self.name_of(address) {
+            say_end(self.alloc, self.form, name.as_str(), ending, self.errors);
+        }
     }
 }
 
@@ -354,6 +422,11 @@ impl<'a, R: Clock, E: Target> Watcher for Lines<'a, R, E> {
     ghost use Rattle.std.specs.Prelude.{None};
 
     ghost heard = { λ l. None };
+
+    fn added(&mut self, address: SocketAddr) {
+        let _ = self.found.push(address);
+        self.show();
+    }
 
     fn dialled(&mut self, address: usize, is_begun: bool) {
         if is_begun {

@@ -1,5 +1,5 @@
 //! The command `serve`: what its words ask for, the service, its lines, and the exit status.
-ghost use Rattle.std.specs.Prelude.{◌≡◌, ◌++◌, length, IfOk, OnOk, option_map};
+ghost use Rattle.std.specs.Prelude.{◌≡◌, ◌++◌, length, IfOk, OnOk, option_map, string_bytes};
 ghost use Rattle.std.specs.IoError.{error_kind};
 ghost use Rattle.clap.specs.Matches.{found_of};
 ghost use Rattle.sha1.specs.Sha1.{sha1};
@@ -8,15 +8,14 @@ ghost use Rattle.bt_run.specs.Runs.{IsSaid};
 ghost use Rattle.bt_serve.specs.Doors.{AreEnough, AreToldOf, AreWithin};
 ghost use Rattle.bt_serve.specs.Guests.{IsHospitality};
 ghost use Rattle.bt_cli.specs.Services.{IsAnnounced, IsMetadataOf, IsPartingLine, IsPartingSaid, IsServiceEnd};
-ghost use Rattle.bt_cli.specs.Services.{ending_word, is_done, parting_words, read_fault, refused_words, serve_status, serve_words, serving_line};
+ghost use Rattle.bt_cli.specs.Services.{ending_word, is_done, read_fault, refused_words, serve_status, serve_words, serving_line};
 ghost use Rattle.bt_cli.specs.Wanted.{IsServeAsked, exit_after_in as exit_after_in_by_rule};
 
 use crate::fetch::{DEFAULT_LIMIT, DEFAULT_TIMEOUT, Mistake, number_or, rules_in};
-use crate::fetching::drawn_peer_id;
 use bt_ext::Rules;
 use bt_feed::Target;
-use bt_link::text::{push_hex, push_number};
 use bt_metadata::MAX_METADATA;
+use bt_peers::drawn_peer_id;
 use bt_run::run::say;
 use bt_serve::{
     Door, Ending, Farewell, Hospitality, Parting, TcpDoor, into_info, is_dictionary, listen, serve,
@@ -151,26 +150,18 @@ fn last_word<'a>(ending: Ending, line: &'a mut [u8; 160]) -> &'a [u8]
     }
 }
 
-/// Appends the counts of a connection, and how it ended.
-#[tactic(auto, using(std::proofs::lemmas::List::append_assoc))]
-fn push_parting(parting: Parting, text: &mut Vec<u8>) -> Result<(), AllocError>
-    ensures { OnOk result (text.new.items ≡ text.old.items ++ parting_words parting) }
-{
-    text.extend_from_slice(b" sent=")?;
-    push_number(parting.sent, text)?;
-    text.extend_from_slice(b" handled=")?;
-    push_number(parting.handled, text)?;
-    text.extend_from_slice(b" ")?;
-    let mut line = [0; 160];
-    text.extend_from_slice(last_word(parting.ending, &mut line))
-}
-
 /// Returns a connection's line.
 fn line_of(alloc: Global, peer: SocketAddr, parting: Parting) -> Result<Vec<u8>, AllocError>
     ensures { IfOk result (λ line. IsPartingLine parting line.items) }
 {
-    let mut text = format!(in alloc; "{peer}")?.into_bytes();
-    push_parting(parting, &mut text)?;
+    let Parting {
+        ending,
+        sent,
+        handled,
+    } = parting;
+    let mut text = format!(in alloc; "{peer} sent={sent} handled={handled} ")?.into_bytes();
+    let mut line = [0; 160];
+    text.extend_from_slice(last_word(ending, &mut line))?;
     Ok(text)
 }
 
@@ -231,24 +222,16 @@ fn metadata_of(alloc: Global, file: Vec<u8>) -> Result<Vec<u8>, Service>
 }
 
 /// Returns the first line: the info hash, the size, and where the server listens.
-#[tactic(auto, using(std::proofs::lemmas::List::append_assoc))]
 fn first_line(
     alloc: Global,
     info_hash: &[u8; 20],
     size: usize,
-    address: &[u8],
-) -> Result<Vec<u8>, AllocError>
-    ensures { IfOk result (λ line. line.items ≡ serving_line info_hash.now size address.now) }
+    address: &str,
+) -> Result<String, AllocError>
+    ensures { IfOk result (λ line. string_bytes line ≡ serving_line info_hash.now size address.now) }
 {
-    let mut text = Vec::new(alloc);
-    text.extend_from_slice(b"serving ")?;
-    push_hex(info_hash, &mut text)?;
-    text.extend_from_slice(b" size=")?;
-    push_number(size as u64, &mut text)?;
-    text.extend_from_slice(b" on ")?;
-    text.extend_from_slice(address)?;
-    text.extend_from_slice(b"\n")?;
-    Ok(text)
+    let hash = hex::encode(alloc, info_hash.as_slice())?;
+    format!(in alloc; "serving {hash} size={size} on {address}\n")
 }
 
 /// Says the first line, by one write.
@@ -262,8 +245,8 @@ fn announce<W: Target>(
     ensures { OnOk result (IsAnnounced info_hash.now size (W.seen writer.old) (W.seen writer.new)) }
 {
     let address = format!(in alloc; "{address}")?;
-    let line = first_line(alloc, info_hash, size, address.as_bytes())?;
-    say(line.as_slice(), writer);
+    let line = first_line(alloc, info_hash, size, address.as_str())?;
+    say(line.as_bytes(), writer);
     Ok(())
 }
 

@@ -9,6 +9,8 @@ pub(crate) struct OptionText {
     pub alias: &'static str,
     /// The name of its value; nothing if it takes none.
     pub value: &'static str,
+    /// It may be given more than once.
+    pub is_repeated: bool,
     /// What it is, its values, and its default in brackets.
     pub help: &'static str,
 }
@@ -38,6 +40,7 @@ const RESERVED: OptionText = OptionText {
     name: "reserved",
     alias: "",
     value: "HEX",
+    is_repeated: false,
     help: "Reserved bits that the receiver sent: 16 hex digits [default: 0000000000100005]",
 };
 
@@ -45,6 +48,7 @@ const PIECES: OptionText = OptionText {
     name: "pieces",
     alias: "",
     value: "N",
+    is_repeated: false,
     help: "Number of pieces of the torrent: 0 to 4294967295 [default: unknown]",
 };
 
@@ -52,6 +56,7 @@ const METADATA_ID: OptionText = OptionText {
     name: "metadata-id",
     alias: "",
     value: "N",
+    is_repeated: false,
     help: "Id that the receiver announced for ut_metadata: 0 to 255, 0 for none [default: 3]",
 };
 
@@ -59,6 +64,7 @@ const DONTHAVE_ID: OptionText = OptionText {
     name: "donthave-id",
     alias: "",
     value: "N",
+    is_repeated: false,
     help: "Id that the receiver announced for lt_donthave: 0 to 255, 0 for none [default: 0]",
 };
 
@@ -66,6 +72,7 @@ const INFO_HASH: OptionText = OptionText {
     name: "info-hash",
     alias: "",
     value: "HEX",
+    is_repeated: false,
     help: "Only info hash that is accepted: 40 hex digits [default: any]",
 };
 
@@ -73,6 +80,7 @@ const OTHER: OptionText = OptionText {
     name: "other",
     alias: "",
     value: "FILE",
+    is_repeated: false,
     help: "Stream that the receiver sent; it gives the bits and ids that no option gives [default: none]",
 };
 
@@ -80,6 +88,7 @@ const FREE: OptionText = OptionText {
     name: "rules",
     alias: "",
     value: "RULES",
+    is_repeated: false,
     help: "Rules: 'free' (lenient) or 'bep' (strict) [default: free]",
 };
 
@@ -87,6 +96,7 @@ const BEP: OptionText = OptionText {
     name: "rules",
     alias: "",
     value: "RULES",
+    is_repeated: false,
     help: "Rules: 'free' (lenient) or 'bep' (strict) [default: bep]",
 };
 
@@ -94,6 +104,7 @@ const LIMIT: OptionText = OptionText {
     name: "limit",
     alias: "",
     value: "N",
+    is_repeated: false,
     help: "Greatest length of a message, without its prefix: 1 to 1048576 [default: 262144]",
 };
 
@@ -101,6 +112,7 @@ const LIMIT_OF_ENDS: OptionText = OptionText {
     name: "limit",
     alias: "",
     value: "N",
+    is_repeated: false,
     help: "Greatest length of a message, without its prefix: 32768 to 1048576 [default: 262144]",
 };
 
@@ -108,6 +120,7 @@ const HINTS: OptionText = OptionText {
     name: "hints",
     alias: "",
     value: "WHEN",
+    is_repeated: false,
     help: "When standard error gets a hint: 'always', 'never' or 'auto' (on a terminal) [default: auto]",
 };
 
@@ -115,6 +128,7 @@ const JSON: OptionText = OptionText {
     name: "json",
     alias: "",
     value: "",
+    is_repeated: false,
     help: "Prints a JSON object a line: one for each item, and one for the verdict",
 };
 
@@ -122,6 +136,7 @@ const TIMEOUT: OptionText = OptionText {
     name: "timeout",
     alias: "patience",
     value: "SECONDS",
+    is_repeated: false,
     help: "Seconds without progress after which a connection ends: 1 to 86400 [default: 30]",
 };
 
@@ -129,6 +144,7 @@ const WINDOW: OptionText = OptionText {
     name: "window",
     alias: "",
     value: "N",
+    is_repeated: false,
     help: "Blocks that are requested at once: 1 to 8 [default: 8, and 1 if a peer is tried again]",
 };
 
@@ -136,6 +152,7 @@ const MAX_SIZE: OptionText = OptionText {
     name: "max-size",
     alias: "most",
     value: "BYTES",
+    is_repeated: false,
     help: "Greatest size of metadata that is taken: 1 to 67108864 [default: 67108864]",
 };
 
@@ -143,6 +160,7 @@ const TORRENT: OptionText = OptionText {
     name: "torrent",
     alias: "",
     value: "",
+    is_repeated: false,
     help: "Writes a .torrent, and not only the metadata",
 };
 
@@ -150,6 +168,7 @@ const LISTEN: OptionText = OptionText {
     name: "listen",
     alias: "",
     value: "ADDRESS",
+    is_repeated: false,
     help: "Where it listens: IP:PORT or [IPv6]:PORT; port 0 takes a free one [default: 127.0.0.1:0]",
 };
 
@@ -157,6 +176,7 @@ const EXIT_AFTER: OptionText = OptionText {
     name: "exit-after",
     alias: "connections",
     value: "N",
+    is_repeated: false,
     help: "Connections after which it ends: 1 to 4294967295 [default: none, it goes on]",
 };
 
@@ -164,6 +184,7 @@ const MAX_CONNECTIONS: OptionText = OptionText {
     name: "max-connections",
     alias: "at-once",
     value: "N",
+    is_repeated: false,
     help: "Connections that are served at the same time: 1 to 1024 [default: 64]",
 };
 
@@ -171,6 +192,7 @@ const PEERS: OptionText = OptionText {
     name: "peers",
     alias: "",
     value: "FILE",
+    is_repeated: false,
     help: "File of more peers, one a line, '#' before a comment; '-' is standard input [default: none]",
 };
 
@@ -178,6 +200,7 @@ const AT_ONCE: OptionText = OptionText {
     name: "at-once",
     alias: "",
     value: "N",
+    is_repeated: false,
     help: "Peers that are asked at the same time: 1 to 256; memory is at most as many times '--max-size' [default: 16]",
 };
 
@@ -185,13 +208,55 @@ const JSON_OF_FETCH: OptionText = OptionText {
     name: "json",
     alias: "",
     value: "",
+    is_repeated: false,
     help: "Writes a JSON object a line on standard error: one for each connection's end, and one for the summary",
+};
+
+const TRACKER: OptionText = OptionText {
+    name: "tracker",
+    alias: "",
+    value: "URL",
+    is_repeated: true,
+    help: "Tracker that is asked too: udp://HOST:PORT or http://HOST[:PORT][/PATH]; may be given more than once [default: none]",
+};
+
+const DHT: OptionText = OptionText {
+    name: "dht",
+    alias: "",
+    value: "HOST:PORT",
+    is_repeated: true,
+    help: "Node of the DHT that is asked first, in place of the usual ones; may be given more than once [default: those of other clients]",
+};
+
+const NO_TRACKERS: OptionText = OptionText {
+    name: "no-trackers",
+    alias: "",
+    value: "",
+    is_repeated: false,
+    help: "Doesn't ask the trackers of the link",
+};
+
+const NO_DHT: OptionText = OptionText {
+    name: "no-dht",
+    alias: "",
+    value: "",
+    is_repeated: false,
+    help: "Doesn't ask the usual nodes of the DHT",
+};
+
+const LOCAL: OptionText = OptionText {
+    name: "local",
+    alias: "",
+    value: "",
+    is_repeated: false,
+    help: "Takes private addresses too that the link, a tracker or a node names",
 };
 
 const TORRENT_OF_CAPTURE: OptionText = OptionText {
     name: "torrent",
     alias: "",
     value: "FILE",
+    is_repeated: false,
     help: "A .torrent, whose piece count the connections with its info hash have [default: none]",
 };
 
@@ -199,6 +264,7 @@ const ROWS_OF_CAPTURE: OptionText = OptionText {
     name: "show",
     alias: "",
     value: "",
+    is_repeated: false,
     help: "Prints a row for each item, refusal, gap and close too, as it comes",
 };
 
@@ -206,6 +272,7 @@ const STREAM_OF_CAPTURE: OptionText = OptionText {
     name: "stream",
     alias: "",
     value: "N-SIDE",
+    is_repeated: false,
     help: "Writes only the stream of one side, as 0-A: what side A of connection 0 sent [default: none]",
 };
 
@@ -213,13 +280,31 @@ const JSON_OF_CAPTURE: OptionText = OptionText {
     name: "json",
     alias: "",
     value: "",
+    is_repeated: false,
     help: "Prints a JSON object a line: one for each connection, and with '--show' one for each row",
+};
+
+const ONLY_OF_CAPTURE: OptionText = OptionText {
+    name: "only",
+    alias: "",
+    value: "WHICH",
+    is_repeated: false,
+    help: "Reports only connections of which a direction is refused under the lenient rules: 'refused' [default: all]",
+};
+
+const PEER_OF_CAPTURE: OptionText = OptionText {
+    name: "peer",
+    alias: "",
+    value: "IP[:PORT]",
+    is_repeated: false,
+    help: "Reports only connections with this end: IP, IP:PORT or [IPv6]:PORT [default: all]",
 };
 
 const STRICT_STATUS: OptionText = OptionText {
     name: "strict-status",
     alias: "",
     value: "",
+    is_repeated: false,
     help: "Ends with status 4 in place of 0 if a direction was read in part only: it has a gap, bytes and no whole handshake, or wasn't read further",
 };
 
@@ -280,6 +365,8 @@ const CAPTURE_USAGE: &str = "bt_tool capture [OPTIONS] [FILE]";
 const LOOP_USAGE: &str = "bt_tool loop [OPTIONS]";
 
 const FETCH_USAGE: &str = "bt_tool fetch [OPTIONS] MAGNET|INFOHASH [ADDRESS]..";
+
+const PEERS_OF_LINK_USAGE: &str = "bt_tool peers [OPTIONS] MAGNET|INFOHASH";
 
 const SERVE_USAGE: &str = "bt_tool serve [OPTIONS] FILE";
 
@@ -425,6 +512,8 @@ pub(crate) const CAPTURE: CommandText = CommandText {
         ROWS_OF_CAPTURE,
         STREAM_OF_CAPTURE,
         JSON_OF_CAPTURE,
+        ONLY_OF_CAPTURE,
+        PEER_OF_CAPTURE,
         STRICT_STATUS,
     ],
     operands: &[PACKETS],
@@ -433,8 +522,8 @@ Example:
   bt_tool capture small.pcap
 
 Exit status:
-  0    No direction is refused under the lenient rules; one that was cut off isn't counted
-  1    A direction is refused under the lenient rules
+  0    No direction that is reported is refused under the lenient rules; one that was cut off isn't counted
+  1    A direction that is reported is refused under the lenient rules
   2    Usage error
   3    No BitTorrent connection was found, or none of the number of '--stream', FILE is no capture, a read or a write failed, or the program is out of memory
   4    With '--strict-status': no direction is refused, but one was read in part only
@@ -462,7 +551,7 @@ Exit status:
 pub(crate) const FETCH: CommandText = CommandText {
     name: "fetch",
     usage: FETCH_USAGE,
-    about: "Fetches the metadata of a torrent from peers (BEP 9), and writes it on standard output",
+    about: "Fetches the metadata of a torrent from peers (BEP 9), and writes it on standard output; without an ADDRESS and '--peers' it finds the peers as 'peers' does",
     options: &[
         PEERS,
         AT_ONCE,
@@ -473,6 +562,11 @@ pub(crate) const FETCH: CommandText = CommandText {
         MAX_SIZE,
         TORRENT,
         JSON_OF_FETCH,
+        TRACKER,
+        DHT,
+        NO_TRACKERS,
+        NO_DHT,
+        LOCAL,
     ],
     operands: &[INFOHASH, ADDRESS],
     after: "\
@@ -484,6 +578,24 @@ Exit status:
   1    No peer gave the metadata
   2    Usage error, or a line of the '--peers' file names no peer
   3    A read or a write failed, or the program is out of memory
+  141  The output pipe was closed, as after '| head'",
+};
+
+pub(crate) const PEERS_OF_LINK: CommandText = CommandText {
+    name: "peers",
+    usage: PEERS_OF_LINK_USAGE,
+    about: "Finds peers of a magnet link by its trackers and the DHT (BEP 5, 15, 23), and prints a line for each",
+    options: &[TRACKER, DHT, NO_TRACKERS, NO_DHT, LOCAL],
+    operands: &[INFOHASH],
+    after: "\
+Example:
+  bt_tool peers --no-dht --tracker udp://192.0.2.1:6969 a9993e364706816aba3e25717850c26c9cd0d89d
+
+Exit status:
+  0    A peer was found
+  1    No peer was found
+  2    Usage error
+  3    A write failed, or the program is out of memory
   141  The output pipe was closed, as after '| head'",
 };
 
@@ -544,6 +656,7 @@ pub(crate) fn usage_of(name: &str) -> &'static str {
         "capture" => CAPTURE_USAGE,
         "loop" => LOOP_USAGE,
         "fetch" => FETCH_USAGE,
+        "peers" => PEERS_OF_LINK_USAGE,
         "serve" => SERVE_USAGE,
         _ => CALL,
     }

@@ -163,11 +163,16 @@ fn end_for(alloc: Global, role: Role) -> Option<End> {
     End::new(alloc, config).ok()
 }
 
-/// The peers of a list of addresses, and what was told of them.
+/// The peers of a list of addresses, of which so many are known, and what was told of them.
 #[derive(Drop)]
 struct Peers {
     alloc: Global,
     peers: &'static [Peer],
+    known: usize,
+    /// How many times it still says that more may come: each fourth time one comes.
+    left: usize,
+    /// Whether it said that no more come.
+    is_all: bool,
     /// The call, counted from 1, at which the first connection to each address fails.
     fails_at: Option<u64>,
     dialled: [u8; 8],
@@ -179,13 +184,27 @@ struct Peers {
 }
 
 impl Peers {
-    fn new(alloc: Global, peers: &'static [Peer], fails_at: Option<u64>, places: usize) -> Peers
+    /// Returns peers of which all are known; or, if they come late, none.
+    fn new(
+        alloc: Global,
+        peers: &'static [Peer],
+        is_late: bool,
+        fails_at: Option<u64>,
+        places: usize,
+    ) -> Peers
         ensures inside { ⟦<Peers as Device>⟧.inside result ≡ 0 }
         ensures places { ⟦<Peers as Device>⟧.places result ≡ places }
     {
         Peers {
             alloc,
             peers,
+            known: if is_late { 0 } else { peers.len() },
+            left: if is_late {
+                peers.len().saturating_mul(4)
+            } else {
+                0
+            },
+            is_all: false,
             fails_at,
             dialled: [0; 8],
             ended: [None; 8],
@@ -200,6 +219,7 @@ impl Peers {
     fn count(&mut self, address: usize) -> u8
         ensures inside { self.new.inside ≡ self.old.inside }
         ensures places { self.new.places ≡ self.old.places }
+        ensures list { ⟦<Peers as Device>⟧.list self.new ≡ ⟦<Peers as Device>⟧.list self.old }
     {
         if address >= 8 {
             return 0;
@@ -239,13 +259,40 @@ impl Peers {
 impl Device for Peers {
     type Link = Link;
 
-    ghost use Rattle.std.specs.Prelude.{None};
+    ghost use Rattle.std.specs.Prelude.{None, length, min};
 
     ghost log = { λ d. None };
 
     ghost inside = { λ d. d.inside };
 
     ghost places = { λ d. d.places };
+
+    ghost list = { λ d. record {
+      known = min d.known (length d.peers.now);
+      most = length d.peers.now;
+      is_all = d.is_all;
+      looks = d.left;
+    } };
+
+    fn known(&self) -> usize {
+        self.known.min(self.peers.len())
+    }
+
+    fn most(&self) -> usize {
+        self.peers.len()
+    }
+
+    fn more(&mut self) -> bool {
+        if self.is_all || self.left == 0 {
+            self.is_all = true;
+            return false;
+        }
+        self.left -= 1;
+        if self.left % 4 == 0 {
+            self.known = self.known.saturating_add(1);
+        }
+        true
+    }
 
     fn dial(&mut self, address: usize) -> Option<Link> {
         let before = self.count(address);
@@ -286,7 +333,22 @@ struct Came {
     peers: Peers,
 }
 
+/// Fetches from peers of whom all are known at the start.
 fn fetched(alloc: Global, peers: &'static [Peer], fails_at: Option<u64>, at_once: usize) -> Came
+    requires least { 0 < at_once }
+    requires most { at_once ≤ 256 }
+{
+    fetched_as(alloc, peers, false, fails_at, at_once)
+}
+
+/// Fetches from peers, who are known at the start or come late.
+fn fetched_as(
+    alloc: Global,
+    peers: &'static [Peer],
+    is_late: bool,
+    fails_at: Option<u64>,
+    at_once: usize,
+) -> Came
     requires least { 0 < at_once }
     requires most { at_once ≤ 256 }
 {
@@ -299,17 +361,9 @@ fn fetched(alloc: Global, peers: &'static [Peer], fails_at: Option<u64>, at_once
         window: None,
         most: 1000,
     };
-    let mut peers_of = Peers::new(alloc, peers, fails_at, at_once + DIALS);
+    let mut peers_of = Peers::new(alloc, peers, is_late, fails_at, at_once + DIALS);
     let mut target = MemTarget::new(Vec::new(alloc), 2, None);
-    let answer = fetch(
-        alloc,
-        &wish,
-        None,
-        peers.len(),
-        at_once,
-        &mut peers_of,
-        &mut target,
-    );
+    let answer = fetch(alloc, &wish, None, at_once, &mut peers_of, &mut target);
     Came {
         answer,
         is_abc: target.bytes() == b"abc".as_slice(),
@@ -382,6 +436,33 @@ fn each_comes_again(rt: HostRuntime) {
             );
         }
     }
+}
+
+/// Who comes late is asked as well, and the fetch waits for them.
+#[test]
+fn the_honest_one_comes_late(rt: HostRuntime) {
+    for at_once in [1usize, 3, 256] {
+        if at_once > 0 && at_once <= 256 {
+            let came = fetched_as(rt.alloc(), &STRANGERS, true, None, at_once);
+            assert!(rt;
+                is_fetched(&came, 6),
+                "{at_once}: {:?} {:?}",
+                came.answer,
+                came.peers.ended
+            );
+            assert!(rt; came.peers.dialled[6] == 1 && came.peers.dialled[7] == 0);
+        }
+    }
+}
+
+/// If no peer has the metadata, the fetch ends after no more come, and each of them was asked twice.
+#[test]
+fn late_ones_come_again(rt: HostRuntime) {
+    let came = fetched_as(rt.alloc(), &STRANGERS[..6], true, None, 3);
+    assert!(rt; came.answer == Err(FetchError::NotFetched));
+    assert!(rt; came.is_empty && came.peers.inside == 0 && came.peers.is_all);
+    assert!(rt; came.peers.dialled == [2, 2, 2, 2, 2, 2, 0, 0]);
+    assert!(rt; came.peers.ended == ENDINGS, "{:?}", came.peers.ended);
 }
 
 /// Addresses at which nobody answers, and one that has the metadata.

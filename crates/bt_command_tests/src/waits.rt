@@ -3,7 +3,7 @@
 use crate::guests::{HAND, hospitality, metadata};
 use bt_end::Progress;
 use bt_exchange::{Connection, Flag, Sleeper};
-use bt_fetch::{Device, Ending, TcpSwarm, Watcher};
+use bt_fetch::{Device, Dialler, Ending, TcpSwarm, Watcher};
 use bt_io::Failed;
 use bt_serve::{Door, Farewell, Parting, TcpDoor, listen, serve};
 use std::alloc::Global;
@@ -263,6 +263,21 @@ fn fetch_naps(rt: HostRuntime) {
     let addresses = [SocketAddr::from((Ipv4Addr::LOCALHOST, 9))];
     assert!(rt; goes_through(&fake, rt.alloc(), &addresses));
     assert!(rt; fake.naps() == (6, [5_000, 20, 40, 80, 20, 40]));
+}
+
+/// Returns whether a connection was begun to number 0 of a list of none, and to an address that is given.
+fn begun<R: Net + Clock>(runtime: &R, alloc: Global, address: SocketAddr) -> [bool; 2] {
+    let mut swarm = TcpSwarm::new(runtime, alloc, &[], Deaf, 8);
+    let before = swarm.dial(0).is_some();
+    [before, swarm.dial_at(0, address).is_some()]
+}
+
+/// An address that isn't in the list is dialled by the number that it is given.
+#[test]
+fn an_address_is_given(rt: HostRuntime) {
+    let fake = Fake::new();
+    let address = SocketAddr::from((Ipv4Addr::LOCALHOST, 9));
+    assert!(rt; begun(&fake, rt.alloc(), address) == [false, true]);
 }
 
 /// The system's errors of a listener: too many open files, a connection that was aborted, and out of memory.

@@ -82,8 +82,8 @@ below_is k n h = grind (arith, nat_tests)
 above_is : (k n : ℕ) → n ≤ k → nat_lt k n ≡ false
 above_is k n h = grind (arith, nat_tests)
 
-pub course_logged : (addresses n : ℕ) (again : List Bool) (a b : Option (List Happening)) (s : Stage) (r : Result ℕ FetchError) → length again ≡ addresses
-    → n ≤ length again → (r ≡ Err error.NotFetched → n ≡ length again) → IsStage r s → IsCourse s a b (dials_of n again) → IsLogged addresses a b r
+pub course_logged : (addresses n : ℕ) (again : List Bool) (a b : Option (List Happening)) (s : Stage) (r : Result ℕ FetchError) → length again ≤ addresses
+    → n ≤ length again → (r ≡ Err error.NotFetched → n ≡ addresses) → IsStage r s → IsCourse s a b (dials_of n again) → IsLogged addresses a b r
 course_logged addresses n again a b s r l w m t h = record {
   happened = h.happened;
   added = h.added;

@@ -3,6 +3,7 @@ pub mod Outcomes
 pub mod Signs
 pub mod Fetches
 pub mod Links
+pub mod Listings
 pub mod Queues
 pub mod Logs
 pub mod Visits

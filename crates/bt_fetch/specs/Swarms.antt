@@ -1,5 +1,6 @@
 -- For private contracts: the places of a fetch from many peers.
-use Rattle.std.specs.Prelude.{ℕ, ◌+◌, ◌*◌, ◌<◌, ◌≤◌, ◌⊎◌, Bool, true, false, Option, Some, None, Result, Ok, ⊤}
+use Rattle.std.specs.Prelude.{ℕ, ◌+◌, ◌-◌, ◌*◌, ◌<◌, ◌≤◌, ◌⊎◌, Bool, true, false, Option, Some, None, Result, Ok, ⊤}
+use Rattle.bt_fetch.specs.Listings.{Listing}
 use Rattle.bt_fetch.specs.Logs.{Stage, Going, Won}
 use Rattle.bt_fetch.specs.declared.talk.Talk.{Talk}
 use Rattle.bt_fetch.specs.declared.turn.Turn.{Turn}
@@ -15,6 +16,10 @@ weight (Some left) = left + 1
 -- what all addresses that may come may cost: the looks at a link, and the steps at a place
 abbrev pub cost : ℕ → ℕ
 cost rest = 8589934596 * rest
+
+-- what the addresses may cost that may still come to so many, and how often the device may still say that more may come
+abbrev pub outlook : Listing → ℕ → ℕ
+outlook l known = cost (2 * (l.most - known)) + l.looks
 
 abbrev pub is_free : Turn → Bool
 is_free turn.Free = true

@@ -48,9 +48,11 @@ pub enum Happening {
     Ended(usize, Ending),
 }
 
-/// Opens connections to the addresses of a list, many at the same time.
+/// Opens connections to the addresses of a list, many at the same time. The list may grow.
 pub trait Device {
-    ghost use Rattle.std.specs.Prelude.{ℕ, ◌≤◌, ◌^◌, List, Option, IfSome};
+    ghost use Rattle.std.specs.Prelude.{ℕ, ◌≤◌, ◌^◌, not, true, List, Option, IfSome};
+    ghost use Rattle.bt_fetch.specs.Listings.{Listing};
+    ghost use Rattle.bt_fetch.specs.Queues.{one};
     ghost use Rattle.bt_fetch.specs.declared.device.Happening.{Happening};
 
     type Link: Connection + Drop;
@@ -64,6 +66,31 @@ pub trait Device {
     /// How many connections may be open at the same time.
     ghost places: { Self → ℕ };
 
+    /// What is known of the list of addresses.
+    ghost list: { Self → Listing };
+
+    /// Returns how many addresses are known. They are dialled by their numbers, from 0 on.
+    fn known(&self) -> usize
+        ensures known { result ≡ (list self.now).known }
+        ensures fits { result ≤ (list self.now).most };
+
+    /// Returns how many addresses may be known at most.
+    fn most(&self) -> usize
+        ensures { result ≡ (list self.now).most };
+
+    /// Adds the addresses to the list that were found since the last call, and returns whether more may come.
+    ///
+    /// Once it returned `false`, the list stays as it is.
+    fn more(&mut self) -> bool
+        ensures grown { (list self.old).known ≤ (list self.new).known }
+        ensures most { (list self.new).most ≡ (list self.old).most }
+        ensures looks { (list self.new).looks + one result ≤ (list self.old).looks }
+        ensures all { (list self.new).is_all ≡ not result }
+        ensures ended { (list self.old).is_all ≡ true → list self.new ≡ list self.old }
+        ensures log { log self.new ≡ log self.old }
+        ensures inside { inside self.new ≡ inside self.old }
+        ensures places { places self.new ≡ places self.old };
+
     /// Begins a connection to the address of this number, whose calls don't wait; `None` if that fails.
     ///
     /// Numbers count from 0. No call of it was made yet.
@@ -72,7 +99,8 @@ pub trait Device {
         ensures log { IsAdded (log self.old) (log self.new) (Happening.Dialled address) }
         ensures inside { inside self.new ≡ inside self.old + opening result }
         ensures fresh { IfSome result (λ link. (Self.Link.seen link).counts.calls ≡ 0) }
-        ensures places { places self.new ≡ places self.old };
+        ensures places { places self.new ≡ places self.old }
+        ensures list { list self.new ≡ list self.old };
 
     /// Hears how a connection ended, over which at most 2^32 calls were made, and closes it.
     fn ended(&mut self, address: usize, link: Self::Link, ending: Ending)
@@ -80,7 +108,8 @@ pub trait Device {
         requires brief { (Self.Link.seen link).counts.calls ≤ 2 ^ 32 }
         ensures log { IsAdded (log self.old) (log self.new) (Happening.Ended address ending) }
         ensures inside { inside self.new + 1 ≡ inside self.old }
-        ensures places { places self.new ≡ places self.old };
+        ensures places { places self.new ≡ places self.old }
+        ensures list { list self.new ≡ list self.old };
 
     /// Returns whether a connection over which no call was made yet is open; `None` if that isn't known yet.
     ///
@@ -91,24 +120,28 @@ pub trait Device {
     fn came(&mut self, address: usize, progress: Progress)
         ensures log { log self.new ≡ log self.old }
         ensures inside { inside self.new ≡ inside self.old }
-        ensures places { places self.new ≡ places self.old };
+        ensures places { places self.new ≡ places self.old }
+        ensures list { list self.new ≡ list self.old };
 
     /// Returns the time in milliseconds, by the device's own clock. Only differences count.
     fn time(&mut self) -> u64
         ensures log { log self.new ≡ log self.old }
         ensures inside { inside self.new ≡ inside self.old }
-        ensures places { places self.new ≡ places self.old };
+        ensures places { places self.new ≡ places self.old }
+        ensures list { list self.new ≡ list self.old };
 
     /// Ends a round in which a connection could go on. Looks which others can, without a wait.
     fn look(&mut self)
         ensures log { log self.new ≡ log self.old }
         ensures inside { inside self.new ≡ inside self.old }
         ensures places { places self.new ≡ places self.old }
+        ensures list { list self.new ≡ list self.old }
     {}
 
     /// Waits a moment, since no connection can go on.
     fn rest(&mut self)
         ensures log { log self.new ≡ log self.old }
         ensures inside { inside self.new ≡ inside self.old }
-        ensures places { places self.new ≡ places self.old };
+        ensures places { places self.new ≡ places self.old }
+        ensures list { list self.new ≡ list self.old };
 }

@@ -40,7 +40,7 @@ pub struct Dials<L: Connection + Drop> {
 }
 
 impl<L: Connection + Drop> Dials<L> {
-    /// Returns free slots for the links of a fetch from so many addresses, one at least. `used` of them are used at first.
+    /// Returns free slots for the links of a fetch from at most so many addresses, one at least. `used` of them are used at first.
     ///
     /// # Errors
     /// `Memory` if memory is refused.
@@ -103,6 +103,7 @@ fn dial_next<D: Device>(
     requires room { D.inside device.old < D.places device.old }
     ensures inside { D.inside device.new ≡ D.inside device.old + one (is_some slot.new) }
     ensures places { D.places device.new ≡ D.places device.old }
+    ensures list { D.list device.new ≡ D.list device.old }
     ensures weight { IfOk result (λ b. burden (option_map (λ d. d.left) slot.new) + cost (rest_of queue.new.next queue.new.again.items) + one b
         ≤ cost (rest_of queue.old.next queue.old.again.items)) }
     ensures free { result ≡ Ok false → (queue.new.next ≡ vec_len queue.new.again) × (slot.new ≡ None) }
@@ -151,6 +152,7 @@ fn give_up<D: Device>(
     requires inside { 0 < D.inside device.old }
     ensures inside { D.inside device.new + 1 ≡ D.inside device.old }
     ensures places { D.places device.new ≡ D.places device.old }
+    ensures list { D.list device.new ≡ D.list device.old }
     ensures ended { IfOk result (λ t. t ≡ Turn.Ended) }
     ensures told { IsAdded (D.log device.old) (D.log device.new) (EndedSo dial.address ending) }
     ensures next { queue.new.next ≡ queue.old.next }
@@ -182,6 +184,7 @@ fn look_at<D: Device>(
     ensures handshake { place.new.end.end.handshake ≡ place.old.end.end.handshake }
     ensures inside { D.inside device.new + 1 ≡ D.inside device.old + one (is_some slot.new) + one (is_some place.new.visit) }
     ensures places { D.places device.new ≡ D.places device.old }
+    ensures list { D.list device.new ≡ D.list device.old }
     ensures patient { IfSome slot.new (λ d. time ≤ d.since + 1000 * min 5 wish.now.patience) }
     ensures late { queue.old.next < vec_len queue.old.again → IfSome slot.new (λ d. is_late d.since time ≡ false) }
     ensures weight { IfOk result (λ t. burden (option_map (λ d. d.left) slot.new) + weight (option_map (λ v. v.left) place.new.visit) + 1
@@ -227,6 +230,7 @@ fn take_turn<D: Device>(
     ensures handshake { place.new.end.end.handshake ≡ place.old.end.end.handshake }
     ensures inside { D.inside device.new + one (is_some slot.old) ≡ D.inside device.old + one (is_some slot.new) + one (is_some place.new.visit) }
     ensures places { D.places device.new ≡ D.places device.old }
+    ensures list { D.list device.new ≡ D.list device.old }
     ensures weight { IfOk result (λ t. burden (option_map (λ d. d.left) slot.new) + weight (option_map (λ v. v.left) place.new.visit)
         + cost (rest_of queue.new.next queue.new.again.items) + one (not (is_free t))
         ≤ burden (option_map (λ d. d.left) slot.old) + cost (rest_of queue.old.next queue.old.again.items)) }
@@ -263,6 +267,7 @@ pub fn dial_for<D: Device>(
     ensures inside { D.inside device.new + count_by (λ s. is_some s) dials.old.slots.items
         ≡ D.inside device.old + count_by (λ s. is_some s) dials.new.slots.items + one (is_some place.new.visit) }
     ensures places { D.places device.new ≡ D.places device.old }
+    ensures list { D.list device.new ≡ D.list device.old }
     ensures held { vec_len dials.new.slots ≡ vec_len dials.old.slots }
     ensures weight { IfOk result (λ t. sum_by (λ s. burden (option_map (λ d. d.left) s)) dials.new.slots.items
         + weight (option_map (λ v. v.left) place.new.visit) + cost (rest_of queue.new.next queue.new.again.items) + one (not (is_free t))
@@ -315,6 +320,7 @@ pub fn has_open<D: Device>(dials: &Dials<D::Link>, queue: &Queue, device: &D) ->
 fn leave_slot<D: Device>(slot: Option<Dial<D::Link>>, device: &mut D)
     requires { one (is_some slot) ≤ D.inside device.old }
     ensures inside { D.inside device.new + one (is_some slot) ≡ D.inside device.old }
+    ensures list { D.list device.new ≡ D.list device.old }
     ensures log { (s : Stage) (start : Option (List Happening)) (dials : ℕ → ℕ) → IsCourse s start (D.log device.old) dials → IsCourse s start (D.log device.new) dials }
 {
     match slot {
@@ -327,6 +333,7 @@ fn leave_slot<D: Device>(slot: Option<Dial<D::Link>>, device: &mut D)
 pub fn leave_dials<D: Device>(dials: Dials<D::Link>, device: &mut D)
     requires inside { count_by (λ s. is_some s) dials.slots.items ≤ D.inside device.old }
     ensures inside { D.inside device.new + count_by (λ s. is_some s) dials.slots.items ≡ D.inside device.old }
+    ensures list { D.list device.new ≡ D.list device.old }
     ensures log { (s : Stage) (start : Option (List Happening)) (dials : ℕ → ℕ) → IsCourse s start (D.log device.old) dials → IsCourse s start (D.log device.new) dials }
 {
     let mut slots = dials.slots;

@@ -9,7 +9,7 @@ ghost use Rattle.bt_exchange.specs.Lists.{IsAdded};
 ghost use Rattle.bt_fetch.specs.Logs.{IsCourse, IsLogged, IsStage, Stage, Going, is_fetched as is_fetched_by, stage_after};
 ghost use Rattle.bt_fetch.specs.Dials.{burden};
 ghost use Rattle.bt_fetch.specs.Signs.{is_late};
-ghost use Rattle.bt_fetch.specs.Swarms.{IfWon, IsPatient, cost, is_free, is_over, is_won, stage_at, stage_by, stage_when, weight};
+ghost use Rattle.bt_fetch.specs.Swarms.{IfWon, IsPatient, cost, is_free, is_over, is_won, outlook, stage_at, stage_by, stage_when, weight};
 ghost use Rattle.bt_fetch.specs.declared.device.Happening.{Happening};
 ghost use Rattle.bt_fetch.specs.declared.device.Happening.TheVariants.{Ended as EndedSo};
 
@@ -52,6 +52,7 @@ fn free<D: Device>(
     ensures visit { place.new.visit ≡ None }
     ensures inside { D.inside device.new + 1 ≡ D.inside device.old }
     ensures places { D.places device.new ≡ D.places device.old }
+    ensures list { D.list device.new ≡ D.list device.old }
     ensures ended { IfOk result (λ t. t ≡ Turn.Ended) }
     ensures unwon { stage_by result ≡ Going }
     ensures told { IsAdded (D.log device.old) (D.log device.new) (EndedSo visit.address ending) }
@@ -72,6 +73,7 @@ fn tell<D: Device>(visit: &Visit<D::Link>, place: &Place<D::Link>, device: &mut 
     ensures log { D.log device.new ≡ D.log device.old }
     ensures inside { D.inside device.new ≡ D.inside device.old }
     ensures places { D.places device.new ≡ D.places device.old }
+    ensures list { D.list device.new ≡ D.list device.old }
 {
     if !visit.has_news {
         return;
@@ -101,6 +103,7 @@ fn tend<D: Device>(
     ensures handshake { place.new.end.end.handshake ≡ place.old.end.end.handshake }
     ensures inside { D.inside device.new + 1 ≡ D.inside device.old + one (is_some place.new.visit) }
     ensures places { D.places device.new ≡ D.places device.old }
+    ensures list { D.list device.new ≡ D.list device.old }
     ensures late { is_needed ≡ true → IfSome place.new.visit (λ v. is_late v.talk.heard time ≡ false) }
     ensures patient { result ≡ Ok Turn.Waits → IfSome place.new.visit (λ v. IsPatient wish.now.patience time (D.Link.seen v.line.link).counts.clock v.talk) }
     ensures weight { IfOk result (λ t. weight (option_map (λ v. v.left) place.new.visit) ≤ visit.left) }
@@ -165,6 +168,7 @@ fn give_turn<D: Device>(
     ensures inside { D.inside device.new + one (is_some place.old.visit) + count_by (λ s. is_some s) dials.old.slots.items
         ≡ D.inside device.old + one (is_some place.new.visit) + count_by (λ s. is_some s) dials.new.slots.items }
     ensures places { D.places device.new ≡ D.places device.old }
+    ensures list { D.list device.new ≡ D.list device.old }
     ensures held { vec_len dials.new.slots ≡ vec_len dials.old.slots }
     ensures weight { IfOk result (λ t. weight (option_map (λ v. v.left) place.new.visit) + sum_by (λ s. burden (option_map (λ d. d.left) s)) dials.new.slots.items
         + cost (rest_of queue.new.next queue.new.again.items) + one (not (is_free t))
@@ -220,6 +224,7 @@ fn give_turns<D: Device>(
     ensures inside { D.inside device.new + count_by (λ p. is_some p.visit) places.old.items + count_by (λ s. is_some s) dials.old.slots.items
         ≡ D.inside device.old + count_by (λ p. is_some p.visit) places.new.items + count_by (λ s. is_some s) dials.new.slots.items }
     ensures places { D.places device.new ≡ D.places device.old }
+    ensures list { D.list device.new ≡ D.list device.old }
     ensures held { vec_len places.new ≡ vec_len places.old }
     ensures slots { vec_len dials.new.slots ≡ vec_len dials.old.slots }
     ensures weight { IfOk result (λ r. is_won r ≡ false → sum_by (λ p. weight (option_map (λ v. v.left) p.visit)) places.new.items
@@ -277,7 +282,28 @@ fn give_turns<D: Device>(
     Ok(Round::GoesOn)
 }
 
-/// Fetches at places until an end has the metadata, and returns at which; `None` if no address is left.
+/// Adds the addresses to the queue that the device knows by now, and returns whether more may come.
+///
+/// # Errors
+/// `Memory` if memory is refused.
+fn grow<D: Device>(queue: &mut Queue, device: &mut D) -> Result<bool, Memory>
+    requires fits { vec_len queue.old.again ≤ (D.list device.old).known }
+    ensures fits { vec_len queue.new.again ≤ (D.list device.new).known }
+    ensures known { IfOk result (λ more. vec_len queue.new.again ≡ (D.list device.new).known) }
+    ensures all { result ≡ Ok false → (D.list device.new).is_all ≡ true }
+    ensures weight { IfOk result (λ more. cost (rest_of queue.new.next queue.new.again.items) + outlook (D.list device.new) (vec_len queue.new.again) + one more
+        ≤ cost (rest_of queue.old.next queue.old.again.items) + outlook (D.list device.old) (vec_len queue.old.again)) }
+    ensures inside { D.inside device.new ≡ D.inside device.old }
+    ensures places { D.places device.new ≡ D.places device.old }
+    ensures log { (start : Option (List Happening)) → IsCourse Going start (D.log device.old) (dials_of queue.old.next queue.old.again.items)
+        → IsCourse Going start (D.log device.new) (dials_of queue.new.next queue.new.again.items) }
+{
+    let more = device.more();
+    queue.grow(device.known())?;
+    Ok(more)
+}
+
+/// Fetches at places until an end has the metadata, and returns at which; `None` if no address is left and no more come.
 ///
 /// # Errors
 /// `Memory` if memory is refused.
@@ -293,18 +319,27 @@ fn fetch_at<D: Device>(
     requires inside { count_by (λ p. is_some p.visit) places.old.items + count_by (λ s. is_some s) dials.old.slots.items ≤ D.inside device.old }
     requires room { D.inside device.old + vec_len places.old + vec_len dials.old.slots
         ≤ D.places device.old + count_by (λ p. is_some p.visit) places.old.items + count_by (λ s. is_some s) dials.old.slots.items }
+    requires fits { vec_len queue.old.again ≤ (D.list device.old).known }
     ensures kept { All (λ p. p.end.end.handshake ≡ handshake_of wish.now) places.new.items }
     ensures inside { D.inside device.new + count_by (λ p. is_some p.visit) places.old.items + count_by (λ s. is_some s) dials.old.slots.items
         ≡ D.inside device.old + count_by (λ p. is_some p.visit) places.new.items + count_by (λ s. is_some s) dials.new.slots.items }
     ensures all { result ≡ Ok None → queue.new.next ≡ vec_len queue.new.again }
     ensures won { IfOk result (λ o. IfSome o (λ k. (k < vec_len places.new) × HoldsAt (λ p. is_some (metadata_of p.end.end.part) ≡ true) places.new.items k)) }
-    ensures len { vec_len queue.new.again ≡ vec_len queue.old.again }
+    ensures known { result ≡ Ok None → vec_len queue.new.again ≡ (D.list device.new).known }
+    ensures over { result ≡ Ok None → (D.list device.new).is_all ≡ true }
+    ensures fits { vec_len queue.new.again ≤ (D.list device.new).known }
     ensures log { (start : Option (List Happening)) → IsCourse Going start (D.log device.old) (dials_of queue.old.next queue.old.again.items)
         → IsCourse (stage_when result) start (D.log device.new) (dials_of queue.new.next queue.new.again.items) }
 {
     'rounds: loop {
+        let more = grow(queue, device)?;
         match give_turns(wish, places, dials, queue, device)? {
-            Round::Over => return Ok(None),
+            Round::Over => {
+                if !more {
+                    return Ok(None);
+                }
+                device.rest();
+            }
             Round::Waits => device.rest(),
             Round::GoesOn => device.look(),
             Round::Won(at) => return Ok(Some(at)),
@@ -316,6 +351,7 @@ fn fetch_at<D: Device>(
 fn leave<D: Device>(place: Place<D::Link>, device: &mut D)
     requires { one (is_some place.visit) ≤ D.inside device.old }
     ensures inside { D.inside device.new + one (is_some place.visit) ≡ D.inside device.old }
+    ensures list { D.list device.new ≡ D.list device.old }
     ensures log { (s : Stage) (start : Option (List Happening)) (dials : ℕ → ℕ) → IsCourse s start (D.log device.old) dials → IsCourse s start (D.log device.new) dials }
 {
     let mut place = place;
@@ -329,6 +365,7 @@ fn leave<D: Device>(place: Place<D::Link>, device: &mut D)
 fn leave_all<D: Device>(places: &mut Places<D>, device: &mut D)
     requires inside { count_by (λ p. is_some p.visit) places.old.items ≤ D.inside device.old }
     ensures inside { D.inside device.new + count_by (λ p. is_some p.visit) places.old.items ≡ D.inside device.old }
+    ensures list { D.list device.new ≡ D.list device.old }
     ensures log { (s : Stage) (start : Option (List Happening)) (dials : ℕ → ℕ) → IsCourse s start (D.log device.old) dials → IsCourse s start (D.log device.new) dials }
 {
     while let Some(place) = places.pop() {
@@ -381,21 +418,20 @@ fn write_out<D: Device, W: Target>(
     }
 }
 
-/// Fetches metadata from addresses, from up to `at_once` at the same time, and writes its file.
+/// Fetches metadata from a device's addresses, from up to `at_once` at the same time, and writes its file.
 ///
 /// The file is the metadata; or, if there are `pairs`, a .torrent with these bencoded pairs before `info`: those of other keys, each less
 /// than `info`, in order (BEP 3). While a place is free, up to [`DIALS`] addresses are dialled besides, and the first
 /// connection that is open takes it: an address at which nobody answers takes no place. An address that failed comes again once after
-/// all others. Nothing is written before all of the metadata is there, and its SHA-1 is the info hash. All connections are closed
-/// when it returns. It returns how many bytes were written.
+/// all others that are known. While more addresses may come, the fetch waits for them. Nothing is written before all of the metadata
+/// is there, and its SHA-1 is the info hash. All connections are closed when it returns. It returns how many bytes were written.
 ///
 /// # Errors
-/// `NotFetched` if each address was dialled and no connection gave the metadata, `Write` if a write failed, `Memory` if memory was refused.
+/// `NotFetched` if no more addresses come, each was dialled and no connection gave the metadata, `Write` if a write failed, `Memory` if memory was refused.
 pub fn fetch<D: Device, W: Target>(
     alloc: Global,
     wish: &Wish,
     pairs: Option<&[u8]>,
-    addresses: usize,
     at_once: usize,
     device: &mut D,
     writer: &mut W,
@@ -406,11 +442,13 @@ pub fn fetch<D: Device, W: Target>(
     ensures written { IsWritten (option_map (λ p. p.now) pairs.entry) wish.now.info_hash (W.seen writer.old).held (W.seen writer.new).held result }
     ensures fault { result ≡ Err FetchError.Write → WriteFailed (W.seen writer.old) (W.seen writer.new) }
     ensures closed { D.inside device.new ≡ D.inside device.old }
-    ensures log { IsLogged addresses (D.log device.old) (D.log device.new) result }
+    ensures over { result ≡ Err FetchError.NotFetched → (D.list device.new).is_all ≡ true }
+    ensures log { IsLogged (D.list device.new).known (D.log device.old) (D.log device.new) result }
 {
-    let mut queue = Queue::new(alloc, addresses)?;
-    let mut places = places_for::<D>(alloc, wish, at_once.min(addresses))?;
-    let mut dials = Dials::new(alloc, addresses, at_once)?;
+    let most = device.most();
+    let mut queue = Queue::new(alloc);
+    let mut places = places_for::<D>(alloc, wish, at_once.min(most))?;
+    let mut dials = Dials::new(alloc, most, at_once)?;
     let fetched = fetch_at(wish, &mut places, &mut dials, &mut queue, device);
     let written = write_out::<D, W>(alloc, wish, pairs, fetched, &places, writer);
     leave_all::<D>(&mut places, device);

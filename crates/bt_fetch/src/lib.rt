@@ -5,6 +5,7 @@
 
 mod device;
 mod dial;
+mod dialler;
 mod dialling;
 mod fetching;
 mod file;
@@ -19,6 +20,7 @@ mod visit;
 mod wish;
 
 pub use device::{Device, Ending, Happening, Outcome};
+pub use dialler::Dialler;
 pub use dialling::DIALS;
 pub use fetching::fetch;
 pub use file::FetchError;

@@ -1,11 +1,11 @@
 //! The addresses that wait to be dialled.
-ghost use Rattle.std.specs.Prelude.{◌≡◌, ◌+◌, ◌-◌, ◌<◌, ◌≤◌, ℕ, None, Some, true, vec_len, is_some, IfOk};
+ghost use Rattle.std.specs.Prelude.{◌≡◌, ◌+◌, ◌-◌, ◌*◌, ◌<◌, ◌≤◌, ℕ, None, Some, true, vec_len, is_some, max, IfOk};
 ghost use Rattle.bt_fetch.specs.Queues.{dials_of, rest_of, one, taken};
 
 use bt_io::Memory;
 use std::alloc::Global;
 
-/// The addresses of a list, each of which comes once, and once more after all others if it was put back.
+/// The addresses of a list that may grow. Each comes once, and once more after all others that are known if it was put back.
 #[derive(Drop)]
 pub struct Queue {
     /// The first address that hasn't come.
@@ -20,24 +20,37 @@ pub struct Queue {
 }
 
 impl Queue {
-    /// Returns the queue of this many addresses.
+    /// Returns a queue of no addresses.
+    pub fn new(alloc: Global) -> Queue
+        ensures none { (k : ℕ) → dials_of result.next result.again.items k ≡ 0 }
+        ensures len { vec_len result.again ≡ 0 }
+    {
+        Queue {
+            next: 0,
+            again: Vec::new(alloc),
+            back: Vec::new(alloc),
+            passed: 0,
+        }
+    }
+
+    /// Adds addresses at the end, until there are so many.
     ///
     /// # Errors
     /// `Memory` if memory is refused.
-    pub fn new(alloc: Global, addresses: usize) -> Result<Queue, Memory>
-        ensures none { IfOk result (λ q. (k : ℕ) → dials_of q.next q.again.items k ≡ 0) }
-        ensures len { IfOk result (λ q. vec_len q.again ≡ addresses) }
+    pub fn grow(&mut self, addresses: usize) -> Result<(), Memory>
+        ensures dials { (k : ℕ) → dials_of self.new.next self.new.again.items k ≡ dials_of self.old.next self.old.again.items k }
+        ensures rest { rest_of self.new.next self.new.again.items + 2 * vec_len self.old.again ≡ rest_of self.old.next self.old.again.items + 2 * vec_len self.new.again }
+        ensures grown { vec_len self.old.again ≤ vec_len self.new.again }
+        ensures most { vec_len self.new.again ≤ max (vec_len self.old.again) addresses }
+        ensures all { IfOk result (λ _. addresses ≤ vec_len self.new.again) }
     {
-        let mut again = Vec::new(alloc);
-        if again.resize(addresses, false).is_err() {
-            return Err(Memory);
+        if addresses <= self.again.len() {
+            return Ok(());
         }
-        Ok(Queue {
-            next: 0,
-            again,
-            back: Vec::new(alloc),
-            passed: 0,
-        })
+        match self.again.resize(addresses, false) {
+            Ok(()) => Ok(()),
+            Err(_) => Err(Memory),
+        }
     }
 
     /// Returns how many addresses have not come yet.

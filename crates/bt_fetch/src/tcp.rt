@@ -1,9 +1,12 @@
 //! Connections over TCP to many addresses at the same time.
-ghost use Rattle.std.specs.Prelude.{◌≡◌, IfSome};
+ghost use Rattle.std.specs.Prelude.{◌≡◌, ◌+◌, ◌<◌, length, IfSome};
 ghost use Rattle.bt_exchange.specs.Lists.{IsAdded};
+ghost use Rattle.bt_fetch.specs.Links.{opening};
+ghost use Rattle.bt_fetch.specs.Listings.{fixed};
 ghost use Rattle.bt_fetch.specs.declared.device.Happening.{Happening};
 
 use crate::device::{Device, Ending};
+use crate::dialler::Dialler;
 use crate::link::TcpLink;
 use bt_end::Progress;
 use bt_exchange::{Connection, Flag, Naps, Sleeper};
@@ -11,7 +14,7 @@ use mio::net::TcpStream;
 use std::alloc::Global;
 use std::io;
 use std::net::{Net, SocketAddr};
-use std::os::fd::AsRawFd;
+use std::os::fd::{AsRawFd, RawFd};
 use std::time::Clock;
 
 /// How long a loop sleeps at most if no socket is ready, in milliseconds.
@@ -24,6 +27,11 @@ pub trait Watcher {
 
     /// What it heard of dials and ends, in order, if it is known.
     ghost heard: { Self → Option (List Happening) };
+
+    /// The address got the next number, while the fetch goes on.
+    fn added(&mut self, _address: SocketAddr)
+        ensures { heard self.new ≡ heard self.old }
+    {}
 
     /// The address was dialled. `is_begun` says whether a connection to it was begun.
     fn dialled(&mut self, address: usize, is_begun: bool)
@@ -65,6 +73,7 @@ impl<'a, R: Net + Clock, T: Watcher + Drop> TcpSwarm<'a, R, T> {
     ) -> TcpSwarm<'a, R, T>
         ensures inside { ⟦<TcpSwarm<'a, R, T> as Device>⟧.inside result ≡ 0 }
         ensures places { ⟦<TcpSwarm<'a, R, T> as Device>⟧.places result ≡ places }
+        ensures list { ⟦<TcpSwarm<'a, R, T> as Device>⟧.list result ≡ fixed (length addresses.now) }
         ensures log { ⟦<TcpSwarm<'a, R, T> as Device>⟧.log result ≡ T.heard watcher }
     {
         TcpSwarm {
@@ -80,7 +89,7 @@ impl<'a, R: Net + Clock, T: Watcher + Drop> TcpSwarm<'a, R, T> {
         }
     }
 
-    /// Returns a device whose loop sleeps until a socket is ready.
+    /// Returns a device whose loop sleeps until a socket is ready: one of its own, or one of `others` that are watched besides.
     ///
     /// If the system has no descriptor for that, or when out of memory, it naps as that of [`TcpSwarm::new`].
     pub fn sleeping(
@@ -89,30 +98,60 @@ impl<'a, R: Net + Clock, T: Watcher + Drop> TcpSwarm<'a, R, T> {
         addresses: &'a [SocketAddr],
         watcher: T,
         places: usize,
+        others: usize,
     ) -> TcpSwarm<'a, R, T>
         ensures inside { ⟦<TcpSwarm<'a, R, T> as Device>⟧.inside result ≡ 0 }
         ensures places { ⟦<TcpSwarm<'a, R, T> as Device>⟧.places result ≡ places }
+        ensures list { ⟦<TcpSwarm<'a, R, T> as Device>⟧.list result ≡ fixed (length addresses.now) }
         ensures log { ⟦<TcpSwarm<'a, R, T> as Device>⟧.log result ≡ T.heard watcher }
     {
         let mut swarm = TcpSwarm::new(runtime, alloc, addresses, watcher, places);
-        swarm.sleeper = Sleeper::new(runtime, alloc, places, LONGEST);
+        let sockets = places.saturating_add(others);
+        swarm.sleeper = Sleeper::new(runtime, alloc, sockets, LONGEST);
         swarm
     }
 
-    /// Begins a connection to the address of this number.
-    fn begin(&mut self, address: usize) -> Option<TcpLink<&'a R>>
+    /// Returns the flag of a socket: one that ends a sleep, if the loop can sleep.
+    fn flag_of(&mut self, socket: RawFd) -> Flag
+        ensures inside { self.new.inside ≡ self.old.inside }
+        ensures places { self.new.places ≡ self.old.places }
+        ensures addresses { self.new.addresses ≡ self.old.addresses }
+        ensures watcher { self.new.watcher ≡ self.old.watcher }
+    {
+        match &mut self.sleeper {
+            Some(sleeper) => sleeper.watch(socket),
+            None => Flag::always(),
+        }
+    }
+
+    /// Begins a connection to an address.
+    fn begin(&mut self, at: SocketAddr) -> Option<TcpLink<&'a R>>
         ensures fresh { IfSome result (λ link. (⟦<TcpLink<&'a R> as Connection>⟧.seen link).counts.calls ≡ 0) }
         ensures inside { self.new.inside ≡ self.old.inside }
         ensures places { self.new.places ≡ self.old.places }
+        ensures addresses { self.new.addresses ≡ self.old.addresses }
         ensures watcher { self.new.watcher ≡ self.old.watcher }
     {
-        let at = *self.addresses.get(address)?;
         let stream = begin(self.runtime, at).ok()?;
-        let flag = match &mut self.sleeper {
-            Some(sleeper) => sleeper.watch(stream.as_raw_fd()),
-            None => Flag::always(),
-        };
+        let flag = self.flag_of(stream.as_raw_fd());
         TcpLink::new(self.alloc, stream, self.runtime, flag).ok()
+    }
+
+    /// Tells that an address was dialled, and counts its connection, if one was begun.
+    fn told(&mut self, address: usize, begun: Option<TcpLink<&'a R>>) -> Option<TcpLink<&'a R>>
+        requires room { self.old.inside < self.old.places }
+        requires fresh { IfSome begun (λ link. (⟦<TcpLink<&'a R> as Connection>⟧.seen link).counts.calls ≡ 0) }
+        ensures log { IsAdded (T.heard self.old.watcher) (T.heard self.new.watcher) (Happening.Dialled address) }
+        ensures inside { self.new.inside ≡ self.old.inside + opening result }
+        ensures fresh { IfSome result (λ link. (⟦<TcpLink<&'a R> as Connection>⟧.seen link).counts.calls ≡ 0) }
+        ensures places { self.new.places ≡ self.old.places }
+        ensures addresses { self.new.addresses ≡ self.old.addresses }
+    {
+        self.watcher.dialled(address, begun.is_some());
+        let link = begun?;
+        self.inside += 1;
+        self.naps.came();
+        Some(link)
     }
 
     /// Returns who heard what happened.
@@ -139,13 +178,27 @@ impl<'a, R: Net + Clock, T: Watcher + Drop> Device for TcpSwarm<'a, R, T> {
 
     ghost places = { λ d. d.places };
 
+    ghost list = { λ d. fixed (length d.addresses.now) };
+
+    fn known(&self) -> usize {
+        self.addresses.len()
+    }
+
+    fn most(&self) -> usize {
+        self.addresses.len()
+    }
+
+    fn more(&mut self) -> bool {
+        false
+    }
+
     fn dial(&mut self, address: usize) -> Option<TcpLink<&'a R>> {
-        let begun = self.begin(address);
-        self.watcher.dialled(address, begun.is_some());
-        let link = begun?;
-        self.inside += 1;
-        self.naps.came();
-        Some(link)
+        let at = self.addresses.get(address).copied();
+        let begun = match at {
+            Some(at) => self.begin(at),
+            None => None,
+        };
+        self.told(address, begun)
     }
 
     fn ended(&mut self, address: usize, _link: TcpLink<&'a R>, ending: Ending) {
@@ -182,5 +235,20 @@ impl<'a, R: Net + Clock, T: Watcher + Drop> Device for TcpSwarm<'a, R, T> {
             }
         }
         self.naps.take(self.runtime, self.inside);
+    }
+}
+
+impl<'a, R: Net + Clock, T: Watcher + Drop> Dialler for TcpSwarm<'a, R, T> {
+    fn dial_at(&mut self, number: usize, address: SocketAddr) -> Option<TcpLink<&'a R>> {
+        let begun = self.begin(address);
+        self.told(number, begun)
+    }
+
+    fn added(&mut self, address: SocketAddr) {
+        self.watcher.added(address);
+    }
+
+    fn watch(&mut self, socket: RawFd) -> Flag {
+        self.flag_of(socket)
     }
 }

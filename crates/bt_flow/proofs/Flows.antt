@@ -1,18 +1,19 @@
 -- What a direction has taken after a call.
 use Rattle.std.proofs.Common.{◌≡◌, ℕ, ◌+◌, ◌-◌, min, ◌<◌, ◌≤◌, ◌%◌, ◌^◌, Bool, true, false, List, [], ◌∷◌, ◌++◌, length}
 use Rattle.std.proofs.Common.{length-append, append_assoc, append-nil, refl, sym, ap, subst, ◌∙◌, arith, inl, inr}
-use Rattle.std.specs.Prelude.{Option, Some, None, is_some, not, unwrap_or, ◌⊎◌, if◌then◌else◌, nat_lt}
+use Rattle.std.specs.Prelude.{Option, Some, None, IfSome, is_some, not, ◌&&◌, unwrap_or, ◌⊎◌, if◌then◌else◌, nat_lt}
 use Rattle.std.specs.Bool.{then_some}
-use Rattle.std.proofs.lemmas.Bool.{ltb-true}
+use Rattle.std.proofs.lemmas.Bool.{lt-ltb, ltb-true}
 use Rattle.bt_tcp.specs.declared.covered.Span.{Span}
 use Rattle.bt_tcp.specs.Covered.{in_span, is_covered}
 use Rattle.bt_tcp.specs.declared.halves.Half.{Half}
 use Rattle.bt_tcp.specs.Segments.{Segment}
-use Rattle.bt_tcp.specs.Heard.{Heard, Sent, Took, opening_of, high_of, captured_end, raised, IsBase, IsAfterSyn}
+use Rattle.bt_tcp.specs.Heard.{Heard, Sent, Took, Acked, opening_of, high_of, captured_end, raised, IsBase, IsAfterSyn}
 use Rattle.bt_tcp.specs.History.{conflicts, first_known, held, kept}
 use Rattle.bt_tcp.proofs.HeardProofs.{greatest-push}
 use Rattle.bt_tcp.proofs.HistoryProofs.{conflicts_add_up}
-use Rattle.bt_tcp.specs.Halves.{IsHalf, HearsMore, IsOutOfRange}
+use Rattle.bt_tcp.specs.Halves.{IsHalf, HearsMore}
+use Rattle.bt_tcp.specs.Acceptable.{IsUnsent, is_past_filling, is_unsent}
 use Rattle.bt_flow.specs.declared.stream.Stream.{Stream}
 use Rattle.bt_flow.specs.declared.flow.Flow.{Flow}
 use Rattle.bt_flow.specs.declared.flow.Given.{Given}
@@ -23,9 +24,10 @@ use Rattle.bt_flow.proofs.Filled.{apart_noted, no_room}
 use Rattle.bt_flow.proofs.Notes.{IsNextOf, captured_more, fills_first, first_if_room, notes_if_room, notes_more, notes_none, noted_more, same_if_room}
 use Rattle.bt_flow.proofs.Streams.{conflicts_none}
 use Rattle.bt_flow.specs.Counts.{counts}
-use Rattle.bt_flow.specs.Streams.{IsStreamOf, StreamTakes, conflicts_with}
+use Rattle.bt_flow.specs.Streams.{IsStreamOf, StreamTakes, conflicts_with, differing, unless_probe}
 use Rattle.bt_flow.specs.Views.{IsNear}
-use Rattle.bt_flow.specs.Flows.{has_bytes, AreQuiet, IsBaseOf, IsStreamFor, is_lost_stream, with_segment, sent_at, FlowTakes, BeginsAt, StreamsOnly}
+use Rattle.bt_flow.specs.Flows.{IsFlow, has_bytes, AreQuiet, IsBaseOf, IsStreamFor, is_lost_stream, conflicts_in, with_segment, sent_at, FlowTakes, BeginsAt, StreamsOnly}
+use Rattle.bt_flow.specs.Flows.{is_left_out, is_left_out_of, HasHeard, IsHeeded, IsPassedBy}
 use Rattle.bt_flow.specs.Flows.{AreNotedFor, NotesFrom, needs_room, NotesIn, FillsIn, first_held, CountsMore, IsCounted, GivesUp, LacksRoom, FillsLate}
 use Rattle.bt_flow.specs.Flows.{is_captured, IsWithin, IsNotedIfRoom, NotesIfRoom, NotesSomeIn}
 
@@ -105,26 +107,31 @@ begins_same at flow None s e = absurd (cc)
 
 counted_one : (segs : List Segment) (out : List ℕ) (s s' : Stream) (at : ℕ) (bytes : List ℕ) → IsStreamOf segs out s → s.is_lost ≡ false → s'.base ≡ s.base
     → s'.conflicts ≡ min (2 ^ 64 - 1) (s.conflicts + conflicts_with out s at bytes)
-    → s'.conflicts ≡ min (2 ^ 64 - 1) (s.conflicts + conflicts (first_known segs s'.base (s'.base + length out)) at bytes)
+    → s'.conflicts ≡ min (2 ^ 64 - 1) (s.conflicts + differing (first_known segs s'.base (s'.base + length out)) at bytes (s'.base + length out))
 counted_one segs out s s' at bytes i l b e =
-    e ∙ ap (λ x. min (2 ^ 64 - 1) (s.conflicts + x))
+    e ∙ ap (λ x. min (2 ^ 64 - 1) (s.conflicts + unless_probe at (length bytes) (next_of s.window) x))
     (conflicts_add_up segs s.base out (next_of s.window) (seen s.window) at bytes (i.taken l)
     ∙ ap (λ n. conflicts (first_known segs s.base n) at bytes) i.next_is
     ∙ ap (λ k. conflicts (first_known segs k (k + length out)) at bytes) (sym b))
+    ∙ ap (λ n. min (2 ^ 64 - 1) (s.conflicts + unless_probe at (length bytes) n (conflicts (first_known segs s'.base (s'.base + length out)) at bytes)))
+    (i.next_is ∙ ap (λ k. k + length out) (sym b))
 
 -- A gap is final, and nothing is ahead.
 counted_lost : (segs : List Segment) (out : List ℕ) (s s' : Stream) (at : ℕ) (bytes : List ℕ) → IsStreamOf segs out s → s.is_lost ≡ true → s'.base ≡ s.base
     → s'.conflicts ≡ min (2 ^ 64 - 1) (s.conflicts + conflicts_with out s at bytes)
-    → s'.conflicts ≡ min (2 ^ 64 - 1) (s.conflicts + conflicts (kept s'.base out) at bytes)
+    → s'.conflicts ≡ min (2 ^ 64 - 1) (s.conflicts + differing (kept s'.base out) at bytes (s'.base + length out))
 counted_lost segs out s s' at bytes i l b e =
     let z : conflicts (held (next_of s.window) (seen s.window)) at bytes ≡ 0 = conflicts_none (next_of s.window) (seen s.window) at bytes (i.none l) in
     let f : conflicts (kept s.base out) at bytes ≡ conflicts (kept s'.base out) at bytes = ap (λ k. conflicts (kept k out) at bytes) (sym b) in
-    let w : conflicts_with out s at bytes ≡ conflicts (kept s'.base out) at bytes = omega (arith, z, f) in
-    e ∙ ap (λ x. min (2 ^ 64 - 1) (s.conflicts + x)) w
+    let w : conflicts (kept s.base out) at bytes + conflicts (held (next_of s.window) (seen s.window)) at bytes ≡ conflicts (kept s'.base out) at bytes
+    = omega (arith, z, f) in
+    e ∙ ap (λ x. min (2 ^ 64 - 1) (s.conflicts + unless_probe at (length bytes) (next_of s.window) x)) w
+    ∙ ap (λ n. min (2 ^ 64 - 1) (s.conflicts + unless_probe at (length bytes) n (conflicts (kept s'.base out) at bytes)))
+    (i.next_is ∙ ap (λ k. k + length out) (sym b))
 
 counted_more : (lost : Bool) (segs : List Segment) (out : List ℕ) (s s' : Stream) (at : ℕ) (bytes : List ℕ) → IsStreamOf segs out s → s.is_lost ≡ lost
     → s'.base ≡ s.base → s'.conflicts ≡ min (2 ^ 64 - 1) (s.conflicts + conflicts_with out s at bytes)
-    → s'.conflicts ≡ min (2 ^ 64 - 1) (s.conflicts + conflicts (first_held lost segs s'.base out) at bytes)
+    → s'.conflicts ≡ min (2 ^ 64 - 1) (s.conflicts + differing (first_held lost segs s'.base out) at bytes (s'.base + length out))
 counted_more false segs out s s' at bytes i l b e = counted_one segs out s s' at bytes i l b e
 counted_more true segs out s s' at bytes i l b e = counted_lost segs out s s' at bytes i l b e
 
@@ -182,10 +189,10 @@ fills_late was segs out s next at bytes n n' from k e l a g m z f =
       noted = λ _. subst (λ x. IsNotedIfRoom s.base x span n n') e (z.room (omega (arith, e)) a.reach);
     }
 
-late_same : (out : List ℕ) (o : Option Stream) (at : ℕ) (bytes : List ℕ) (o' : Option Stream) → counts at (length bytes) ≡ false → o' ≡ o
-    → GivesUp out o at bytes o'
-late_same out o at bytes None n e = tt
-late_same out o at bytes (Some s') n e = (
+late_same : (heard : List Heard) (out : List ℕ) (o : Option Stream) (at : ℕ) (bytes : List ℕ) (o' : Option Stream) → counts at (length bytes) ≡ false → o' ≡ o
+    → GivesUp heard out o at bytes o'
+late_same heard out o at bytes None n e = tt
+late_same heard out o at bytes (Some s') n e = (
   λ l x. absurd (let z : true ≡ false = sym x ∙ ap is_lost_stream e ∙ l in cc),
   λ c. absurd (let z : true ≡ false = sym c ∙ n in cc),
 )
@@ -193,8 +200,9 @@ late_same out o at bytes (Some s') n e = (
 -- one that isn't counted
 pub takes_quiet : (g : Given) (flow : Flow) (given : List ℕ) (flow' : Flow) (at : ℕ) → flow'.stream ≡ flow.stream → flow'.noted ≡ flow.noted
     → HearsMore flow.half (Took (sent_at g at)) flow'.half
+    → ((heard : List Heard) → IsHalf heard flow.half → IsHeeded heard g at)
     → counts at (length g.payload.now) ≡ false → FlowTakes g flow given flow' (given ++ [])
-takes_quiet g flow given flow' at s m h n = record {
+takes_quiet g flow given flow' at s m h y n = record {
   more = [];
   is = refl;
   none = λ l. (refl, ap is_lost_stream s ∙ l);
@@ -211,9 +219,12 @@ takes_quiet g flow given flow' at s m h n = record {
           noted = subst (λ x. AreNotedFor x flow'.stream flow'.noted) e (same_noted segs flow.stream flow'.stream flow.noted flow'.noted s m f.noted);
           within = subst (λ x. IsWithin x (high_of (heard ++ Took (sent_at g at) ∷ []))) e (within_more heard (Took (sent_at g at)) segs f.within);
         },
-        uncounted segs out flow.stream at g.payload.now flow'.stream n s,
-        late_same out flow.stream at g.payload.now flow'.stream n s,
-        fills_same (is_lost_stream flow.stream) segs (out ++ []) flow'.stream at g.payload.now flow.noted flow'.noted n m,
+        record {
+          heeded = y heard f.half;
+          counted = uncounted segs out flow.stream at g.payload.now flow'.stream n s;
+          late = late_same (heard ++ Took (sent_at g at) ∷ []) out flow.stream at g.payload.now flow'.stream n s;
+          fills = fills_same (is_lost_stream flow.stream) segs (out ++ []) flow'.stream at g.payload.now flow.noted flow'.noted n m;
+        },
       ));
 }
 
@@ -280,7 +291,19 @@ fills_after at bytes s more s' n n' from u t f w z q segs out i a =
     fills_late s.is_lost segs (out ++ more) s' (next_of s.window) at bytes n n' from u j.next_is l
     (subst (λ x. AreNoted s.is_lost segs x (next_of s.window) n) (sym t.base) a) (starts_after at bytes s more s' n from t f segs out i a) w z q
 
-record TakesBytes (at : ℕ) (bytes : List ℕ) (sent : Sent) (half : Half) (o : Option Stream) (more : List ℕ) (o' : Option Stream)
+not_left : (lost far past : Bool) → (not lost && (far && not past)) ≡ false → lost ≡ false → far ≡ true → past ≡ true
+not_left lost far true k l f = refl
+not_left true far false k l f = absurd (cc)
+not_left false true false k l f = absurd (cc)
+not_left false false false k l f = absurd (cc)
+
+-- What isn't left out is near, or no segment fills the gap any more.
+past_of : (heard : List Heard) (at size next : ℕ) (lost : Bool) → is_left_out heard at size next lost ≡ false → lost ≡ false
+    → next + 15728640 < at + size → is_past_filling heard next ≡ true
+past_of heard at size next lost k l p =
+    not_left lost (nat_lt (next + 15728640) (at + size)) (is_past_filling heard next) k l (lt-ltb (next + 15728640) (at + size) p)
+
+record TakesBytes (at : ℕ) (bytes : List ℕ) (sent : Sent) (half : Half) (o o1 : Option Stream) (more : List ℕ) (o' : Option Stream)
     (n n' : Option Noted) : Type 0 where
   none : is_lost_stream o ≡ true → (more ≡ []) × (is_lost_stream o' ≡ true)
   taken : (heard : List Heard) (segs : List Segment) (out : List ℕ) → IsStreamFor heard segs out o → IsHalf (heard ++ Took sent ∷ []) half
@@ -288,7 +311,8 @@ record TakesBytes (at : ℕ) (bytes : List ℕ) (sent : Sent) (half : Half) (o :
   noted : (heard : List Heard) (segs : List Segment) (out : List ℕ) → IsStreamFor heard segs out o → AreNotedFor segs o n
       → AreNotedFor (segs ++ record { place = at; bytes = bytes } ∷ []) o' n'
   counted : (heard : List Heard) (segs : List Segment) (out : List ℕ) → IsStreamFor heard segs out o → CountsMore segs out o at bytes o'
-  late : (heard : List Heard) (segs : List Segment) (out : List ℕ) → IsStreamFor heard segs out o → GivesUp out o at bytes o'
+  late : (heard : List Heard) (segs : List Segment) (out : List ℕ) (now : List Heard) → IsStreamFor heard segs out o
+      → is_left_out_of now at (length bytes) o1 ≡ false → GivesUp now out o at bytes o'
   fills : (heard : List Heard) (segs : List Segment) (out : List ℕ) → IsStreamFor heard segs out o → AreNotedFor segs o n
       → FillsLate (is_lost_stream o) segs (out ++ more) o' at bytes n n'
 
@@ -297,7 +321,7 @@ takes_bytes : (at : ℕ) (bytes : List ℕ) (sent : Sent) (flow : Flow) (o o1 : 
     → counts at (length bytes) ≡ true → has_bytes (Took sent) ≡ true → sent.place ≡ at → BeginsAt at flow o o1 → StreamsOnly at bytes o1 more o2
     → NotesFrom (is_lost_stream o) at (at + length bytes) o2 n from
     → NotesIn from (at + length bytes) o2 n n' → NotesSomeIn from (at + length bytes) o2 n n' → FillsIn from (at + length bytes) o2 n n'
-    → TakesBytes at bytes sent flow.half o more o2 n n'
+    → TakesBytes at bytes sent flow.half o o1 more o2 n n'
 takes_bytes at bytes sent flow None None more o2 n n' from u y p b t f w z q = absurd b
 takes_bytes at bytes sent flow (Some s) None more o2 n n' from u y p b t f w z q = absurd b
 takes_bytes at bytes sent flow None (Some s1) more None n n' from u y p b t f w z q = absurd t
@@ -316,15 +340,22 @@ takes_bytes at bytes sent flow (Some s) (Some s1) more (Some s2) n n' from u y p
   counted = λ heard segs out i. (
       let i1 : IsStreamOf segs out s1 = subst (λ x. IsStreamOf segs out x) (sym b) i.1 in
       counted_more s1.is_lost segs out s1 s2 at bytes i1 refl t.base (t.counted segs out i1)
-      ∙ ap (λ x. min (2 ^ 64 - 1) (x.conflicts + conflicts (first_held x.is_lost segs s2.base out) at bytes)) b);
+      ∙ ap (λ x. min (2 ^ 64 - 1) (x.conflicts + differing (first_held x.is_lost segs s2.base out) at bytes (s2.base + length out))) b);
   fills = λ heard segs out i a. subst (λ (x : Stream). FillsLate x.is_lost segs (out ++ more) (Some s2) at bytes n n') b
       (fills_after at bytes s1 more s2 n n' from u t
       (subst (λ (x : Stream). NotesFrom x.is_lost at (at + length bytes) (Some s2) n from) (sym b) f) w z q segs out
       (subst (λ x. IsStreamOf segs out x) (sym b) i.1) (subst (λ (x : Stream). AreNoted x.is_lost segs x.base (next_of x.window) n) (sym b) a));
-  late = λ heard segs out i. (
+  late = λ heard segs out now i k. (
       let i1 : IsStreamOf segs out s1 = subst (λ x. IsStreamOf segs out x) (sym b) i.1 in
-      let e : next_of s1.window ≡ s2.base + length out = omega (arith, i1.next_is, t.base) in
-      (λ l x. omega (arith, (t.lost (ap (λ x. x.is_lost) b ∙ l) x).0, e), λ c l. subst (IsNear at (length bytes)) e (t.near l)));
+      let e : next_of s1.window ≡ s2.base + length out = omega (arith, i1.next_is, t.base) in (
+        λ l x. (
+            let l1 : s1.is_lost ≡ false = ap (λ x. x.is_lost) b ∙ l in
+            let p = (t.lost l1 x).0 in (
+              omega (arith, p, e),
+              subst (λ n. is_past_filling now n ≡ true) e (past_of now at (length bytes) (next_of s1.window) s1.is_lost k l1 p),
+            )),
+        λ c l. subst (IsNear at (length bytes)) e (t.near l),
+      ));
 }
 takes_bytes at bytes sent flow None (Some s1) more (Some s2) n n' from u y p b t f w z q = record {
   none = λ l. absurd (let e : false ≡ true = l in cc);
@@ -354,16 +385,22 @@ takes_bytes at bytes sent flow None (Some s1) more (Some s2) n n' from u y p b t
   counted = λ heard segs out i. (
       let i1 : IsStreamOf segs out s1 = subst (λ x. IsStreamOf segs x s1) (sym i.2) (subst (λ x. IsStreamOf x [] s1) (sym i.1) b.0) in
       counted_more false segs out s1 s2 at bytes i1 b.1 t.base (t.counted segs out i1)
-      ∙ ap (λ x. min (2 ^ 64 - 1) (x + conflicts (first_held false segs s2.base out) at bytes)) b.2);
+      ∙ ap (λ x. min (2 ^ 64 - 1) (x + differing (first_held false segs s2.base out) at bytes (s2.base + length out))) b.2);
   fills = λ heard segs out i a. subst (λ x. FillsLate x segs (out ++ more) (Some s2) at bytes n n') b.1
       (fills_after at bytes s1 more s2 n n' from u t
       (subst (λ x. NotesFrom x at (at + length bytes) (Some s2) n from) (sym b.1) f) w z q segs out
       (subst (λ x. IsStreamOf segs x s1) (sym i.2) (subst (λ x. IsStreamOf x [] s1) (sym i.1) b.0))
       (noted_none s1.is_lost segs s1.base (next_of s1.window) n i.1 a));
-  late = λ heard segs out i. (
+  late = λ heard segs out now i k. (
       let i1 : IsStreamOf segs out s1 = subst (λ x. IsStreamOf segs x s1) (sym i.2) (subst (λ x. IsStreamOf x [] s1) (sym i.1) b.0) in
-      let e : next_of s1.window ≡ s2.base + length out = omega (arith, i1.next_is, t.base) in
-      (λ l x. omega (arith, (t.lost b.1 x).0, e), λ c l. subst (IsNear at (length bytes)) e (t.near l)));
+      let e : next_of s1.window ≡ s2.base + length out = omega (arith, i1.next_is, t.base) in (
+        λ l x. (
+            let p = (t.lost b.1 x).0 in (
+              omega (arith, p, e),
+              subst (λ n. is_past_filling now n ≡ true) e (past_of now at (length bytes) (next_of s1.window) s1.is_lost k b.1 p),
+            )),
+        λ c l. subst (IsNear at (length bytes)) e (t.near l),
+      ));
 }
 
 pub takes_counted : (g : Given) (flow : Flow) (given more : List ℕ) (flow0 flow1 flow2 flow3 : Flow) (at from : ℕ)
@@ -373,10 +410,12 @@ pub takes_counted : (g : Given) (flow : Flow) (given more : List ℕ) (flow0 flo
     → NotesSomeIn from (at + length g.payload.now) flow2.stream flow2.noted flow3.noted
     → FillsIn from (at + length g.payload.now) flow2.stream flow2.noted flow3.noted
     → flow2.noted ≡ flow1.noted → flow1.noted ≡ flow.noted → flow0.stream ≡ flow.stream → HearsMore flow.half (Took (sent_at g at)) flow0.half
+    → ((heard : List Heard) → IsHalf heard flow.half → IsHeeded heard g at)
+    → ((heard : List Heard) → IsHalf heard flow1.half → false ≡ is_left_out_of heard at (length g.payload.now) flow1.stream)
     → counts at (length g.payload.now) ≡ true → BeginsAt at flow0 flow0.stream flow1.stream → flow1.half ≡ flow0.half → flow2.half ≡ flow1.half
     → StreamsOnly at g.payload.now flow1.stream more flow2.stream → FlowTakes g flow given flow3 (given ++ more)
-takes_counted g flow given more flow0 flow1 flow2 flow3 at from u v p w z q m1 m0 s h y b e f t =
-    let r : TakesBytes at g.payload.now (sent_at g at) flow0.half flow0.stream more flow2.stream flow2.noted flow3.noted
+takes_counted g flow given more flow0 flow1 flow2 flow3 at from u v p w z q m1 m0 s h d kept y b e f t =
+    let r : TakesBytes at g.payload.now (sent_at g at) flow0.half flow0.stream flow1.stream more flow2.stream flow2.noted flow3.noted
     = takes_bytes at g.payload.now (sent_at g at) flow0 flow0.stream flow1.stream more flow2.stream flow2.noted flow3.noted from y y refl b t
     (subst (λ o. NotesFrom (is_lost_stream o) at (at + length g.payload.now) flow2.stream flow2.noted from) (sym s) p) w z q in
     record {
@@ -404,28 +443,136 @@ takes_counted g flow given more flow0 flow1 flow2 flow3 at from u v p w z q m1 m
                   (same_noted segs flow.stream flow0.stream flow.noted flow2.noted s (m1 ∙ m0) i.noted)));
               within = subst (λ x. IsWithin x (high_of (heard ++ Took (sent_at g at) ∷ []))) k (within_one g at heard segs y i.within);
             },
-            counted segs out flow.stream at g.payload.now flow3.stream y
-                (subst (λ o. CountsMore segs out flow.stream at g.payload.now o) (sym v) (subst (λ o. CountsMore segs out o at g.payload.now flow2.stream) s
-                (r.counted heard segs out (subst (λ o. IsStreamFor heard segs out o) (sym s) i.stream)))),
-            subst (λ o. GivesUp out flow.stream at g.payload.now o) (sym v) (subst (λ o. GivesUp out o at g.payload.now flow2.stream) s
-                (r.late heard segs out (subst (λ o. IsStreamFor heard segs out o) (sym s) i.stream))),
-            subst (λ o. FillsLate (is_lost_stream flow.stream) segs (out ++ more) o at g.payload.now flow.noted flow3.noted) (sym v)
-                (subst (λ n. FillsLate (is_lost_stream flow.stream) segs (out ++ more) flow2.stream at g.payload.now n flow3.noted) (m1 ∙ m0)
-                (subst (λ o. FillsLate (is_lost_stream o) segs (out ++ more) flow2.stream at g.payload.now flow2.noted flow3.noted) s
-                (r.fills heard segs out (subst (λ o. IsStreamFor heard segs out o) (sym s) i.stream)
-                (same_noted segs flow.stream flow0.stream flow.noted flow2.noted s (m1 ∙ m0) i.noted)))),
+            record {
+              heeded = d heard i.half;
+              counted = counted segs out flow.stream at g.payload.now flow3.stream y
+                  (subst (λ o. CountsMore segs out flow.stream at g.payload.now o) (sym v)
+                  (subst (λ o. CountsMore segs out o at g.payload.now flow2.stream) s
+                  (r.counted heard segs out (subst (λ o. IsStreamFor heard segs out o) (sym s) i.stream))));
+              late = subst (λ o. GivesUp (heard ++ Took (sent_at g at) ∷ []) out flow.stream at g.payload.now o) (sym v)
+                  (subst (λ o. GivesUp (heard ++ Took (sent_at g at) ∷ []) out o at g.payload.now flow2.stream) s
+                  (r.late heard segs out (heard ++ Took (sent_at g at) ∷ []) (subst (λ o. IsStreamFor heard segs out o) (sym s) i.stream)
+                  (sym (kept (heard ++ Took (sent_at g at) ∷ []) (subst (λ x. IsHalf (heard ++ Took (sent_at g at) ∷ []) x) (sym e) now)))));
+              fills = subst (λ o. FillsLate (is_lost_stream flow.stream) segs (out ++ more) o at g.payload.now flow.noted flow3.noted) (sym v)
+                  (subst (λ n. FillsLate (is_lost_stream flow.stream) segs (out ++ more) flow2.stream at g.payload.now n flow3.noted) (m1 ∙ m0)
+                  (subst (λ o. FillsLate (is_lost_stream o) segs (out ++ more) flow2.stream at g.payload.now flow2.noted flow3.noted) s
+                  (r.fills heard segs out (subst (λ o. IsStreamFor heard segs out o) (sym s) i.stream)
+                  (same_noted segs flow.stream flow0.stream flow.noted flow2.noted s (m1 ∙ m0) i.noted))));
+            },
           ));
     }
 
--- one that is out of range
+-- A stream that was there, or began with a segment whose bytes are left out.
+left_stream : (g : Given) (flow : Flow) (at : ℕ) (half : Half) (heard : List Heard) (segs : List Segment) (out : List ℕ) (o o1 : Option Stream)
+    → has_bytes (Took (sent_at g at)) ≡ true → half ≡ flow.half → IsHalf (heard ++ Took (sent_at g at) ∷ []) half → BeginsAt at flow o o1
+    → IsStreamFor heard segs out o → IsStreamFor (heard ++ Took (sent_at g at) ∷ []) segs out o1
+left_stream g flow at half heard segs out (Some s) (Some s1) y e h b i =
+    subst (λ (x : Stream). IsStreamFor (heard ++ Took (sent_at g at) ∷ []) segs out (Some x)) (sym b) (base_more heard (Took (sent_at g at)) s.base i.0, i.1)
+left_stream g flow at half heard segs out (Some s) None y e h b i = absurd b
+left_stream g flow at half heard segs out None None y e h b i = absurd b
+left_stream g flow at half heard segs out None (Some s1) y e h b i = (
+  record {
+    quiet = heard;
+    first = sent_at g at;
+    later = [];
+    is = sym (append-nil (heard ++ Took (sent_at g at) ∷ []));
+    silent = i.0;
+    bytes = y;
+    base_is = b.3 (heard ++ Took (sent_at g at) ∷ []) (subst (λ x. IsHalf (heard ++ Took (sent_at g at) ∷ []) x) e h);
+  },
+  subst (λ x. IsStreamOf segs x s1) (sym i.2) (subst (λ x. IsStreamOf x [] s1) (sym i.1) b.0),
+)
+
+left_noted : (flow : Flow) (at : ℕ) (heard : List Heard) (segs : List Segment) (out : List ℕ) (o o1 : Option Stream) (n : Option Noted) → BeginsAt at flow o o1
+    → IsStreamFor heard segs out o → AreNotedFor segs o n → AreNotedFor segs o1 n
+left_noted flow at heard segs out (Some s) (Some s1) n b i a = subst (λ (x : Stream). AreNotedFor segs (Some x) n) (sym b) a
+left_noted flow at heard segs out (Some s) None n b i a = absurd b
+left_noted flow at heard segs out None None n b i a = absurd b
+left_noted flow at heard segs out None (Some s1) n b i a = noted_none s1.is_lost segs s1.base (next_of s1.window) n i.1 a
+
+left_conflicts : (flow : Flow) (at : ℕ) (o o1 : Option Stream) → BeginsAt at flow o o1 → conflicts_in o1 ≡ conflicts_in o
+left_conflicts flow at (Some s) (Some s1) b = ap (λ (x : Stream). x.conflicts) b
+left_conflicts flow at (Some s) None b = absurd b
+left_conflicts flow at None None b = absurd b
+left_conflicts flow at None (Some s1) b = b.2
+
+left_lost : (flow : Flow) (at : ℕ) (o o1 : Option Stream) → BeginsAt at flow o o1 → is_lost_stream o ≡ true → is_lost_stream o1 ≡ true
+left_lost flow at (Some s) (Some s1) b l = ap (λ (x : Stream). x.is_lost) b ∙ l
+left_lost flow at (Some s) None b l = absurd b
+left_lost flow at None None b l = absurd b
+left_lost flow at None (Some s1) b l = absurd (let z : false ≡ true = l in cc)
+
+-- one whose bytes are left out
+pub takes_left : (g : Given) (flow : Flow) (given : List ℕ) (flow0 flow1 : Flow) (at : ℕ) → flow0.stream ≡ flow.stream → flow1.noted ≡ flow.noted
+    → flow1.half ≡ flow0.half → HearsMore flow.half (Took (sent_at g at)) flow0.half
+    → ((heard : List Heard) → IsHalf heard flow.half → IsHeeded heard g at)
+    → ((heard : List Heard) → IsHalf heard flow1.half → true ≡ is_left_out_of heard at (length g.payload.now) flow1.stream)
+    → counts at (length g.payload.now) ≡ true → BeginsAt at flow0 flow0.stream flow1.stream → FlowTakes g flow given flow1 (given ++ [])
+takes_left g flow given flow0 flow1 at s m e h d left y b = record {
+  more = [];
+  is = refl;
+  none = λ l. (refl, left_lost flow0 at flow0.stream flow1.stream b (ap is_lost_stream s ∙ l));
+  taken = λ heard segs out i. (
+      let now : IsHalf (heard ++ Took (sent_at g at) ∷ []) flow0.half = h heard i.half in
+      let half : IsHalf (heard ++ Took (sent_at g at) ∷ []) flow1.half = subst (λ x. IsHalf (heard ++ Took (sent_at g at) ∷ []) x) (sym e) now in
+      let old : IsStreamFor heard segs out flow0.stream = subst (λ o. IsStreamFor heard segs out o) (sym s) i.stream in
+      inr (inl (
+        at,
+        record {
+          half = half;
+          stream = left_stream g flow0 at flow0.half heard segs out flow0.stream flow1.stream y refl now b old;
+          noted = subst (λ n. AreNotedFor segs flow1.stream n) (sym m)
+              (left_noted flow0 at heard segs out flow0.stream flow1.stream flow.noted b old (subst (λ o. AreNotedFor segs o flow.noted) (sym s) i.noted));
+          within = within_more heard (Took (sent_at g at)) segs i.within;
+        },
+        d heard i.half,
+        refl,
+        record {
+          counts = y;
+          is = sym (left (heard ++ Took (sent_at g at) ∷ []) half);
+          conflicts = left_conflicts flow0 at flow0.stream flow1.stream b ∙ ap conflicts_in s;
+          noted = m;
+        },
+      )));
+}
+
+-- an acknowledgement
+pub hears_one : (number : ℕ) (opens : Bool) (flow flow' : Flow) (o : Option ℕ) → flow'.stream ≡ flow.stream → flow'.noted ≡ flow.noted
+    → IfSome o (λ at. HearsMore flow.half (Acked (record { number = number; opens = opens; place = at })) flow'.half)
+    → IfSome o (λ at. (heard : List Heard) → IsHalf heard flow.half → is_unsent heard at ≡ false)
+    → (o ≡ None → (heard : List Heard) → IsHalf heard flow.half → IsUnsent heard number true) → (o ≡ None → flow'.half ≡ flow.half)
+    → (heard : List Heard) (segs : List Segment) (out : List ℕ) → IsFlow heard segs out flow → HasHeard number opens heard segs out flow'
+hears_one number opens flow flow' (Some at) s m h y r k heard segs out f =
+    let e : Heard = Acked (record { number = number; opens = opens; place = at }) in
+    inl (
+      at,
+      record {
+        half = h heard f.half;
+        stream = subst (λ o. IsStreamFor (heard ++ e ∷ []) segs out o) (sym s) (stream_quiet heard e segs out flow.stream refl f.stream);
+        noted = same_noted segs flow.stream flow'.stream flow.noted flow'.noted s m f.noted;
+        within = within_more heard e segs f.within;
+      },
+      y heard f.half,
+    )
+hears_one number opens flow flow' None s m h y r k heard segs out f = inr (
+  r refl heard f.half,
+  record {
+    half = subst (λ x. IsHalf heard x) (sym (k refl)) f.half;
+    stream = subst (λ o. IsStreamFor heard segs out o) (sym s) f.stream;
+    noted = same_noted segs flow.stream flow'.stream flow.noted flow'.noted s m f.noted;
+    within = f.within;
+  },
+)
+
+-- one that is passed over
 pub takes_refused : (g : Given) (flow : Flow) (given : List ℕ) (flow' : Flow) → flow'.stream ≡ flow.stream → flow'.noted ≡ flow.noted → flow'.half ≡ flow.half
-    → IsOutOfRange flow.half ((g.sequence + (if g.syn then 1 else 0)) % 2 ^ 32) (length g.payload.now) g.length → FlowTakes g flow given flow' (given ++ [])
+    → ((heard : List Heard) → IsHalf heard flow.half → IsPassedBy heard g true) → FlowTakes g flow given flow' (given ++ [])
 takes_refused g flow given flow' s m h r = record {
   more = [];
   is = refl;
   none = λ l. (refl, ap is_lost_stream s ∙ l);
-  taken = λ heard segs out f. inr (
-    r,
+  taken = λ heard segs out f. inr (inr (
+    r heard f.half,
     refl,
     record {
       half = subst (λ x. IsHalf heard x) (sym h) f.half;
@@ -435,7 +582,7 @@ takes_refused g flow given flow' s m h r = record {
     },
     s,
     m,
-  );
+  ));
 }
 
 pub notes_at_end : (at «end» : ℕ) (s : Stream) (o : Option Stream) (n : Option Noted) → o ≡ Some s → «end» ≤ next_of s.window → NotesIn at «end» o n n

@@ -1,14 +1,15 @@
 -- A direction: what was heard of it, the segments with data that it has taken, and the bytes that it has handed out.
-use Rattle.std.specs.Prelude.{◌≡◌, ℕ, ◌+◌, ◌<◌, ◌≤◌, ◌-◌, ◌^◌, ◌%◌, Bool, true, false, List, [], ◌∷◌, ◌++◌, length}
+use Rattle.std.specs.Prelude.{◌≡◌, ℕ, ◌+◌, ◌<◌, ◌≤◌, ◌-◌, ◌^◌, Bool, true, false, not, ◌&&◌, List, [], ◌∷◌, ◌++◌, length}
 use Rattle.std.specs.Prelude.{Option, Some, None, ◌⊎◌, is_some, min, max, if◌then◌else◌, nat_lt}
 use Rattle.bt_tcp.specs.Segments.{Segment, byte_at}
-use Rattle.bt_tcp.specs.History.{conflicts, first_known, kept}
+use Rattle.bt_tcp.specs.History.{first_known, kept}
 use Rattle.bt_tcp.specs.declared.covered.Span.{Span}
 use Rattle.bt_tcp.specs.Covered.{AreApart, AreGaps, IsAlone, in_span, is_covered, no_gaps}
 use Rattle.bt_tcp.specs.declared.covered.Gap.{Gap}
 use Rattle.bt_tcp.specs.declared.covered.Gaps.{Gaps}
 use Rattle.bt_tcp.specs.Heard.{Heard, Sent, Took, Acked, opening_of, high_of, fin_of, acked_of, sent_of, IsStart, IsAfterSyn}
-use Rattle.bt_tcp.specs.Halves.{IsHalf, IsOutOfRange}
+use Rattle.bt_tcp.specs.Halves.{IsHalf}
+use Rattle.bt_tcp.specs.Acceptable.{IsPassed, IsUnsent, is_passed, is_past_filling, is_unsent}
 use Rattle.bt_flow.specs.declared.stream.Stream.{Stream}
 use Rattle.bt_flow.specs.declared.noted.Noted.{Noted}
 use Rattle.bt_flow.specs.Notes.{AddsSome, AreNoted, IsNotedFrom, NotesOne, FillsOne, ReachBase, spans_noted, is_full}
@@ -16,7 +17,7 @@ use Rattle.bt_flow.specs.Wide.{next_of, capacity_of}
 use Rattle.bt_flow.specs.declared.flow.Flow.{Flow}
 use Rattle.bt_flow.specs.declared.flow.Given.{Given}
 use Rattle.bt_flow.specs.Counts.{counts, is_closed_at, from_base}
-use Rattle.bt_flow.specs.Streams.{IsStreamOf, StreamTakes}
+use Rattle.bt_flow.specs.Streams.{IsStreamOf, StreamTakes, differing}
 use Rattle.bt_flow.specs.Views.{AppendsAfter, IsNear}
 
 abbrev pub has_bytes : Heard → Bool
@@ -92,25 +93,35 @@ abbrev pub first_held : Bool → List Segment → ℕ → List ℕ → ℕ → O
 first_held false segs base out = first_known segs base (base + length out)
 first_held true segs base out = kept base out
 
--- Those bytes of a segment are counted that differ from the first captured ones.
+-- Those bytes of a segment are counted that differ from the first captured ones. A keep-alive has none.
 abbrev pub CountsMore : List Segment → List ℕ → Option Stream → ℕ → List ℕ → Option Stream → Type 0
 CountsMore segs out o at bytes None = ⊥
 CountsMore segs out o at bytes (Some s') =
-    s'.conflicts ≡ min (2 ^ 64 - 1) (conflicts_in o + conflicts (first_held (is_lost_stream o) segs s'.base out) at bytes)
+    s'.conflicts ≡ min (2 ^ 64 - 1) (conflicts_in o + differing (first_held (is_lost_stream o) segs s'.base out) at bytes (s'.base + length out))
 
 -- Bytes that don't count leave the stream as it is. Of others those are counted that differ.
 abbrev pub IsCounted : List Segment → List ℕ → Option Stream → ℕ → List ℕ → Option Stream → Type 0
 IsCounted segs out o at bytes o' =
     (counts at (length bytes) ≡ false → o' ≡ o) × (counts at (length bytes) ≡ true → CountsMore segs out o at bytes o')
 
--- A gap becomes final if the segment ends more than 15 MiB past the next place, and only then. A segment of more bytes than that may be taken all the same.
-abbrev pub IsGivenUp : (at size next : ℕ) → (was_lost lost : Bool) → Type 0
-IsGivenUp at size next was_lost lost =
-    (was_lost ≡ false → lost ≡ true → next + 15728640 < at + size) × (counts at size ≡ true → lost ≡ false → IsNear at size next)
+-- A segment isn't kept if it ends more than 15 MiB past a gap that may still be filled.
+abbrev pub is_left_out : List Heard → (at size next : ℕ) → (lost : Bool) → Bool
+is_left_out heard at size next lost = not lost && (nat_lt (next + 15728640) (at + size) && not (is_past_filling heard next))
 
-abbrev pub GivesUp : List ℕ → Option Stream → ℕ → List ℕ → Option Stream → Type 0
-GivesUp out o at bytes None = Unit {0}
-GivesUp out o at bytes (Some s') = IsGivenUp at (length bytes) (s'.base + length out) (is_lost_stream o) s'.is_lost
+abbrev pub is_left_out_of : List Heard → (at size : ℕ) → Option Stream → Bool
+is_left_out_of heard at size None = false
+is_left_out_of heard at size (Some s) = is_left_out heard at size (next_of s.window) s.is_lost
+
+-- A gap becomes final only with a segment that ends more than 15 MiB past it, if no segment fills it any more.
+-- A segment of more bytes than that may be taken all the same.
+abbrev pub IsGivenUp : List Heard → (at size next : ℕ) → (was_lost lost : Bool) → Type 0
+IsGivenUp heard at size next was_lost lost =
+    (was_lost ≡ false → lost ≡ true → (next + 15728640 < at + size) × (is_past_filling heard next ≡ true))
+    × (counts at size ≡ true → lost ≡ false → IsNear at size next)
+
+abbrev pub GivesUp : List Heard → List ℕ → Option Stream → ℕ → List ℕ → Option Stream → Type 0
+GivesUp heard out o at bytes None = Unit {0}
+GivesUp heard out o at bytes (Some s') = IsGivenUp heard at (length bytes) (s'.base + length out) (is_lost_stream o) s'.is_lost
 
 -- handed out, since it is before the next place, or such
 abbrev pub or_before : ℕ → (ℕ → Bool) → ℕ → Bool
@@ -170,14 +181,42 @@ pub record FillsLate (was_lost : Bool) (segs : List Segment) (out : List ℕ) (o
   pub same : counts at (length bytes) ≡ false → n' ≡ n
   pub noted : counts at (length bytes) ≡ true → IsSegmentNoted out o (record { from = from; to = at + length bytes }) n n'
 
--- The segment was taken at its place, or its place is out of range and nothing has changed.
+-- The segment is passed over, or it isn't.
+abbrev pub IsPassedBy : List Heard → Given → Bool → Type 0
+IsPassedBy heard g passed = IsPassed heard g.sequence g.syn g.fin (length g.payload.now) g.length passed
+
+-- It isn't, at this place.
+abbrev pub IsHeeded : List Heard → Given → ℕ → Type 0
+IsHeeded heard g at = is_passed heard g.syn g.fin (length g.payload.now) g.length at ≡ false
+
+-- A segment's bytes are left out. The stream may have begun with it, and is as before otherwise.
+pub record IsLeftOut (heard : List Heard) (g : Given) (at : ℕ) (flow flow' : Flow) : Type 0 where
+  pub counts : counts at (length g.payload.now) ≡ true
+  pub is : is_left_out_of heard at (length g.payload.now) flow'.stream ≡ true
+  pub conflicts : conflicts_in flow'.stream ≡ conflicts_in flow.stream
+  pub noted : flow'.noted ≡ flow.noted
+
+-- The segment was taken at its place.
+pub record IsTakenAt (g : Given) (heard : List Heard) (segs : List Segment) (out : List ℕ) (flow : Flow) (more : List ℕ) (flow' : Flow) (at : ℕ) : Type 0 where
+  pub heeded : IsHeeded heard g at
+  pub counted : IsCounted segs out flow.stream at g.payload.now flow'.stream
+  pub late : GivesUp (heard ++ Took (sent_at g at) ∷ []) out flow.stream at g.payload.now flow'.stream
+  pub fills : FillsLate (is_lost_stream flow.stream) segs (out ++ more) flow'.stream at g.payload.now flow.noted flow'.noted
+
+-- The segment was taken; or it was heard of, but its bytes are left out; or it was passed over, and nothing has changed.
 abbrev pub HasTaken : Given → List Heard → List Segment → List ℕ → Flow → List ℕ → Flow → Type 0
 HasTaken g heard segs out flow more flow' =
     ((at : ℕ) × IsFlow (heard ++ Took (sent_at g at) ∷ []) (with_segment segs at g.payload.now) (out ++ more) flow'
-    × IsCounted segs out flow.stream at g.payload.now flow'.stream × GivesUp out flow.stream at g.payload.now flow'.stream
-    × FillsLate (is_lost_stream flow.stream) segs (out ++ more) flow'.stream at g.payload.now flow.noted flow'.noted)
-    ⊎ (IsOutOfRange flow.half ((g.sequence + (if g.syn then 1 else 0)) % 2 ^ 32) (length g.payload.now) g.length × (more ≡ []) × IsFlow heard segs out flow'
-    × (flow'.stream ≡ flow.stream) × (flow'.noted ≡ flow.noted))
+    × IsTakenAt g heard segs out flow more flow' at)
+    ⊎ (((at : ℕ) × IsFlow (heard ++ Took (sent_at g at) ∷ []) segs out flow' × IsHeeded heard g at × (more ≡ [])
+    × IsLeftOut (heard ++ Took (sent_at g at) ∷ []) g at flow flow')
+    ⊎ (IsPassedBy heard g true × (more ≡ []) × IsFlow heard segs out flow' × (flow'.stream ≡ flow.stream) × (flow'.noted ≡ flow.noted)))
+
+-- The acknowledgement was heard at its place; or it was passed over, and nothing has changed.
+abbrev pub HasHeard : ℕ → Bool → List Heard → List Segment → List ℕ → Flow → Type 0
+HasHeard number opens heard segs out flow' =
+    ((at : ℕ) × IsFlow (heard ++ Acked (record { number = number; opens = opens; place = at }) ∷ []) segs out flow' × (is_unsent heard at ≡ false))
+    ⊎ (IsUnsent heard number true × IsFlow heard segs out flow')
 
 -- The bytes that a segment makes ready were appended. Nothing is after a final gap.
 pub record FlowTakes (g : Given) (flow : Flow) (given : List ℕ) (flow' : Flow) (given' : List ℕ) : Type 0 where

@@ -1,5 +1,5 @@
 -- A stream from its base on: what it has handed out of the segments that it has taken.
-use Rattle.std.specs.Prelude.{◌≡◌, ℕ, ◌+◌, ◌-◌, ◌<◌, ◌^◌, min, true, false, List, [], ◌∷◌, ◌++◌, length, None}
+use Rattle.std.specs.Prelude.{◌≡◌, ℕ, ◌+◌, ◌-◌, ◌<◌, ◌^◌, ◌==◌, ◌&&◌, if◌then◌else◌, min, Bool, true, false, List, [], ◌∷◌, ◌++◌, length, Option, None}
 use Rattle.bt_tcp.specs.Segments.{Segment, IsFront, IsStream}
 use Rattle.bt_tcp.specs.Windows.{IsTaken}
 use Rattle.bt_tcp.specs.History.{IsHistory, conflicts, kept, held}
@@ -16,9 +16,21 @@ pub record IsStreamOf (segs : List Segment) (out : List ℕ) (s : Stream) : Type
   pub stream : s.is_lost ≡ false → IsStream segs s.base out
   pub none : s.is_lost ≡ true → (k : ℕ) → seen s.window k ≡ None
 
+-- A keep-alive may have one byte, which is before the next one and needn't be what was sent there (RFC 1122 4.2.3.6).
+abbrev pub is_probe : (at size next : ℕ) → Bool
+is_probe at size next = (size == 1) && (at + 1 == next)
+
+abbrev pub unless_probe : (at size next : ℕ) → ℕ → ℕ
+unless_probe at size next n = if is_probe at size next then 0 else n
+
+-- how many bytes of a segment differ from these; none of a keep-alive does
+abbrev pub differing : (ℕ → Option ℕ) → ℕ → List ℕ → ℕ → ℕ
+differing first at bytes next = unless_probe at (length bytes) next (conflicts first at bytes)
+
 -- how many bytes of a segment differ from those that were handed out, as far as these are kept, and from those ahead
 abbrev pub conflicts_with : List ℕ → Stream → ℕ → List ℕ → ℕ
-conflicts_with out s at bytes = conflicts (kept s.base out) at bytes + conflicts (held (next_of s.window) (seen s.window)) at bytes
+conflicts_with out s at bytes =
+    unless_probe at (length bytes) (next_of s.window) (conflicts (kept s.base out) at bytes + conflicts (held (next_of s.window) (seen s.window)) at bytes)
 
 -- A segment was taken, and makes these bytes ready. There are none after a final gap, and one is final past 15 MiB.
 pub record Advances (at : ℕ) (bytes : List ℕ) (s : Stream) (more : List ℕ) (s' : Stream) : Type 0 where

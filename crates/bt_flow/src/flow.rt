@@ -1,10 +1,11 @@
 //! One direction of a captured TCP connection.
-ghost use Rattle.std.specs.Prelude.{◌≡◌, ℕ, ◌+◌, ◌<◌, ◌≤◌, ◌^◌, List, [], ◌∷◌, ◌++◌, length, IsSome, IfOk, OnOk, OnErr, take, drop};
+ghost use Rattle.std.specs.Prelude.{◌≡◌, ℕ, ◌+◌, ◌<◌, ◌≤◌, ◌^◌, List, [], ◌∷◌, ◌++◌, length, IsSome, IfOk, OnOk, OnErr, take, drop, true, false};
 ghost use Rattle.std.specs.List.{slice_rotate_right};
 ghost use Rattle.bt_flow.specs.Counts.{counts, is_closed_at, from_base};
 
 use crate::noted::Noted;
 use crate::stream::Stream;
+use crate::window::MOST;
 use bt_tcp::{Gap, Gaps, Half, Spans};
 use std::alloc::{AllocError, Global};
 
@@ -77,13 +78,14 @@ fn offsets(gaps: Gaps, base: u64) -> Gaps
 }
 
 impl Flow {
-    ghost use Rattle.bt_tcp.specs.Heard.{Heard, Acked, opening_of};
+    ghost use Rattle.bt_tcp.specs.Heard.{Heard, opening_of};
     ghost use Rattle.bt_tcp.specs.Segments.{Segment};
-    ghost use Rattle.bt_flow.specs.Flows.{IsFlow, FlowTakes, FlowTakesNext, IsLost, Begins, StreamOnly, IsBaseNow, IsPlaceNow, HasHole, IsClosed, conflicts_in, held_in, high_in, is_lost_stream, NotesFrom, NotesIn, NotesSomeIn, FillsIn, AreGapsOf, gaps_end};
+    ghost use Rattle.bt_flow.specs.Flows.{IsFlow, FlowTakes, FlowTakesNext, HasHeard, IsPassedBy, is_left_out_of, IsLost, Begins, StreamOnly, IsBaseNow, IsPlaceNow, HasHole, IsClosed, conflicts_in, held_in, high_in, is_lost_stream, NotesFrom, NotesIn, NotesSomeIn, FillsIn, AreGapsOf, gaps_end};
     ghost use Rattle.bt_flow.specs.Views.{AppendsAfter};
     ghost use Rattle.bt_flow.specs.Notes.{spans_noted};
     ghost use Rattle.bt_tcp.specs.Covered.{is_covered, AreGaps, IsFirstFrom, sent_end};
     ghost use Rattle.bt_tcp.specs.Halves.{IsHalf};
+    ghost use Rattle.bt_tcp.specs.Resets.{MayBeNext};
 
     /// Returns a direction of which nothing was captured.
     pub fn new(alloc: Global) -> Flow
@@ -190,12 +192,29 @@ impl Flow {
         Ok(())
     }
 
+    /// Tells whether bytes at a place are left out: they end more than `MOST` places past a gap that may still be filled.
+    fn leaves_out(&self, at: u64, size: usize) -> bool
+        requires { at + size < 2 ^ 63 }
+        ensures is { (heard : List Heard) → IsHalf heard self.now.half → result ≡ is_left_out_of heard at size self.now.stream }
+        ensures open { result ≡ true → is_lost_stream self.now.stream ≡ false }
+    {
+        match &self.stream {
+            Some(stream) => {
+                let next = stream.next();
+                let reach = (at + size as u64).saturating_sub(next);
+                !stream.is_lost() && reach > MOST && !self.half.is_past_filling(next)
+            }
+            None => false,
+        }
+    }
+
     /// Takes a segment that this side sent, which has no RST, and returns those of its bytes that come next in the stream.
     ///
     /// What follows them from the memory, since they fill a gap, is appended to `later`. So a segment in order isn't copied to it.
     ///
-    /// A segment whose place is out of range is passed over. If one needs more than `MOST` places, the gap
-    /// before it is final: nothing is handed out from then on.
+    /// A segment that [`Flow::passes`] is passed over. One that ends more than `MOST` places past the next byte isn't kept. The gap
+    /// before it is final then, if its first byte was acknowledged, or if no acknowledgement was ever captured: nothing is handed out
+    /// from then on.
     ///
     /// # Errors
     /// `AllocError` when out of memory. Nothing is promised of the direction then.
@@ -223,6 +242,9 @@ impl Flow {
         }
         let was_lost = self.is_lost();
         self.begin(at)?;
+        if self.leaves_out(at, part.len()) {
+            return Ok(&[]);
+        }
         let fresh = self.go_on(at, part, later)?;
         let end = at + part.len() as u64;
         let from = self.noted_from(was_lost, at, end);
@@ -246,11 +268,13 @@ impl Flow {
     }
 
     /// Takes an acknowledgement by the other side. `opens` says whether it came with that side's SYN.
+    ///
+    /// One of what can't have been sent yet is passed over (RFC 9293 3.10.7.4).
     pub fn hear(&mut self, acked: u32, opens: bool)
         ensures stream { self.new.stream ≡ self.old.stream }
         ensures noted { self.new.noted ≡ self.old.noted }
         ensures heard { (heard : List Heard) → (segs : List Segment) → (out : List ℕ) → IsFlow heard segs out self.old
-            → (at : ℕ) × IsFlow (heard ++ Acked (record { number = acked; opens = opens; place = at }) ∷ []) segs out self.new }
+            → HasHeard acked opens heard segs out self.new }
     {
         self.half.hear(acked, opens);
     }
@@ -310,7 +334,7 @@ impl Flow {
     /// Returns the runs of bytes that were sent but not captured, with offsets from the base.
     ///
     /// Once there were 1,024 spans of captured bytes past the next one, some that were captured may not be noted. These count as
-    /// not captured. So do those of a gap that is final, if they come later.
+    /// not captured. So do bytes that are left out, and those of a gap that is final, if they come later.
     pub fn gaps(&self) -> Gaps
         ensures { (heard : List Heard) → (segs : List Segment) → (out : List ℕ) → IsFlow heard segs out self.now → AreGapsOf heard segs out self.now result }
     {
@@ -349,6 +373,28 @@ impl Flow {
         ensures { (heard : List Heard) → (segs : List Segment) → (out : List ℕ) → IsFlow heard segs out self.now → result ≡ opening_of heard }
     {
         self.half.opening()
+    }
+
+    /// Tells whether the receiver of this side may expect a number next (RFC 9293 3.3.1).
+    ///
+    /// It may, if that is from what it acknowledged up to what was sent. If no number of the side is known, it may expect any.
+    pub fn may_be_next(&self, sequence: u32) -> bool
+        ensures { (heard : List Heard) → (segs : List Segment) → (out : List ℕ) → IsFlow heard segs out self.now → MayBeNext heard sequence result }
+    {
+        self.half.may_be_next(sequence)
+    }
+
+    /// Tells whether [`Flow::take`] passes a segment over, which has no RST: it isn't in the window of its receiver (RFC 9293 3.4).
+    pub fn passes(&self, given: &Given) -> bool
+        ensures { (heard : List Heard) → (segs : List Segment) → (out : List ℕ) → IsFlow heard segs out self.now → IsPassedBy heard given.now result }
+    {
+        self.half.passes(
+            given.sequence,
+            given.syn,
+            given.fin,
+            given.payload.len(),
+            given.length,
+        )
     }
 
     /// Tells whether the FIN was reached and acknowledged (RFC 9293 3.6).

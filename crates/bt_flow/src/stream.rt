@@ -30,7 +30,7 @@ pub struct Stream {
 
 impl Stream {
     ghost use Rattle.bt_flow.specs.Wide.{next_of, capacity_of};
-    ghost use Rattle.bt_flow.specs.Streams.{IsStreamOf, Advances, StreamTakes, conflicts_with};
+    ghost use Rattle.bt_flow.specs.Streams.{IsStreamOf, Advances, StreamTakes, conflicts_with, is_probe};
     ghost use Rattle.bt_flow.specs.Views.{AppendsAfter};
 
     /// Returns a stream that begins at a place.
@@ -95,12 +95,23 @@ impl Stream {
         self.window.size().saturating_add(self.history.capacity())
     }
 
-    /// Counts the bytes of a segment that differ from those that came first.
+    /// Tells whether a segment may be a keep-alive: it has one byte, before the next one (RFC 1122 4.2.3.6).
+    fn is_probe(&self, at: u64, size: usize) -> bool
+        requires { at + size < 2 ^ 63 }
+        ensures { result ≡ is_probe at size (next_of self.now.window) }
+    {
+        size == 1 && at + 1 == self.window.next()
+    }
+
+    /// Counts the bytes of a segment that differ from those that came first. A keep-alive has none.
     fn count_conflicts(&self, at: u64, part: &[u8]) -> u64
         requires { at + length part.now < 2 ^ 63 }
         ensures { (out : List ℕ) → next_of self.now.window ≡ self.now.base + length out → IsHistory self.now.history.items out
             → result ≡ min (2 ^ 64 - 1) (conflicts_with out self.now at part.now) }
     {
+        if self.is_probe(at, part.len()) {
+            return 0;
+        }
         let next = self.window.next();
         let ahead = self.window.count_conflicts(at, part);
         if at >= next {

@@ -1,19 +1,21 @@
 -- What is read of a packet stands in it.
 use Rattle.std.proofs.Common.{◌≡◌, ℕ, zero, suc, ◌+◌, ◌-◌, ◌*◌, ◌/◌, ◌≤◌, ◌==◌, ◌||◌, nat_lt, Bool, true, false, List, [], ◌∷◌, ◌++◌, length, take, drop}
-use Rattle.std.proofs.Common.{Some, None, option_and_then, option_map, if◌then◌else◌, ap, sym, ◌∙◌, refl, arith, inl, inr, ltb-false, eqb-true, append-nil}
+use Rattle.std.proofs.Common.{Option, Some, None, option_and_then, option_map, if◌then◌else◌, ap, sym}
+use Rattle.std.proofs.Common.{◌∙◌, refl, arith, inl, inr, ltb-false, eqb-true, append-nil}
 use Rattle.std.proofs.Math.ListN.{drop_of_length-le}
 use Rattle.std.proofs.lemmas.Bool.{cases_Bool, cases_lt}
 use Rattle.std.proofs.lemmas.List.{take-append-drop, length-take-le, length-drop, drop-drop}
 use Rattle.bt_packet.specs.Bytes.{word, after}
 use Rattle.bt_packet.specs.Ip.{Contents, is_fragment, total_of, ipv4, ipv4_header, ipv4_payload, ipv4_carried, ipv4_whole}
-use Rattle.bt_packet.specs.Ip.{is_extension, upper, ipv6, ipv6_carried, ipv6_whole, ip, ip_after, carried}
+use Rattle.bt_packet.specs.Ip.{is_extension, is_whole, content_size, past, upper, ipv6, ipv6_carried, ipv6_whole, ip, ip_after, innermost, outer, carried}
 use Rattle.bt_packet.specs.Links.{packet_in}
 use Rattle.bt_packet.specs.Tcp.{TcpSegment, tcp, segment_in, segment_of}
 use Rattle.bt_packet.specs.Frames.{Extension, first_of, extended, AreExtensions, Tcp, tcp_bytes, said}
 use Rattle.bt_packet.specs.Segments.{Follows, IsPayload, IsV4, IsV6, IsIp, version_4, version_6, HasOptions, IsTcpSegment, IsCarriedBy, IsSegmentOf}
 use Rattle.bt_packet.specs.declared.address.Host.{Host}
 use Rattle.bt_packet.specs.declared.address.Host.TheVariants.{V4, V6}
-use Rattle.bt_packet.proofs.Found.{if_none, map_some, then_some, after_found, payload_found, packet_found, branch, no_some, some_is}
+use Rattle.bt_packet.proofs.Extensions.{whole_front}
+use Rattle.bt_packet.proofs.Found.{if_none, map_some, then_some, after_found, payload_found, branch, no_some, some_is}
 
 -- ---- version 4
 
@@ -114,14 +116,18 @@ no_more protocol bytes q e =
     let a : protocol ≡ q.0 = ap (λ (x : ℕ × List ℕ). x.0) same in
     record { extensions = []; is = ap (λ (x : ℕ × List ℕ). x.1) same; first = a; are = tt; ends = rw (← a) p.0 }
 
-one_header : (protocol next words : ℕ) (more tail : List ℕ) (last : ℕ) (rest : List ℕ) → is_extension protocol ≡ true → Follows (8 * words + 6) more tail
-    → Chain next tail last rest → Chain protocol (next ∷ words ∷ more) last rest
-one_header protocol next words more tail last rest ext f k = record {
+if_then : {A : Type 0} (b : Bool) (x : Option A) (y : A) → (if b then x else None) ≡ Some y → (b ≡ true) × (x ≡ Some y)
+if_then true x y e = (refl, e)
+if_then false x y e = absurd cc
+
+one_header : (protocol next words : ℕ) (more tail : List ℕ) (last : ℕ) (rest : List ℕ) → is_extension protocol ≡ true → is_whole protocol more ≡ true
+    → Follows (content_size protocol words) more tail → Chain next tail last rest → Chain protocol (next ∷ words ∷ more) last rest
+one_header protocol next words more tail last rest ext whole f k = record {
   extensions = record { kind = protocol; words = words; content = f.header } ∷ k.extensions;
   is = ap (λ (x : List ℕ). next ∷ words ∷ x) (f.is ∙ ap (λ (x : List ℕ). f.header ++ x) k.is)
       ∙ ap (λ (x : ℕ). x ∷ words ∷ (f.header ++ extended k.extensions last rest)) k.first;
   first = refl;
-  are = (ext, f.size, k.are);
+  are = (ext, f.size, sym (whole_front protocol words f.header tail f.size) ∙ sym (ap (is_whole protocol) f.is) ∙ whole, k.are);
   ends = k.ends;
 }
 
@@ -132,9 +138,11 @@ chain_found (suc n) protocol [] p e = no_more protocol [] p e
 chain_found (suc n) protocol (a ∷ []) p e = no_more protocol (a ∷ []) p e
 chain_found (suc n) protocol (next ∷ words ∷ more) p e =
     elim (cases_Bool (is_extension protocol)) [
-      | inl ext ↦ (let e' : option_and_then (upper n next) (after (8 * words + 6) more) ≡ Some p = rw ext at e in
-          then_some (upper n next) (after (8 * words + 6) more) p e'
-          (λ tail is t. one_header protocol next words more tail p.0 p.1 ext (after_found (8 * words + 6) more tail is) (chain_found n next tail p t)))
+      | inl ext ↦ (let e' : option_and_then (upper n next) (past protocol words more) ≡ Some p = rw ext at e in
+          then_some (upper n next) (past protocol words more) p e'
+          (λ tail is t. (let q : (is_whole protocol more ≡ true) × (after (content_size protocol words) more ≡ Some tail) =
+          if_then (is_whole protocol more) (after (content_size protocol words) more) tail is in
+          one_header protocol next words more tail p.0 p.1 ext q.0 (after_found (content_size protocol words) more tail q.1) (chain_found n next tail p t))))
       | inr other ↦ (let found : ℕ × List ℕ = (protocol, next ∷ words ∷ more) in let e' : Some found ≡ Some p = rw other at e in
           no_more protocol (next ∷ words ∷ more) p (rw other e'))
     ]
@@ -190,85 +198,3 @@ ip_found wire (first ∷ rest) c is =
     (λ v f. branch (first / 16 == 6) _ _ (Some c) f
     (λ v f. version_6 (ipv6_found wire (first ∷ rest) c f first rest refl (eqb-true (first / 16) 6 v)))
     (λ v f. absurd (no_some c f)))
-
--- ---- TCP
-
--- options, or some of them
-pub options_found : (header : ℕ) (rest : List ℕ) → 20 ≤ header
-    → (options : List ℕ) × (rest ≡ options ++ drop (header - 20) rest) × HasOptions header options (drop (header - 20) rest)
-options_found header rest least =
-    elim (cases_lt (length rest) (header - 20)) [
-      | inl h ↦ (let none : drop (header - 20) rest ≡ [] = drop_of_length-le rest (omega arith) in
-          (rest, rw none (sym (append-nil rest)), inr (omega arith, none)))
-      | inr h ↦ (take (header - 20) rest, sym (take-append-drop (header - 20) rest), inl (omega (arith, length-take-le (header - 20) rest h)))
-    ]
-
-with_data : (header : ℕ) (options x y : List ℕ) → x ≡ y → HasOptions header options x → HasOptions header options y
-with_data header options x y e h = rw (← e) h
-
-pub tcp_found : (source target : Host) (size : ℕ) (p : List ℕ) (s : TcpSegment) → tcp source target size p ≡ Some s
-    → (t : Tcp) × (p ≡ tcp_bytes t s.payload) × HasOptions (4 * (t.offset / 16)) t.options s.payload
-    × (s ≡ said source target t s.payload (size - 4 * (t.offset / 16)))
-unfolding tcp
-tcp_found source target size (a ∷ b ∷ c ∷ d ∷ e ∷ f ∷ g ∷ h ∷ i ∷ j ∷ k ∷ l ∷ m ∷ n ∷ o ∷ p ∷ q ∷ r ∷ u ∷ v ∷ rest) s is =
-    let header : ℕ = 4 * (m / 16) in
-    let data' : List ℕ = drop (header - 20) rest in
-    let bare : Tcp = record {
-      s0 = a;
-      s1 = b;
-      d0 = c;
-      d1 = d;
-      n0 = e;
-      n1 = f;
-      n2 = g;
-      n3 = h;
-      a0 = i;
-      a1 = j;
-      a2 = k;
-      a3 = l;
-      offset = m;
-      bits = n;
-      w0 = o;
-      w1 = p;
-      k0 = q;
-      k1 = r;
-      u0 = u;
-      u1 = v;
-      options = [];
-    } in
-    let w : (nat_lt (m / 16) 5 ≡ false) × (Some (said source target bare data' (size - header)) ≡ Some s) =
-    if_none (nat_lt (m / 16) 5) (Some (said source target bare data' (size - header))) s is in
-    let same : said source target bare data' (size - header) ≡ s = some_is (said source target bare data' (size - header)) s w.1 in
-    let held : data' ≡ s.payload = ap (λ (x : TcpSegment). x.payload) same in
-    let least : 5 ≤ m / 16 = ltb-false (m / 16) 5 w.0 in
-    let x : (options : List ℕ) × (rest ≡ options ++ data') × HasOptions header options data' = options_found header rest (omega arith) in (
-      record bare { options = x.0 },
-      ap (λ (y : List ℕ). a ∷ b ∷ c ∷ d ∷ e ∷ f ∷ g ∷ h ∷ i ∷ j ∷ k ∷ l ∷ m ∷ n ∷ o ∷ p ∷ q ∷ r ∷ u ∷ v ∷ y) (x.1 ∙ ap (λ (y : List ℕ). x.0 ++ y) held),
-      with_data header x.0 data' s.payload held x.2,
-      sym same ∙ ap (λ (y : List ℕ). said source target bare y (size - header)) held,
-    )
-tcp_found source target size _ s is = absurd (no_some s is)
-
-pub segment_in_found : (c : Contents) (s : TcpSegment) → segment_in c ≡ Some s → IsTcpSegment c s
-segment_in_found c s is =
-    branch (c.protocol == 6) _ _ (Some s) is
-    (λ six f. (let x : (t : Tcp) × (c.payload ≡ tcp_bytes t s.payload) × HasOptions (4 * (t.offset / 16)) t.options s.payload
-    × (s ≡ said c.source c.target t s.payload (c.size - 4 * (t.offset / 16))) = tcp_found c.source c.target c.size c.payload s f in
-    record { t = x.0; protocol = eqb-true c.protocol 6 six; is = x.1; options = x.2; says = x.3 }))
-    (λ other f. absurd (no_some s f))
-
--- ---- all
-
-pub carried_found : (link : ℕ) (bytes : List ℕ) (wire : ℕ) (c : Contents) → carried link bytes wire ≡ Some c → IsCarriedBy link bytes wire c
-carried_found link bytes wire c is =
-    then_some (ip_after wire bytes) (packet_in link bytes) c is
-    (λ packet found reads. record {
-      packet = packet;
-      has_packet = packet_found link bytes packet found;
-      has_contents = ip_found (wire - (length bytes - length packet)) packet c reads;
-    })
-
-pub segment_found : (link : ℕ) (bytes : List ℕ) (wire : ℕ) (s : TcpSegment) → segment_of link bytes wire ≡ Some s → IsSegmentOf link bytes wire s
-segment_found link bytes wire s is =
-    then_some segment_in (carried link bytes wire) s is
-    (λ c has says. record { contents = c; carried_by = carried_found link bytes wire c has; has_segment = segment_in_found c s says })

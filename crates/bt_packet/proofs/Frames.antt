@@ -3,11 +3,13 @@ use Rattle.std.proofs.Common.{◌≡◌, ℕ, zero, suc, ◌+◌, ◌-◌, ◌*�
 use Rattle.std.proofs.Common.{option_and_then, option_map, ap, sym, ◌∙◌, refl, arith, le-leb, le-ltb, length-append, append_assoc, ne_eqb, eq-eqb, take_all}
 use Rattle.std.proofs.lemmas.List.{drop-drop}
 use Rattle.std.proofs.Math.Seq.{drop-append_seam, take-append_seam}
-use Rattle.bt_packet.proofs.Types.{after_ip}
-use Rattle.bt_packet.proofs.Extensions.{upper_above, upper_next}
+use Rattle.bt_packet.proofs.Types.{after_network}
+use Rattle.bt_packet.proofs.Extensions.{upper_above, upper_next, past_append}
+use Rattle.bt_packet.proofs.Tunnels.{unwrapped_plain}
 use Rattle.bt_packet.specs.Bytes.{word, after}
-use Rattle.bt_packet.specs.Links.{is_tag, after_type, typed, packet_in}
-use Rattle.bt_packet.specs.Ip.{ipv4, ipv4_payload, ipv4_carried, total_of, ipv6, ipv6_whole, ipv6_carried, ip, upper, is_extension, ip_after, carried}
+use Rattle.bt_packet.specs.Links.{is_tag, network, after_type, typed, packet_in}
+use Rattle.bt_packet.specs.Ip.{ipv4, ipv4_payload, ipv4_carried, total_of, ipv6, ipv6_whole, ipv6_carried, ip, upper, is_extension, ip_after, content_size}
+use Rattle.bt_packet.specs.Ip.{is_wrapped, innermost, outer, carried}
 use Rattle.bt_packet.specs.Tcp.{tcp, segment_in, segment_of}
 use Rattle.bt_packet.specs.Frames.{Tag, tagged, AreTags, Ipv4, ipv4_bytes, IsIpv4, ipv4_source, ipv4_target, ipv4_frame}
 use Rattle.bt_packet.specs.Frames.{Ipv6, ipv6_frame, Extension, first_of, extended, AreExtensions, ipv6_bytes, IsIpv6}
@@ -33,12 +35,12 @@ tags_read (t ∷ u ∷ tags) a b packet are =
     typed_tag t.t0 t.t1 t.c0 t.c1 u.t0 u.t1 (u.c0 ∷ u.c1 ∷ tagged tags (a ∷ b ∷ packet)) are.0 ∙ tags_read (u ∷ tags) a b packet are.1
 
 typed_ipv4 : (packet : List ℕ) → typed (0x08 ∷ 0x00 ∷ packet) ≡ Some packet
-unfolding typed
-typed_ipv4 packet = after_ip 0x0800 packet refl refl
+unfolding typed network
+typed_ipv4 packet = after_network 0x0800 packet refl
 
 typed_ipv6 : (packet : List ℕ) → typed (0x86 ∷ 0xdd ∷ packet) ≡ Some packet
-unfolding typed
-typed_ipv6 packet = after_ip 0x86dd packet refl refl
+unfolding typed network
+typed_ipv6 packet = after_network 0x86dd packet refl
 
 -- addresses and tags before a packet
 ethernet_read : (addresses : List ℕ) (tags : List Tag) (a b : ℕ) (packet : List ℕ) → length addresses ≡ 12 → AreTags tags
@@ -56,10 +58,10 @@ tcp_given source target size t rest e =
     let o : 4 * (t.offset / 16) - 20 ≡ length t.options = omega arith in
     rw (high, o, drop-append_seam t.options rest, e) refl
 
-tcp_pad : (t : Tcp) (a b : List ℕ) → tcp_bytes t (a ++ b) ≡ tcp_bytes t a ++ b
+pub tcp_pad : (t : Tcp) (a b : List ℕ) → tcp_bytes t (a ++ b) ≡ tcp_bytes t a ++ b
 tcp_pad t a b = rw (append_assoc t.options a b) refl
 
-length_tcp : (t : Tcp) (rest : List ℕ) → length (tcp_bytes t rest) ≡ 20 + length t.options + length rest
+pub length_tcp : (t : Tcp) (rest : List ℕ) → length (tcp_bytes t rest) ≡ 20 + length t.options + length rest
 length_tcp t rest = omega (arith, length-append t.options rest)
 
 -- ---- version 4
@@ -74,7 +76,7 @@ payload_given header total options rest size h t =
     let d : total - header ≡ size = omega arith in
     rw (a, b, d) (ap (option_map (take size)) c)
 
-total_given : (say wire k : ℕ) → say ≡ 20 + k → total_of say wire ≡ say
+pub total_given : (say wire k : ℕ) → say ≡ 20 + k → total_of say wire ≡ say
 total_given say wire k e = let n : (say == 0) ≡ false = ne_eqb say 0 (λ z. omega arith) in rw n refl
 
 ipv4_given : (h : Ipv4) (size wire : ℕ) (rest : List ℕ) → IsIpv4 h size
@@ -96,9 +98,12 @@ segment_given addresses tags h t rest payload size wire e are is six tcp_is cut 
     let bytes : List ℕ = ipv4_frame addresses tags h t rest in
     let packet : List ℕ = ipv4_bytes h (tcp_bytes t rest) in
     let p : packet_in 1 bytes ≡ Some packet = ethernet_read addresses tags 0x08 0x00 packet e are ∙ typed_ipv4 packet in
-    let c : carried 1 bytes wire ≡ Some (ipv4_carried h.protocol (ipv4_source h) (ipv4_target h) (20 + length t.options + size) (tcp_bytes t payload)) =
+    let o : outer 1 bytes wire ≡ Some (ipv4_carried h.protocol (ipv4_source h) (ipv4_target h) (20 + length t.options + size) (tcp_bytes t payload)) =
     ap (option_and_then (ip_after wire bytes)) p ∙ ipv4_given h (20 + length t.options + size) _ (tcp_bytes t rest) is
     ∙ ap (λ (x : List ℕ). Some (ipv4_carried h.protocol (ipv4_source h) (ipv4_target h) (20 + length t.options + size) x)) cut in
+    let plain : is_wrapped h.protocol ≡ false = rw six refl in
+    let c : carried 1 bytes wire ≡ Some (ipv4_carried h.protocol (ipv4_source h) (ipv4_target h) (20 + length t.options + size) (tcp_bytes t payload)) =
+    ap (option_and_then innermost) o ∙ unwrapped_plain _ _ plain in
     let left : 20 + length t.options + size - (20 + length t.options) ≡ size = omega arith in
     ap (option_and_then segment_in) c ∙ rw (six, tcp_given (ipv4_source h) (ipv4_target h) (20 + length t.options + size) t payload tcp_is, left) refl
 
@@ -126,14 +131,15 @@ extensions_read (suc n) last (e ∷ es) rest ends are h =
     let next : List ℕ = extended es last rest in
     let l : length next ≤ n = omega (arith, length-append e.content (extended es last rest)) in
     upper_next n e.kind (first_of es last) e.words (e.content ++ next) are.0
-    ∙ ap (option_and_then (upper n (first_of es last))) (after_append (8 * e.words + 6) e.content next are.1)
-    ∙ extensions_read n last es rest ends are.2 l
+    ∙ ap (option_and_then (upper n (first_of es last)))
+    (past_append e.kind e.words e.content next are.1 are.2 ∙ after_append (content_size e.kind e.words) e.content next are.1)
+    ∙ extensions_read n last es rest ends are.3 l
 
 extended_pad : (es : List Extension) (last : ℕ) (a b : List ℕ) → extended es last (a ++ b) ≡ extended es last a ++ b
 extended_pad [] last a b = refl
 extended_pad (e ∷ es) last a b = rw (extended_pad es last a b, append_assoc e.content (extended es last a) b) refl
 
-length_extended : (es : List Extension) (last : ℕ) (rest : List ℕ) → length rest ≤ length (extended es last rest)
+pub length_extended : (es : List Extension) (last : ℕ) (rest : List ℕ) → length rest ≤ length (extended es last rest)
 length_extended [] last rest = omega arith
 length_extended (e ∷ es) last rest =
     let l : length rest ≤ length (extended es last rest) = length_extended es last rest in omega (arith, length-append e.content (extended es last rest))
@@ -167,10 +173,12 @@ ipv6_read addresses tags h es t payload padding wire e are is exts tcp_is =
     ap (λ (x : List ℕ). take (length X) (extended es 6 x)) (tcp_pad t payload padding)
     ∙ ap (take (length X)) (extended_pad es 6 (tcp_bytes t payload) padding)
     ∙ take-append_seam X padding in
-    let c : carried 1 bytes wire ≡ Some (ipv6_carried (V6 h.source) (V6 h.target) (length X) X (6, tcp_bytes t payload)) =
+    let o : outer 1 bytes wire ≡ Some (ipv6_carried (V6 h.source) (V6 h.target) (length X) X (6, tcp_bytes t payload)) =
     ap (option_and_then (ip_after wire bytes)) p ∙ ipv6_given h (first_of es 6) (length X) _ rest is
     ∙ ap (ipv6_whole (first_of es 6) (V6 h.source) (V6 h.target) (length X)) cut
     ∙ ap (option_map (ipv6_carried (V6 h.source) (V6 h.target) (length X) X)) (extensions_read (length X) 6 es (tcp_bytes t payload) refl exts (omega arith)) in
+    let c : carried 1 bytes wire ≡ Some (ipv6_carried (V6 h.source) (V6 h.target) (length X) X (6, tcp_bytes t payload)) =
+    ap (option_and_then innermost) o ∙ unwrapped_plain _ _ refl in
     let left : length X - (length X - length (tcp_bytes t payload)) - (20 + length t.options) ≡ length payload = omega arith in
     ap (option_and_then segment_in) c ∙ tcp_given (V6 h.source) (V6 h.target) (length X - (length X - length (tcp_bytes t payload))) t payload tcp_is
     ∙ ap (λ (x : ℕ). Some (said (V6 h.source) (V6 h.target) t payload x)) left

@@ -1,10 +1,9 @@
--- What the definitions on headers of TCP and uTP give, case by case.
+-- What the definitions on headers of TCP give, case by case.
 use Rattle.std.proofs.Common.{◌≡◌, ℕ, ◌+◌, ◌-◌, ◌*◌, ◌/◌, ◌<◌, ◌≤◌, nat_lt, true, false, List, ◌∷◌, length, get_or, take, drop}
 use Rattle.std.proofs.Common.{Option, Some, None, refl, ap, ◌∙◌, arith, lt-ltb, le-ltb}
 use Rattle.std.proofs.lemmas.List.{take_rest, drop-drop, get_or-drop, length-drop}
 use Rattle.bt_packet.specs.Bytes.{word, long_word}
 use Rattle.bt_packet.specs.Tcp.{tcp, port_of, flags_of, acked_of, has_bit}
-use Rattle.bt_packet.specs.Utp.{utp, is_header}
 use Rattle.bt_packet.specs.declared.address.Host.{Host}
 use Rattle.bt_packet.specs.declared.tcp.Flags.{Flags}
 
@@ -75,32 +74,3 @@ tcp_read source target size p rest from to sequence number header left acked fla
     let tail : take (length rest - 8) (drop 8 rest) ≡ drop 20 p = take_rest rest 8 ∙ ap (drop 8) r ∙ drop-drop 8 12 p in
     let high' : 5 ≤ get_or p 12 0 / 16 = rw (← o) high in
     rw (tcp_whole source target size p enough high', f, t, s, a, n, g, b, d, l, h, o, tail) refl
-
-pub utp_short : (source target : Host) (p : List ℕ) → length p < 12 → utp source target p ≡ None
-unfolding utp
-utp_short source target (a ∷ b ∷ c ∷ d ∷ e ∷ f ∷ g ∷ h ∷ i ∷ j ∷ k ∷ l ∷ rest) short = absurd (omega arith)
-utp_short source target _ short = refl
-
-pub utp_none : (source target : Host) (p : List ℕ)
-    → 12 ≤ length p → is_header (get_or p 8 0) (get_or p 9 0) (take (length p - 12) (drop 12 p)) ≡ false → utp source target p ≡ None
-unfolding utp
-utp_none source target (a ∷ b ∷ c ∷ d ∷ e ∷ f ∷ g ∷ h ∷ i ∷ j ∷ k ∷ l ∷ rest) enough wrong =
-    let wrong' : is_header i j rest ≡ false = rw (take_rest (a ∷ b ∷ c ∷ d ∷ e ∷ f ∷ g ∷ h ∷ i ∷ j ∷ k ∷ l ∷ rest) 12) at wrong in rw wrong' refl
-utp_none source target _ enough wrong = absurd (omega arith)
-
-utp_whole : (source target : Host) (p : List ℕ) → 12 ≤ length p → is_header (get_or p 8 0) (get_or p 9 0) (take (length p - 12) (drop 12 p)) ≡ true
-    → utp source target p ≡ Some (record {
-      source = port_of source (get_or p 0 0) (get_or p 1 0);
-      target = port_of target (get_or p 2 0) (get_or p 3 0);
-      id = word (get_or p 10 0) (get_or p 11 0);
-    })
-unfolding utp
-utp_whole source target (a ∷ b ∷ c ∷ d ∷ e ∷ f ∷ g ∷ h ∷ i ∷ j ∷ k ∷ l ∷ rest) enough right =
-    let right' : is_header i j rest ≡ true = rw (take_rest (a ∷ b ∷ c ∷ d ∷ e ∷ f ∷ g ∷ h ∷ i ∷ j ∷ k ∷ l ∷ rest) 12) at right in rw right' refl
-utp_whole source target _ enough right = absurd (omega arith)
-
-pub utp_read : (source target : Host) (p : List ℕ) (from to id : ℕ)
-    → 12 ≤ length p → is_header (get_or p 8 0) (get_or p 9 0) (take (length p - 12) (drop 12 p)) ≡ true
-    → from ≡ word (get_or p 0 0) (get_or p 1 0) → to ≡ word (get_or p 2 0) (get_or p 3 0) → id ≡ word (get_or p 10 0) (get_or p 11 0)
-    → Some (record { source = record { host = source; port = from }; target = record { host = target; port = to }; id = id }) ≡ utp source target p
-utp_read source target p from to id enough right f t i = rw (utp_whole source target p enough right, f, t, i) refl

@@ -4,8 +4,8 @@ use Rattle.bt_packet.specs.Ip.{Contents, carried}
 use Rattle.bt_packet.specs.Tcp.{TcpSegment, segment_of}
 use Rattle.bt_packet.specs.Segments.{IsCarriedBy, AreContentsTold, IsSegmentOf, IsTold}
 use Rattle.bt_packet.proofs.Found.{no_some}
-use Rattle.bt_packet.proofs.FoundIp.{carried_found, segment_found}
-use Rattle.bt_packet.proofs.Read.{carried_read, segment_read}
+use Rattle.bt_packet.proofs.FoundTcp.{carried_found, segment_found}
+use Rattle.bt_packet.proofs.ReadAll.{carried_read, segment_read}
 
 pub told : (link : ℕ) (bytes : List ℕ) (wire : ℕ) (o : Option TcpSegment) → o ≡ segment_of link bytes wire → IsTold link bytes wire o
 told link bytes wire (Some s) e = segment_found link bytes wire s (sym e)

@@ -3,7 +3,7 @@ use Rattle.std.proofs.Common.{◌≡◌, ℕ, ◌-◌, ◌<◌, ◌≤◌, true,
 use Rattle.std.proofs.Common.{Some, None, option_and_then, ap, sym, ◌∙◌, refl, arith}
 use Rattle.std.proofs.lemmas.List.{take_rest, length-drop}
 use Rattle.bt_packet.specs.Bytes.{word, after}
-use Rattle.bt_packet.specs.Links.{is_tag, is_ip, after_type, typed, cooked}
+use Rattle.bt_packet.specs.Links.{is_tag, network, after_type, typed, cooked}
 
 -- what follows n bytes is shorter
 pub shorter : (bytes : List ℕ) (n : ℕ) → 0 < n → n ≤ length bytes → length (take (length bytes - n) (drop n bytes)) < length bytes
@@ -28,23 +28,14 @@ cut_tag type (a ∷ b ∷ []) tag h = rw tag refl
 cut_tag type (a ∷ []) tag h = rw tag refl
 cut_tag type [] tag h = rw tag refl
 
--- a packet
-pub after_ip : (type : ℕ) (bytes : List ℕ) → is_tag type ≡ false → is_ip type ≡ true → after_type type bytes ≡ Some bytes
-unfolding after_type
-after_ip type (a ∷ b ∷ c ∷ d ∷ rest) tag ip = rw tag (rw ip refl)
-after_ip type (a ∷ b ∷ c ∷ []) tag ip = rw tag (rw ip refl)
-after_ip type (a ∷ b ∷ []) tag ip = rw tag (rw ip refl)
-after_ip type (a ∷ []) tag ip = rw tag (rw ip refl)
-after_ip type [] tag ip = rw tag (rw ip refl)
-
 -- another type
-pub after_other : (type : ℕ) (bytes : List ℕ) → is_tag type ≡ false → is_ip type ≡ false → after_type type bytes ≡ None
+pub after_network : (type : ℕ) (bytes : List ℕ) → is_tag type ≡ false → after_type type bytes ≡ network type bytes
 unfolding after_type
-after_other type (a ∷ b ∷ c ∷ d ∷ rest) tag ip = rw tag (rw ip refl)
-after_other type (a ∷ b ∷ c ∷ []) tag ip = rw tag (rw ip refl)
-after_other type (a ∷ b ∷ []) tag ip = rw tag (rw ip refl)
-after_other type (a ∷ []) tag ip = rw tag (rw ip refl)
-after_other type [] tag ip = rw tag (rw ip refl)
+after_network type (a ∷ b ∷ c ∷ d ∷ rest) tag = rw tag refl
+after_network type (a ∷ b ∷ c ∷ []) tag = rw tag refl
+after_network type (a ∷ b ∷ []) tag = rw tag refl
+after_network type (a ∷ []) tag = rw tag refl
+after_network type [] tag = rw tag refl
 
 pub typed_whole : (bytes : List ℕ) (type : ℕ) → 2 ≤ length bytes → type ≡ word (get_or bytes 0 0) (get_or bytes 1 0)
     → typed bytes ≡ after_type type (take (length bytes - 2) (drop 2 bytes))

@@ -1,14 +1,10 @@
 -- Addresses as text.
-use Rattle.std.specs.Prelude.{ℕ, List, ◌++◌, codes, decimal, flat_map}
+use Rattle.std.specs.Prelude.{ℕ, List, ◌++◌, codes, decimal}
 use Rattle.std.specs.Net.Addr.{segments_of}
-use Rattle.std.specs.Net.Text.{hex, ipv4_text, ipv6_text}
+use Rattle.std.specs.Net.Text.{ipv4_text, ipv6_text}
 use Rattle.bt_packet.specs.declared.address.Host.{Host}
 use Rattle.bt_packet.specs.declared.address.Host.TheVariants.{V4, V6}
 use Rattle.bt_packet.specs.declared.address.Address.{Address}
-
--- groups after the first one, each after a colon
-abbrev pub later_text : List ℕ → List ℕ
-later_text groups = flat_map (λ n. codes ":" ++ hex n) groups
 
 -- An IPv6 address is written as RFC 5952 says, in brackets (RFC 3986 3.2.2): eight groups of hex digits in lower case without leading
 -- zeros, with colons between them; `::` in place of the longest run of two or more groups that are 0, of equal runs the first; an

@@ -1,8 +1,8 @@
 -- Frames as their standards write them: by what stands after what.
 use Rattle.std.specs.Prelude.{◌≡◌, ℕ, ◌+◌, ◌*◌, ◌/◌, ◌%◌, ◌==◌, true, false, List, [], ◌∷◌, ◌++◌, length, Some, ⊤}
 use Rattle.bt_packet.specs.Bytes.{word, long_word}
-use Rattle.bt_packet.specs.Links.{is_tag}
-use Rattle.bt_packet.specs.Ip.{is_fragment, is_extension}
+use Rattle.bt_packet.specs.Links.{is_tag, is_bottom, is_gre, gre_fields}
+use Rattle.bt_packet.specs.Ip.{is_fragment, is_extension, content_size, is_whole}
 use Rattle.bt_packet.specs.Tcp.{TcpSegment, port_of, acked_of, flags_of, has_bit, segment_of}
 use Rattle.bt_packet.specs.declared.address.Host.{Host}
 use Rattle.bt_packet.specs.declared.address.Host.TheVariants.{V4, V6}
@@ -24,6 +24,25 @@ tagged (t ∷ tags) rest = t.t0 ∷ t.t1 ∷ t.c0 ∷ t.c1 ∷ tagged tags rest
 abbrev pub AreTags : List Tag → Type 0
 AreTags [] = ⊤
 AreTags (t ∷ tags) = (is_tag (word t.t0 t.t1) ≡ true) × AreTags tags
+
+-- ---- RFC 3032 2.1
+
+-- an entry of a label stack: 20 bits of a label, 3 of its class, the bit S, and a time to live
+pub record Label : Type 0 where
+  pub a : ℕ
+  pub b : ℕ
+  pub bits : ℕ
+  pub time_to_live : ℕ
+
+-- entries in a row, and what follows them
+abbrev pub stacked : List Label → List ℕ → List ℕ
+stacked [] rest = rest
+stacked (l ∷ ls) rest = l.a ∷ l.b ∷ l.bits ∷ l.time_to_live ∷ stacked ls rest
+
+-- They stand above another one: none has S.
+abbrev pub AreAbove : List Label → Type 0
+AreAbove [] = ⊤
+AreAbove (l ∷ ls) = (is_bottom l.bits ≡ false) × AreAbove ls
 
 -- ---- RFC 791 3.1
 
@@ -76,7 +95,7 @@ pub record Ipv6 : Type 0 where
   pub source : List ℕ
   pub target : List ℕ
 
--- an extension header of this type, with its length in 8 bytes
+-- an extension header of this type: its length, and what it says after the type of the next one and the length
 pub record Extension : Type 0 where
   pub kind : ℕ
   pub words : ℕ
@@ -93,7 +112,8 @@ extended (e ∷ es) last rest = first_of es last ∷ e.words ∷ (e.content ++ e
 
 abbrev pub AreExtensions : List Extension → Type 0
 AreExtensions [] = ⊤
-AreExtensions (e ∷ es) = (is_extension e.kind ≡ true) × (length e.content ≡ 8 * e.words + 6) × AreExtensions es
+AreExtensions (e ∷ es) =
+    (is_extension e.kind ≡ true) × (length e.content ≡ content_size e.kind e.words) × (is_whole e.kind e.content ≡ true) × AreExtensions es
 
 abbrev pub ipv6_bytes : Ipv6 → ℕ → List ℕ → List ℕ
 ipv6_bytes h next rest = h.first ∷ h.class ∷ h.f0 ∷ h.f1 ∷ h.l0 ∷ h.l1 ∷ next ∷ h.limit ∷ (h.source ++ (h.target ++ rest))
@@ -185,3 +205,33 @@ Ipv6IsRead =
     (addresses : List ℕ) (tags : List Tag) (h : Ipv6) (es : List Extension) (t : Tcp) (payload padding : List ℕ) (wire : ℕ)
     → length addresses ≡ 12 → AreTags tags → IsIpv6 h (length (extended es 6 (tcp_bytes t payload))) → AreExtensions es → IsTcp t
     → segment_of 1 (ipv6_frame addresses tags h es t (payload ++ padding)) wire ≡ Some (said (V6 h.source) (V6 h.target) t payload (length payload))
+
+-- Addresses, tags, a type of MPLS, a label stack, and a packet of IPv4: it is read as its segment.
+abbrev pub MplsIsRead : Type 0
+MplsIsRead =
+    (addresses : List ℕ) (tags : List Tag) (above : List Label) (last : Label) (h : Ipv4) (t : Tcp) (payload padding : List ℕ) (wire : ℕ)
+    → length addresses ≡ 12 → AreTags tags → AreAbove above → is_bottom last.bits ≡ true → IsIpv4 h (length (tcp_bytes t payload)) → h.protocol ≡ 6 → IsTcp t
+    → segment_of 1 (addresses ++ tagged tags (0x88 ∷ 0x47 ∷ stacked above (stacked (last ∷ []) (ipv4_bytes h (tcp_bytes t (payload ++ padding)))))) wire
+    ≡ Some (said (ipv4_source h) (ipv4_target h) t payload (length payload))
+
+-- Addresses, tags, a type of PPP over Ethernet, a session and a length, the protocol 0x0021, and a packet of IPv4 (RFC 2516 4, RFC 1332 2).
+abbrev pub PppoeIsRead : Type 0
+PppoeIsRead =
+    (addresses : List ℕ) (tags : List Tag) (s0 s1 l0 l1 : ℕ) (h : Ipv4) (t : Tcp) (payload padding : List ℕ) (wire : ℕ)
+    → length addresses ≡ 12 → AreTags tags → IsIpv4 h (length (tcp_bytes t payload)) → h.protocol ≡ 6 → IsTcp t
+    → segment_of 1 (addresses ++ tagged tags (0x88 ∷ 0x64 ∷ 0x11 ∷ 0x00 ∷ s0 ∷ s1 ∷ l0 ∷ l1 ∷ 0x00 ∷ 0x21 ∷ ipv4_bytes h (tcp_bytes t (payload ++ padding))))
+    wire ≡ Some (said (ipv4_source h) (ipv4_target h) t payload (length payload))
+
+-- a header of GRE with the type of IPv4, and what follows it (RFC 2784 2.1)
+abbrev pub gre_bytes : ℕ → ℕ → List ℕ → List ℕ → List ℕ
+gre_bytes first second fields rest = first ∷ second ∷ 0x08 ∷ 0x00 ∷ (fields ++ rest)
+
+-- A packet of IPv4 that carries a header of GRE and another packet of IPv4: that one's segment is read.
+abbrev pub GreIsRead : Type 0
+GreIsRead =
+    (addresses : List ℕ) (tags : List Tag) (o h : Ipv4) (first second : ℕ) (fields : List ℕ) (t : Tcp) (payload padding : List ℕ) (wire : ℕ)
+    → length addresses ≡ 12 → AreTags tags → IsIpv4 o (length (gre_bytes first second fields (ipv4_bytes h (tcp_bytes t payload)))) → o.protocol ≡ 47
+    → is_gre first second ≡ true → length fields ≡ gre_fields first → IsIpv4 h (length (tcp_bytes t payload)) → h.protocol ≡ 6 → IsTcp t
+    → segment_of 1
+    (addresses ++ tagged tags (0x08 ∷ 0x00 ∷ ipv4_bytes o (gre_bytes first second fields (ipv4_bytes h (tcp_bytes t payload)) ++ padding))) wire
+    ≡ Some (said (ipv4_source h) (ipv4_target h) t payload (length payload))

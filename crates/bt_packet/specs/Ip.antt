@@ -1,9 +1,9 @@
 -- Packets of IP, as far as they say what they carry.
-use Rattle.std.specs.Prelude.{ℕ, ◌+◌, ◌-◌, ◌*◌, ◌/◌, ◌%◌, ◌||◌, ◌==◌, nat_lt, bit_and, Bool, List, [], ◌∷◌, length, take, drop, suc}
+use Rattle.std.specs.Prelude.{ℕ, ◌+◌, ◌-◌, ◌*◌, ◌/◌, ◌%◌, ◌||◌, ◌==◌, nat_lt, bit_and, not, Bool, true, false, List, [], ◌∷◌, length, take, drop, zero, suc}
 use Rattle.std.specs.Prelude.{Option, Some, None, option_map, option_and_then, if◌then◌else◌}
 use Rattle.std.specs.Borrow.{Bor}
 use Rattle.bt_packet.specs.Bytes.{word, after}
-use Rattle.bt_packet.specs.Links.{packet_in}
+use Rattle.bt_packet.specs.Links.{gre, packet_in}
 use Rattle.bt_packet.specs.declared.address.Host.{Host}
 use Rattle.bt_packet.specs.declared.address.Host.TheVariants.{V4, V6}
 use Rattle.bt_packet.specs.declared.ip.Carried.{Carried}
@@ -52,15 +52,33 @@ ipv4 wire bytes = None
 
 -- ---- RFC 8200
 
--- hop-by-hop options, routing and destination options (RFC 8200 4.1)
+-- hop-by-hop options, routing, a fragment, authentication and destination options (RFC 8200 4.1)
 abbrev pub is_extension : ℕ → Bool
-is_extension protocol = (protocol == 0) || ((protocol == 43) || (protocol == 60))
+is_extension protocol = (protocol == 0) || ((protocol == 43) || ((protocol == 44) || ((protocol == 51) || (protocol == 60))))
 
--- The first protocol that is no extension, and what follows the extension headers. Each has the next protocol, its length in 8 bytes (the first
--- 8 aren't counted) and what else it says (RFC 8200 4.3). There are at most n.
+-- The size of what follows the first two bytes of an extension header: in all it has 8 bytes if it is one of a fragment (RFC 8200 4.5), the
+-- second byte and 2 times 4 bytes if it is one of authentication (RFC 4302 2.2), else the second byte and 1 times 8 bytes (RFC 8200 4.3).
+abbrev pub content_size : ℕ → ℕ → ℕ
+content_size protocol words = if protocol == 44 then 6 else if protocol == 51 then 4 * words + 6 else 8 * words + 6
+
+-- no offset, and nothing after it: it is the whole packet (RFC 6946 2)
+unfoldable pub is_atomic : List ℕ → Bool
+is_atomic (a ∷ b ∷ rest) = bit_and (word a b) 0xfff9 == 0
+is_atomic bytes = false
+
+-- what an extension header says after its first two bytes isn't that a part follows
+abbrev pub is_whole : ℕ → List ℕ → Bool
+is_whole protocol content = not (protocol == 44) || is_atomic content
+
+-- what follows an extension header, after whose first two bytes this comes
+abbrev pub past : ℕ → ℕ → List ℕ → Option (List ℕ)
+past protocol words rest = if is_whole protocol rest then after (content_size protocol words) rest else None
+
+-- The first protocol that is no extension, and what follows the extension headers. Each begins with the next protocol and its length
+-- (RFC 8200 4.3). There are at most n.
 unfoldable pub upper : ℕ → ℕ → List ℕ → Option (ℕ × List ℕ)
 upper (suc n) protocol (next ∷ words ∷ rest) =
-    if is_extension protocol then option_and_then (upper n next) (after (8 * words + 6) rest) else Some (protocol, next ∷ words ∷ rest)
+    if is_extension protocol then option_and_then (upper n next) (past protocol words rest) else Some (protocol, next ∷ words ∷ rest)
 upper n protocol bytes = if is_extension protocol then None else Some (protocol, bytes)
 
 abbrev pub pair_of : ℕ × Bor (List ℕ) → ℕ × List ℕ
@@ -94,5 +112,40 @@ ip wire [] = None
 abbrev pub ip_after : ℕ → List ℕ → List ℕ → Option Contents
 ip_after wire bytes packet = ip (wire - (length bytes - length packet)) packet
 
+-- ---- packets in packets
+
+-- Authentication: the next protocol, a length, and what else it says (RFC 4302 2).
+unfoldable pub authenticated : Contents → List ℕ → Option Contents
+authenticated c (next ∷ words ∷ rest) = option_map (ipv4_carried next c.source c.target (c.size - (4 * words + 8))) (after (4 * words + 6) rest)
+authenticated c bytes = None
+
+-- IPv4 in IP (RFC 2003) and IPv6 in IP (RFC 4213 3)
+abbrev pub is_ip_in_ip : ℕ → Bool
+is_ip_in_ip protocol = (protocol == 4) || (protocol == 41)
+
+-- the packet that a payload of this protocol carries: all of it, or after a header of GRE (RFC 2784)
+abbrev pub tunnelled : ℕ → List ℕ → Option (List ℕ)
+tunnelled protocol payload = if protocol == 47 then gre payload else Some payload
+
+abbrev pub is_wrapped : ℕ → Bool
+is_wrapped protocol = is_ip_in_ip protocol || ((protocol == 47) || (protocol == 51))
+
+-- what is in the contents
+abbrev pub unwrap : Contents → Option Contents
+unwrap c = if c.protocol == 51 then authenticated c c.payload else option_and_then (ip_after c.size c.payload) (tunnelled c.protocol c.payload)
+
+-- the first contents that aren't wrapped, at most n times
+unfoldable pub unwrapped : ℕ → Contents → Option Contents
+unwrapped zero c = if is_wrapped c.protocol then None else Some c
+unwrapped (suc n) c = if is_wrapped c.protocol then option_and_then (unwrapped n) (unwrap c) else Some c
+
+abbrev pub innermost : Contents → Option Contents
+innermost c = unwrapped (length c.payload) c
+
+-- what the packet of a frame carries, perhaps another packet
+abbrev pub outer : ℕ → List ℕ → ℕ → Option Contents
+outer link bytes wire = option_and_then (ip_after wire bytes) (packet_in link bytes)
+
+-- what the innermost packet of a frame carries
 abbrev pub carried : ℕ → List ℕ → ℕ → Option Contents
-carried link bytes wire = option_and_then (ip_after wire bytes) (packet_in link bytes)
+carried link bytes wire = option_and_then innermost (outer link bytes wire)

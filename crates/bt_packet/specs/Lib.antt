@@ -6,3 +6,5 @@ pub mod Utp
 pub mod Frames
 pub mod Addresses
 pub mod Segments
+pub mod Unread
+pub mod Datagrams

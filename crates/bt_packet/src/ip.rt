@@ -1,12 +1,14 @@
 //! Packets of IP (RFC 791, RFC 8200).
 ghost use Rattle.std.specs.Prelude.{◌≡◌, ◌≤◌, ◌^◌, ◌<◌, OnSome, length, option_map};
 ghost use Rattle.bt_packet.specs.Ip.{contents, ip as ip_of, carried, ipv4 as ipv4_of, ipv4_payload as ipv4_payload_of};
-ghost use Rattle.bt_packet.specs.Ip.{ipv6 as ipv6_of, is_extension as is_extension_of, is_fragment as is_fragment_of, total_of, upper as upper_of, pair_of};
+ghost use Rattle.bt_packet.specs.Ip.{content_size as content_size_of, ipv6 as ipv6_of, is_atomic as is_atomic_of, is_extension as is_extension_of};
+ghost use Rattle.bt_packet.specs.Ip.{is_fragment as is_fragment_of, outer as outer_of, past as past_of, total_of, upper as upper_of, pair_of};
 ghost use Rattle.bt_packet.specs.Segments.{AreContentsTold};
 
 use crate::address::Host;
 use crate::bytes::{after, front};
 use crate::link::packet_of;
+use crate::tunnel::{innermost, is_wrapped};
 
 /// What a packet of IP carries.
 #[derive(Clone, Copy)]
@@ -27,7 +29,7 @@ fn total(said: u16, wire: u64) -> u64
     if said == 0 { wire } else { u64::from(said) }
 }
 
-fn is_fragment(flags: u16) -> bool
+pub fn is_fragment(flags: u16) -> bool
     ensures { result ≡ is_fragment_of flags }
 {
     flags & 0x3fff > 0
@@ -75,7 +77,39 @@ fn ipv4(packet: &[u8], wire: u64) -> Option<Carried<'_>>
 fn is_extension(protocol: u8) -> bool
     ensures { result ≡ is_extension_of protocol }
 {
-    matches!(protocol, 0 | 43 | 60)
+    matches!(protocol, 0 | 43 | 44 | 51 | 60)
+}
+
+/// Returns the size of an extension header without its first two bytes.
+fn content_size(protocol: u8, words: u8) -> usize
+    ensures { result ≡ content_size_of protocol words }
+{
+    match protocol {
+        44 => 6,
+        51 => 4 * usize::from(words) + 6,
+        _ => 8 * usize::from(words) + 6,
+    }
+}
+
+/// Tells whether a fragment header, after its first two bytes, says that the packet is whole.
+#[tactic(auto, using(crate::proofs::Extensions::atomic_cut, crate::proofs::Extensions::atomic_is))]
+pub fn is_atomic(content: &[u8]) -> bool
+    ensures { result ≡ is_atomic_of content.now }
+{
+    let [a, b, ..] = content else {
+        return false;
+    };
+    u16::from_be_bytes([*a, *b]) & 0xfff9 == 0
+}
+
+/// Returns what follows an extension header, after whose first two bytes `rest` comes.
+fn past(protocol: u8, words: u8, rest: &[u8]) -> Option<&[u8]>
+    ensures { option_map (λ b. b.now) result ≡ past_of protocol words rest.now }
+{
+    if protocol == 44 && !is_atomic(rest) {
+        return None;
+    }
+    after(rest, content_size(protocol, words))
 }
 
 /// Returns the first protocol that is no extension, and what follows the extension headers.
@@ -88,7 +122,7 @@ fn upper(protocol: u8, bytes: &[u8]) -> Option<(u8, &[u8])>
         let [next, words, rest @ ..] = bytes else {
             return None;
         };
-        bytes = after(rest, 8 * usize::from(*words) + 6)?;
+        bytes = past(protocol, *words, rest)?;
         protocol = *next;
     }
     Some((protocol, bytes))
@@ -118,7 +152,8 @@ fn ipv6(packet: &[u8], wire: u64) -> Option<Carried<'_>>
 
 /// Returns what a packet carries, which is `wire` bytes long on the wire.
 #[tactic(auto, using(crate::proofs::Packets::ip_empty, crate::proofs::Packets::ip_four, crate::proofs::Packets::ip_six, crate::proofs::Packets::ip_other))]
-fn ip(packet: &[u8], wire: u64) -> Option<Carried<'_>>
+#[inline(always)]
+pub fn ip(packet: &[u8], wire: u64) -> Option<Carried<'_>>
     ensures { option_map contents result ≡ ip_of wire packet.now }
 {
     let [first, ..] = packet else {
@@ -131,14 +166,27 @@ fn ip(packet: &[u8], wire: u64) -> Option<Carried<'_>>
     }
 }
 
-/// Returns what a frame carries over IP, if it is no fragment.
+/// Returns what the first packet of IP in a frame carries.
+#[inline(always)]
+fn outer(link: u32, bytes: &[u8], wire: u32) -> Option<Carried<'_>>
+    ensures { option_map contents result ≡ outer_of link bytes.now wire }
+{
+    let packet = packet_of(link, bytes)?;
+    let before = bytes.len().saturating_sub(packet.len());
+    ip(packet, u64::from(wire).saturating_sub(before as u64))
+}
+
+/// Returns what a frame carries over IP, if it is no fragment. Of a packet in another one it is what the inner one carries.
 ///
 /// `link` is the frame's link type, `bytes` what was captured of it, and `wire` its length on the wire.
 pub fn carried_of(link: u32, bytes: &[u8], wire: u32) -> Option<Carried<'_>>
     ensures told { AreContentsTold link bytes.now wire (option_map contents result) }
     ensures value { option_map contents result ≡ carried link bytes.now wire }
 {
-    let packet = packet_of(link, bytes)?;
-    let before = bytes.len().saturating_sub(packet.len());
-    ip(packet, u64::from(wire).saturating_sub(before as u64))
+    let outer = outer(link, bytes, wire)?;
+    if is_wrapped(outer.protocol) {
+        innermost(outer)
+    } else {
+        Some(outer)
+    }
 }

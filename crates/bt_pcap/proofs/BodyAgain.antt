@@ -13,15 +13,17 @@ use Rattle.bt_pcap.specs.Times.{nanos_of}
 use Rattle.bt_pcap.specs.Formats.{Captured}
 use Rattle.bt_pcap.specs.Packets.{packet_at, packet_on, simple_on, snapped}
 use Rattle.bt_pcap.specs.Items.{IsInterface, IsEnhanced, IsObsolete, IsSimple, Says, describes, enhanced, obsolete, simple, passed_over}
-use Rattle.bt_pcap.specs.Reading.{word, read_stamped, read_packet, read_interface, read_interfaces, least, most}
+use Rattle.bt_pcap.specs.Reading.{word, lacks, read_stamped, read_packet, read_interface, read_interfaces, least, most}
 use Rattle.bt_pcap.proofs.NumberLaws.{number32-u32, drop-u32, length-u32, number16-u16, drop-u16, length-u16, drop-front, word-take}
 use Rattle.bt_pcap.proofs.OptionValues.{resolution_again, offset_again}
 use Rattle.bt_pcap.proofs.Readings.{ne_false}
 use Rattle.bt_pcap.proofs.BodyLaws.{stamped_again, packet_of_other, interfaces_of_other}
+use Rattle.bt_pcap.proofs.Described.{on_2, on_3, on_6}
 
 -- a block of that type says this
 pub record Again (order : Order) (known : List Interface) (kind : ℕ) (body : List ℕ) (p : Option Captured) (after : List Interface) : Type 0 where
   pub packet_is : read_packet order known kind body ≡ p
+  pub told : lacks kind (read_packet order known kind body) ≡ false
   pub after_is : read_interfaces order known kind body ≡ after
   pub enough : least kind ≤ length body
   pub within : length body ≤ most kind
@@ -57,7 +59,7 @@ again_1 : (order : Order) (known : List Interface) (body : List ℕ) (p : Option
 unfolding read_packet read_interfaces least
 again_1 order known body p after i s ep ea within =
     let r = interface_again order i body s in
-    record { packet_is = sym ep; after_is = ap (noted known) r.0 ∙ sym ea; enough = r.1; within = within }
+    record { packet_is = sym ep; told = refl; after_is = ap (noted known) r.0 ∙ sym ea; enough = r.1; within = within }
 
 again_6 : (order : Order) (known : List Interface) (body : List ℕ) (p : Option Captured) (after : List Interface) → IsEnhanced order known p body
     → after ≡ known → Again order known 6 body p after
@@ -70,6 +72,7 @@ again_6 order known body p after s ea =
     record {
       packet_is = ap (λ (k : ℕ). read_stamped order known k (drop 4 body)) n ∙ (ap (read_stamped order known s.number) d
           ∙ r.0);
+      told = on_6 order known body (omega (arith, n, s.described));
       after_is = sym ea;
       enough = omega (arith, size, r.1);
       within = omega (arith, size, r.2);
@@ -87,6 +90,7 @@ again_2 order known body p after s ea =
     let size : length body ≡ 4 + length s.rest = ap (length {A = ℕ}) s.whole ∙ omega (arith, length-u16 order s.number r1, length-u16 order s.drops s.rest) in
     record {
       packet_is = ap (λ (k : ℕ). read_stamped order known k (drop 2 (drop 2 body))) n ∙ (ap (read_stamped order known s.number) d2 ∙ r.0);
+      told = on_2 order known body (omega (arith, n, s.described));
       after_is = sym ea;
       enough = omega (arith, size, r.1);
       within = omega (arith, size, r.2);
@@ -102,6 +106,7 @@ again_3 order known body p after s ea =
     record {
       packet_is = ap (λ (k : ℕ). simple_on (slice_get known 0) (drop 4 body) k) n
           ∙ (ap (λ (x : List ℕ). simple_on (slice_get known 0) x s.original) d ∙ sym s.handed);
+      told = on_3 order known body s.described;
       after_is = sym ea;
       enough = omega (arith, size);
       within = omega (arith, size, s.octets_fit);
@@ -115,6 +120,13 @@ least_other kind n1 n2 n3 n6 =
     let c : eqb kind 3 ≡ false = ne_false kind 3 n3 in
     let d : eqb kind 6 ≡ false = ne_false kind 6 n6 in
     rw (a, b, c, d) refl
+
+pub other_lacks : (kind : ℕ) → kind ≢ 2 → kind ≢ 3 → kind ≢ 6 → lacks kind None ≡ false
+other_lacks kind n2 n3 n6 =
+    let b : eqb kind 2 ≡ false = ne_false kind 2 n2 in
+    let c : eqb kind 3 ≡ false = ne_false kind 3 n3 in
+    let d : eqb kind 6 ≡ false = ne_false kind 6 n6 in
+    rw (b, c, d) refl
 
 most_other : (kind : ℕ) → kind ≢ 2 → kind ≢ 3 → kind ≢ 6 → most kind ≡ 2 ^ 32 - 1
 unfolding most
@@ -140,6 +152,7 @@ says_again order known kind body p after (simple e s ea) fits =
     subst (λ (k : ℕ). Again order known k body p after) (sym e) (again_3 order known body p after s ea)
 says_again order known kind body p after (passed_over n1 n2 n3 n6 ns ep ea) fits = record {
   packet_is = packet_of_other order known kind body n2 n3 n6 ∙ sym ep;
+  told = ap (lacks kind) (packet_of_other order known kind body n2 n3 n6) ∙ other_lacks kind n2 n3 n6;
   after_is = interfaces_of_other order known kind body n1 ∙ sym ea;
   enough = omega (arith, least_other kind n1 n2 n3 n6);
   within = omega (arith, most_other kind n2 n3 n6);

@@ -8,10 +8,11 @@ use Rattle.bt_pcap.specs.Numbers.{u16, u32, number16, number32, AreBytes}
 use Rattle.bt_pcap.specs.Formats.{Captured}
 use Rattle.bt_pcap.specs.Packets.{packet_on}
 use Rattle.bt_pcap.specs.Items.{section_type, IsStamped, Says, describes, enhanced, obsolete, simple, passed_over}
-use Rattle.bt_pcap.specs.Reading.{word, read_stamped, read_packet, read_interface, read_interfaces, least, most}
+use Rattle.bt_pcap.specs.Reading.{word, lacks, read_stamped, read_packet, read_interface, read_interfaces, least, most}
 use Rattle.bt_pcap.proofs.NumberLaws.{AreBytes-take, AreBytes-drop, number32-lt, number32-u32, drop-u32, length-u32, split32, number16-lt, split16}
 use Rattle.bt_pcap.proofs.OptionValues.{resolution_sound, offset_sound}
 use Rattle.bt_pcap.proofs.Readings.{chosen, eq_true, eq_false, ne_false}
+use Rattle.bt_pcap.proofs.Described.{within_2, within_3, within_6}
 
 pub word-lt : (order : Order) (k : ℕ) (b : List ℕ) → AreBytes b → word order k b < 2 ^ 32
 word-lt order zero b f = number32-lt order b f
@@ -103,6 +104,9 @@ stamped_again order known number p b s =
 
 -- ---- read is as it is written
 
+Told : Order → List Interface → List ℕ → ℕ → Type 0
+Told order known body kind = lacks kind (read_packet order known kind body) ≡ false
+
 Sound : Order → List Interface → List ℕ → ℕ → Type 0
 Sound order known body kind = Says order known kind body (read_packet order known kind body) (read_interfaces order known kind body)
 
@@ -126,20 +130,21 @@ sound_1 order known body le f =
       offset = offset_sound order (take 1048576 (drop 4 b2)) fo;
     }) refl refl
 
-sound_6 : (order : Order) (known : List Interface) (body : List ℕ) → 20 ≤ length body → length body ≤ 16777236 → AreBytes body → Sound order known body 6
-unfolding Sound read_packet read_interfaces
-sound_6 order known body le most_fits f = enhanced refl (record {
+sound_6 : (order : Order) (known : List Interface) (body : List ℕ) → Told order known body 6 → 20 ≤ length body → length body ≤ 16777236 → AreBytes body → Sound order known body 6
+unfolding Sound Told read_packet read_interfaces
+sound_6 order known body told le most_fits f = enhanced refl (record {
   number = number32 order body;
   rest = drop 4 body;
   whole = split32 order body (omega arith) f;
   fits = number32-lt order body f;
+  described = within_6 order known body told;
   stamped = stamped_sound order known (number32 order body) (drop 4 body) (omega (arith, length-drop 4 body)) (omega (arith, length-drop 4 body))
       (AreBytes-drop 4 body f);
 }) refl
 
-sound_2 : (order : Order) (known : List Interface) (body : List ℕ) → 20 ≤ length body → length body ≤ 16777236 → AreBytes body → Sound order known body 2
-unfolding Sound read_packet read_interfaces
-sound_2 order known body le most_fits f =
+sound_2 : (order : Order) (known : List Interface) (body : List ℕ) → Told order known body 2 → 20 ≤ length body → length body ≤ 16777236 → AreBytes body → Sound order known body 2
+unfolding Sound Told read_packet read_interfaces
+sound_2 order known body told le most_fits f =
     let b1 = drop 2 body in
     let f1 = AreBytes-drop 2 body f in
     let l1 : 18 ≤ length b1 = omega (arith, length-drop 2 body) in
@@ -150,18 +155,20 @@ sound_2 order known body le most_fits f =
       rest = drop 2 b1;
       whole = split16 order body (omega arith) f ∙ ap (λ (x : List ℕ). u16 order (number16 order body) ++ x) (split16 order b1 (omega arith) f1);
       fits = number16-lt order body f;
+      described = within_2 order known body told;
       stamped = stamped_sound order known (number16 order body) (drop 2 b1) (omega (arith, length-drop 2 b1)) (omega (arith, length-drop 2 b1))
           (AreBytes-drop 2 b1 f1);
     }) refl
 
-sound_3 : (order : Order) (known : List Interface) (body : List ℕ) → 4 ≤ length body → length body ≤ 16777220 → AreBytes body → Sound order known body 3
-unfolding Sound read_packet read_interfaces
-sound_3 order known body le most_fits f = simple refl (record {
+sound_3 : (order : Order) (known : List Interface) (body : List ℕ) → Told order known body 3 → 4 ≤ length body → length body ≤ 16777220 → AreBytes body → Sound order known body 3
+unfolding Sound Told read_packet read_interfaces
+sound_3 order known body told le most_fits f = simple refl (record {
   original = number32 order body;
   octets = drop 4 body;
   whole = split32 order body le f;
   fits = number32-lt order body f;
   octets_fit = omega (arith, length-drop 4 body);
+  described = within_3 order known body told;
   handed = refl;
 }) refl
 
@@ -178,28 +185,28 @@ pub interfaces_of_other : (order : Order) (known : List Interface) (kind : ℕ) 
 unfolding read_interfaces
 interfaces_of_other order known kind body n = let a : eqb kind 1 ≡ false = ne_false kind 1 n in rw a refl
 
-eq_cases : (a b : ℕ) → (a ≡ b) ⊎ (a ≢ b)
+pub eq_cases : (a b : ℕ) → (a ≡ b) ⊎ (a ≢ b)
 eq_cases a b = elim (chosen (eqb a b) zero zero zero (elim (eqb a b) as (λ v. cond v zero zero ≡ zero) [ true ↦ refl | false ↦ refl ])) [
   | inl x ↦ inl (eq_true a b x.0)
   | inr x ↦ inr (eq_false a b x.0)
 ]
 
-least_at : (k kind n : ℕ) → kind ≡ k → least kind ≤ n → least k ≤ n
+pub least_at : (k kind n : ℕ) → kind ≡ k → least kind ≤ n → least k ≤ n
 least_at k kind n e h = subst (λ (x : ℕ). least x ≤ n) e h
 
 least_1 : (n : ℕ) → least 1 ≤ n → 8 ≤ n
 unfolding least
 least_1 n h = h
 
-least_2 : (n : ℕ) → least 2 ≤ n → 20 ≤ n
+pub least_2 : (n : ℕ) → least 2 ≤ n → 20 ≤ n
 unfolding least
 least_2 n h = h
 
-least_3 : (n : ℕ) → least 3 ≤ n → 4 ≤ n
+pub least_3 : (n : ℕ) → least 3 ≤ n → 4 ≤ n
 unfolding least
 least_3 n h = h
 
-least_6 : (n : ℕ) → least 6 ≤ n → 20 ≤ n
+pub least_6 : (n : ℕ) → least 6 ≤ n → 20 ≤ n
 unfolding least
 least_6 n h = h
 
@@ -219,20 +226,21 @@ unfolding most
 most_6 n h = h
 
 pub says_sound : (order : Order) (known : List Interface) (kind : ℕ) (body : List ℕ) → least kind ≤ length body → length body ≤ most kind
-    → kind ≢ section_type → AreBytes body
+    → kind ≢ section_type → AreBytes body → lacks kind (read_packet order known kind body) ≡ false
     → Says order known kind body (read_packet order known kind body) (read_interfaces order known kind body)
-unfolding Sound
-says_sound order known kind body le most_fits not_section f =
+unfolding Sound Told
+says_sound order known kind body le most_fits not_section f told =
+    let at : (k : ℕ) → kind ≡ k → Told order known body k = λ k e. subst (λ (x : ℕ). lacks x (read_packet order known x body) ≡ false) e told in
     elim (eq_cases kind 1) [
       | inl e ↦ subst (Sound order known body) (sym e) (sound_1 order known body (least_1 (length body) (least_at 1 kind (length body) e le)) f)
       | inr n1 ↦ elim (eq_cases kind 2) [
-        | inl e ↦ subst (Sound order known body) (sym e) (sound_2 order known body (least_2 (length body) (least_at 2 kind (length body) e le))
+        | inl e ↦ subst (Sound order known body) (sym e) (sound_2 order known body (at 2 e) (least_2 (length body) (least_at 2 kind (length body) e le))
             (most_2 (length body) (most_at 2 kind (length body) e most_fits)) f)
         | inr n2 ↦ elim (eq_cases kind 3) [
-          | inl e ↦ subst (Sound order known body) (sym e) (sound_3 order known body (least_3 (length body) (least_at 3 kind (length body) e le))
+          | inl e ↦ subst (Sound order known body) (sym e) (sound_3 order known body (at 3 e) (least_3 (length body) (least_at 3 kind (length body) e le))
               (most_3 (length body) (most_at 3 kind (length body) e most_fits)) f)
           | inr n3 ↦ elim (eq_cases kind 6) [
-            | inl e ↦ subst (Sound order known body) (sym e) (sound_6 order known body (least_6 (length body) (least_at 6 kind (length body) e le))
+            | inl e ↦ subst (Sound order known body) (sym e) (sound_6 order known body (at 6 e) (least_6 (length body) (least_at 6 kind (length body) e le))
                 (most_6 (length body) (most_at 6 kind (length body) e most_fits)) f)
             | inr n6 ↦ passed_over n1 n2 n3 n6 not_section (packet_of_other order known kind body n2 n3 n6) (interfaces_of_other order known kind body n1)
           ]

@@ -12,11 +12,12 @@ use Rattle.bt_pcap.specs.Formats.{Format, Unknown, Pcap, Pcapng, Captured}
 use Rattle.bt_pcap.specs.Packets.{recorded}
 use Rattle.bt_pcap.specs.Items.{section_type, IsHeader, IsBlock, IsSection, Says, describes, enhanced, obsolete, simple, passed_over, IsFirst, header}
 use Rattle.bt_pcap.specs.Items.{section, IsNext, new_section, same_section, IsRecorded, IsItem}
-use Rattle.bt_pcap.specs.Reading.{Item, word, front, record_size, read_record, read_packet, read_interfaces, body_of, read_section, read_block, read_first}
+use Rattle.bt_pcap.specs.Reading.{Item, word, lacks, front, record_size, read_record, read_packet, read_interfaces, body_of, read_section, read_block, read_first}
 use Rattle.bt_pcap.specs.Reading.{next_item}
 use Rattle.bt_pcap.proofs.NumberLaws.{number32-u32, drop-u32, length-u32, drop-front}
 use Rattle.bt_pcap.proofs.Readings.{header_made, record_made, magic_of, section_made, block_section, block_other, other_made}
 use Rattle.bt_pcap.proofs.Firsts.{first_section, first_header}
+use Rattle.bt_pcap.proofs.Trailers.{alike, trailer_at}
 use Rattle.bt_pcap.proofs.SameFront.{same_item, recorded_same}
 use Rattle.bt_pcap.proofs.BodyLaws.{four_again}
 use Rattle.bt_pcap.proofs.BodyAgain.{says_again}
@@ -118,6 +119,8 @@ section_again other w s =
       kind = λ order. ap (number32 order) b.whole ∙ section_number order other r1;
       least_size = omega (arith, size, long);
       read = section_made other w magic (omega (arith, n, long)) (omega (arith, n, size))
+          (alike other (word other 1 w) w (λ within. ap (λ (k : ℕ). number32 other (drop (k - 4) w)) n
+          ∙ (ap (number32 other) (trailer_at w body b.trailer total d2 refl ∙ b.same (omega (arith, n, within))) ∙ (number32-alone other total b.total_fits ∙ sym n))))
           ∙ same_item None None (word other 1 w) (length w) (Pcapng other []) (Pcapng other []) refl (n ∙ sym size) refl;
     }
 
@@ -149,7 +152,9 @@ block_again order known w p t kind body after b s et =
     let next : read_interfaces order known kind (body_of total w) ≡ after = ap (read_interfaces order known kind) bodies
     ∙ (interfaces_cut order known kind body ∙ g.after_is) in
     block_other order known w (omega (arith, size)) (λ h. says_other order known kind body p after s (sym k ∙ h))
-    ∙ (rw (k, n) (other_made order known kind total w (omega arith) (omega (arith, g.enough)) (omega (arith, g.within, b.total_fits)) (omega (arith, size)))
+    ∙ (rw (k, n) (other_made order known kind total w (omega arith) (omega (arith, g.enough)) (omega (arith, g.within, b.total_fits)) (omega (arith, size))
+    (alike order total w (λ within. ap (number32 order) (trailer_at w body b.trailer total d2 refl ∙ b.same within) ∙ number32-alone order total b.total_fits))
+    (ap (lacks kind) (ap (read_packet order known kind) bodies ∙ packet_cut order known kind body) ∙ g.told))
     ∙ same_item (read_packet order known kind (body_of total w)) p total (length w) (Pcapng order (read_interfaces order known kind
     (body_of total w))) t packet (sym size) (ap (Pcapng order) next ∙ sym et))
 

@@ -1,5 +1,5 @@
 -- A fault that the bytes have is read, and how few bytes are too few.
-use Rattle.std.proofs.Common.{◌≡◌, ◌≢◌, ℕ, ◌+◌, ◌-◌, ◌%◌, ◌≤◌, ◌<◌, ◌⊎◌, Bool, true, false, cond, eqb, ltb, min, List, [], ◌++◌, length, take, drop, refl}
+use Rattle.std.proofs.Common.{◌≡◌, ◌≢◌, ℕ, ◌+◌, ◌-◌, ◌^◌, ◌%◌, ◌≤◌, ◌<◌, ◌⊎◌, Bool, true, false, cond, eqb, ltb, min, List, [], ◌++◌, length, take, drop, refl}
 use Rattle.std.proofs.Common.{sym, ap, subst, ◌∙◌, arith, inl, inr, Option, Some, None}
 use Rattle.std.proofs.Math.Seq.{take-append_seam, drop-append_seam}
 use Rattle.std.proofs.lemmas.List.{length-append, length-drop}
@@ -7,14 +7,14 @@ use Rattle.bt_pcap.specs.declared.numbers.Order.{Order}
 use Rattle.bt_pcap.specs.declared.numbers.Order.TheVariants.{Little, Big}
 use Rattle.bt_pcap.specs.declared.interfaces.Interface.{Interface}
 use Rattle.bt_pcap.specs.declared.fault.FileFault.{FileFault}
-use Rattle.bt_pcap.specs.declared.fault.FileFault.TheVariants.{NoCapture, ByteOrder, Length, TooShort, RecordLength}
+use Rattle.bt_pcap.specs.declared.fault.FileFault.TheVariants.{NoCapture, ByteOrder, Length, TooShort, RecordLength, Undescribed, Unlike}
 use Rattle.bt_pcap.specs.Numbers.{u32, number32, AreBytes}
 use Rattle.bt_pcap.specs.Formats.{Format, Unknown, Pcap, Pcapng, Captured}
 use Rattle.bt_pcap.specs.Items.{section_type}
 use Rattle.bt_pcap.specs.Faults.{MayBegin, IsForeign, HasNoOrder, IsShortSection, BeginsBlock, HasFault, foreign, unordered, short_section, short_block}
-use Rattle.bt_pcap.specs.Faults.{short_body, long_body, long_record, BeginsRecord}
+use Rattle.bt_pcap.specs.Faults.{short_body, long_body, unlike_section, unlike_block, undescribed, long_record, BeginsRecord, IsUnlike, IsUnlikeSection}
 use Rattle.bt_pcap.specs.Reading.{Answer, Item, Undecided, Faulty, word, whole, record_size, record_packet, read_header, read_record, read_packet}
-use Rattle.bt_pcap.specs.Reading.{read_interfaces, least, most, body_of, read_other, read_section_in, read_section, read_block, read_first, next_item}
+use Rattle.bt_pcap.specs.Reading.{read_interfaces, least, most, differs, lacks, whole_block, body_of, read_other, read_section_in, read_section, read_block, read_first, next_item}
 use Rattle.bt_pcap.proofs.NumberLaws.{AreBytes-drop, number32-u32, drop-u32, length-u32, front32}
 use Rattle.bt_pcap.proofs.Readings.{chosen, ne_false, same_true, lt_true, ge_false, less_true, magic_of, block_section, block_other}
 use Rattle.bt_pcap.proofs.Firsts.{first_section}
@@ -23,6 +23,8 @@ use Rattle.bt_pcap.proofs.Complete.{section_number, magic_number}
 use Rattle.bt_pcap.proofs.Sound.{magic_bytes}
 use Rattle.bt_pcap.proofs.BodyLaws.{four_again}
 use Rattle.bt_pcap.proofs.Bodies.{least_most}
+use Rattle.bt_pcap.proofs.Trailers.{alike, unlike}
+use Rattle.bt_pcap.proofs.Unnamed.{lacks_again}
 
 first_foreign : (b : List ℕ) → 4 ≤ length b → NoMagic b → read_first b ≡ Faulty NoCapture
 unfolding read_first
@@ -86,6 +88,27 @@ unordered_again s b may h fits =
     λ order e. h.unknown order (front ∙ (sym (front32 Big x lx fx) ∙ (ap (u32 Big) e ∙ magic_bytes order))) in
     to_section s b may (omega (arith, le)) (λ order. ap (number32 order) h.whole ∙ section_number order Big r1) ∙ section_unordered b le (no Big) (no Little)
 
+-- what a section header block is read with
+record SectionWords (order : Order) (total : ℕ) (b : List ℕ) : Type 0 where
+  pub number : word order 1 b ≡ total
+  pub magic : word Big 2 b ≡ magic_of order
+  pub enough : 12 ≤ length b
+  pub kind : (any : Order) → number32 any b ≡ section_type
+
+section_words : (o : Order) (total : ℕ) (b rest : List ℕ) → total < 2 ^ 32
+    → b ≡ u32 o section_type ++ (u32 o total ++ (u32 o 0x1A2B3C4D ++ rest)) → SectionWords o total b
+section_words o total b rest fits whole =
+    let r2 = u32 o 0x1A2B3C4D ++ rest in
+    let r1 = u32 o total ++ r2 in
+    let d1 : drop 4 b ≡ r1 = ap (drop 4) whole ∙ drop-u32 o section_type r1 in
+    let d2 : drop 4 (drop 4 b) ≡ r2 = ap (drop 4) d1 ∙ drop-u32 o total r2 in
+    record {
+      number = ap (number32 o) d1 ∙ number32-u32 o total r2 fits;
+      magic = ap (number32 Big) d2 ∙ magic_number o rest;
+      enough = omega (arith, ap (length {A = ℕ}) whole, length-u32 o section_type r1, length-u32 o total r2, length-u32 o 0x1A2B3C4D rest);
+      kind = λ order. ap (number32 order) whole ∙ section_number order o r1;
+    }
+
 section_short : (order : Order) (b : List ℕ) → 12 ≤ length b → word Big 2 b ≡ magic_of order → word order 1 b < 16 → read_section b ≡ Faulty Length
 unfolding read_section
 section_short Big b le magic lt =
@@ -103,23 +126,35 @@ section_short Little b le magic lt =
 short_section_again : (s : Format) (b : List ℕ) → MayBegin s → IsShortSection b → next_item s b ≡ Faulty Length
 short_section_again s b may h =
     let o = h.order in
-    let r2 = u32 o 0x1A2B3C4D ++ h.rest in
-    let r1 = u32 o h.total ++ r2 in
-    let d1 : drop 4 b ≡ r1 = ap (drop 4) h.whole ∙ drop-u32 o section_type r1 in
-    let d2 : drop 4 (drop 4 b) ≡ r2 = ap (drop 4) d1 ∙ drop-u32 o h.total r2 in
     let lt : h.total < 16 = h.short in
-    let n : word o 1 b ≡ h.total = ap (number32 o) d1 ∙ number32-u32 o h.total r2 (omega arith) in
-    let magic : word Big 2 b ≡ magic_of o = ap (number32 Big) d2 ∙ magic_number o h.rest in
-    let le : 12 ≤ length b = omega (
-      arith,
-      ap (length {A = ℕ}) h.whole,
-      length-u32 o section_type r1,
-      length-u32 o h.total r2,
-      length-u32 o
-          0x1A2B3C4D h.rest,
-    ) in
-    to_section s b may (omega (arith, le)) (λ order. ap (number32 order) h.whole ∙ section_number order o r1)
-    ∙ section_short o b le magic (omega (arith, n, lt))
+    let x = section_words o h.total b h.rest (omega arith) h.whole in
+    to_section s b may (omega (arith, x.enough)) x.kind ∙ section_short o b x.enough x.magic (omega (arith, x.number, lt))
+
+section_unlike : (order : Order) (b : List ℕ) → 12 ≤ length b → word Big 2 b ≡ magic_of order → 16 ≤ word order 1 b → IsUnlike order (word order 1 b) b
+    → read_section b ≡ Faulty Unlike
+unfolding read_section
+section_unlike Big b le magic enough u =
+    let f : ltb (length b) 12 ≡ false = ge_false (length b) 12 le in
+    let m : eqb (word Big 2 b) 0x1A2B3C4D ≡ true = same_true (word Big 2 b) 0x1A2B3C4D magic in
+    let t : ltb (word Big 1 b) 16 ≡ false = ge_false (word Big 1 b) 16 enough in
+    let w : ltb (length b) (min (word Big 1 b) 1048604) ≡ false = ge_false (length b) (min (word Big 1 b) 1048604) (omega (arith, u.enough)) in
+    let d : differs Big (word Big 1 b) b ≡ true = unlike Big (word Big 1 b) b u in
+    rw (f, m, t, w, d) refl
+section_unlike Little b le magic enough u =
+    let f : ltb (length b) 12 ≡ false = ge_false (length b) 12 le in
+    let n : eqb (word Big 2 b) 0x1A2B3C4D ≡ false = ne_false (word Big 2 b) 0x1A2B3C4D (λ h. omega (arith, h, magic)) in
+    let m : eqb (word Big 2 b) 0x4D3C2B1A ≡ true = same_true (word Big 2 b) 0x4D3C2B1A magic in
+    let t : ltb (word Little 1 b) 16 ≡ false = ge_false (word Little 1 b) 16 enough in
+    let w : ltb (length b) (min (word Little 1 b) 1048604) ≡ false = ge_false (length b) (min (word Little 1 b) 1048604) (omega (arith, u.enough)) in
+    let d : differs Little (word Little 1 b) b ≡ true = unlike Little (word Little 1 b) b u in
+    rw (f, n, m, t, w, d) refl
+
+unlike_section_again : (s : Format) (b : List ℕ) → MayBegin s → IsUnlikeSection b → next_item s b ≡ Faulty Unlike
+unlike_section_again s b may h =
+    let o = h.order in
+    let x = section_words o h.total b h.rest (omega (arith, h.other.within)) h.whole in
+    to_section s b may (omega (arith, x.enough)) x.kind
+    ∙ section_unlike o b x.enough x.magic (omega (arith, x.number, h.enough)) (subst (λ (k : ℕ). IsUnlike o k b) (sym x.number) h.other)
 
 other_short : (order : Order) (known : List Interface) (kind total : ℕ) (b : List ℕ) → total < 12 → read_other order known kind total b ≡ Faulty Length
 unfolding read_other
@@ -141,6 +176,28 @@ other_long order known kind total b lt =
     let g : ltb (total - 12) (least kind) ≡ false = ge_false (total - 12) (least kind) (omega (arith, least_most kind)) in
     let h : ltb (most kind) (total - 12) ≡ true = less_true (most kind) (total - 12) (omega arith) in
     rw (f, g, h) refl
+
+other_undescribed : (order : Order) (known : List Interface) (kind total : ℕ) (b : List ℕ) → 12 + least kind ≤ total → total ≤ 12 + most kind
+    → min total 1048604 ≤ length b → differs order total b ≡ false → lacks kind (read_packet order known kind (body_of total b)) ≡ true
+    → read_other order known kind total b ≡ Faulty Undescribed
+unfolding read_other
+other_undescribed order known kind total b lo hi enough same is =
+    let f : ltb total 12 ≡ false = ge_false total 12 (omega arith) in
+    let g : ltb (total - 12) (least kind) ≡ false = ge_false (total - 12) (least kind) (omega arith) in
+    let h : ltb (most kind) (total - 12) ≡ false = ge_false (most kind) (total - 12) (omega arith) in
+    let w : ltb (length b) (min total 1048604) ≡ false = ge_false (length b) (min total 1048604) enough in
+    rw (f, g, h, w, same, is) refl
+
+other_unlike : (order : Order) (known : List Interface) (kind total : ℕ) (b : List ℕ) → 12 + least kind ≤ total → total ≤ 12 + most kind
+    → IsUnlike order total b → read_other order known kind total b ≡ Faulty Unlike
+unfolding read_other
+other_unlike order known kind total b lo hi u =
+    let f : ltb total 12 ≡ false = ge_false total 12 (omega arith) in
+    let g : ltb (total - 12) (least kind) ≡ false = ge_false (total - 12) (least kind) (omega arith) in
+    let h : ltb (most kind) (total - 12) ≡ false = ge_false (most kind) (total - 12) (omega arith) in
+    let w : ltb (length b) (min total 1048604) ≡ false = ge_false (length b) (min total 1048604) (omega (arith, u.enough)) in
+    let d : differs order total b ≡ true = unlike order total b u in
+    rw (f, g, h, w, d) refl
 
 record_long : (order : Order) (scale link captured : ℕ) (b : List ℕ) → BeginsRecord order captured b → 16777216 < captured
     → read_record order scale link b ≡ Faulty RecordLength
@@ -172,6 +229,12 @@ fault_again s b f (short_body order known kind total es h le lt ef) fits =
     ap (λ t. next_item t b) es ∙ (begins_again order known kind total b h ∙ (other_body order known kind total b le lt ∙ ap Faulty (sym ef)))
 fault_again s b f (long_body order known kind total es h lt ef) fits =
     ap (λ t. next_item t b) es ∙ (begins_again order known kind total b h ∙ (other_long order known kind total b lt ∙ ap Faulty (sym ef)))
+fault_again s b f (unlike_section may h ef) fits = unlike_section_again s b may h ∙ ap Faulty (sym ef)
+fault_again s b f (unlike_block order known kind total es h lo hi u ef) fits =
+    ap (λ t. next_item t b) es ∙ (begins_again order known kind total b h ∙ (other_unlike order known kind total b lo hi u ∙ ap Faulty (sym ef)))
+fault_again s b f (undescribed order known kind total es h lo hi enough same n ef) fits =
+    ap (λ t. next_item t b) es ∙ (begins_again order known kind total b h
+    ∙ (other_undescribed order known kind total b lo hi enough (alike order total b same) (lacks_again order known kind total b lo n) ∙ ap Faulty (sym ef)))
 fault_again s b f (long_record order scale link captured es h lt ef) fits =
     ap (λ t. next_item t b) es ∙ (record_long order scale link captured b h lt ∙ ap Faulty (sym ef))
 
@@ -184,6 +247,18 @@ undecided false x e = inr e
 not_faulty : (c : Bool) (f : FileFault) (x : Answer) → cond c (Faulty f) x ≡ Undecided → x ≡ Undecided
 not_faulty true f x e = absurd (cc)
 not_faulty false f x e = e
+
+few_block : (order : Order) (kind size : ℕ) (b : List ℕ) (packet : Option Captured) (next : Format) → whole_block order kind size b packet next ≡ Undecided
+    → length b < 1048604
+few_block order kind size b packet next e =
+    let told = cond (lacks kind packet) (Faulty Undescribed) (Item packet size next) in
+    elim (undecided (ltb (length b) (min size 1048604)) (cond (differs order size b) (Faulty Unlike) told) e) [
+      | inl t ↦ omega (arith, lt_true (length b) (min size 1048604) t)
+      | inr x ↦
+          let none : Item packet size next ≡ Undecided =
+          not_faulty (lacks kind packet) Undescribed (Item packet size next) (not_faulty (differs order size b) Unlike told x) in
+          absurd (cc)
+    ]
 
 few : (size : ℕ) (b : List ℕ) (packet : Option Captured) (next : Format) → whole size b packet next ≡ Undecided → length b < 1048604
 few size b packet next e =
@@ -212,7 +287,8 @@ record_few order scale link b e =
     ]
 
 section_in_few : (order : Order) (total : ℕ) (b : List ℕ) → read_section_in order total b ≡ Undecided → length b < 1048604
-section_in_few order total b e = few total b None (Pcapng order []) (not_faulty (ltb total 16) Length (whole total b None (Pcapng order [])) e)
+section_in_few order total b e =
+    few_block order 0x0A0D0D0A total b None (Pcapng order []) (not_faulty (ltb total 16) Length (whole_block order 0x0A0D0D0A total b None (Pcapng order [])) e)
 
 section_few : (b : List ℕ) → read_section b ≡ Undecided → length b < 1048604
 unfolding read_section
@@ -235,9 +311,9 @@ unfolding read_other
 other_few order known kind total b e =
     let packet = read_packet order known kind (body_of total b) in
     let next = Pcapng order (read_interfaces order known kind (body_of total b)) in
-    let made = whole total b packet next in
+    let made = whole_block order kind total b packet next in
     let long = cond (ltb (most kind) (total - 12)) (Faulty Length) made in
-    few total b packet next (not_faulty (ltb (most kind) (total - 12)) Length made (not_faulty (ltb (total - 12) (least kind)) TooShort long
+    few_block order kind total b packet next (not_faulty (ltb (most kind) (total - 12)) Length made (not_faulty (ltb (total - 12) (least kind)) TooShort long
     (not_faulty (ltb total 12) Length (cond (ltb (total - 12) (least kind)) (Faulty TooShort) long) e)))
 
 block_few : (order : Order) (known : List Interface) (b : List ℕ) → read_block order known b ≡ Undecided → length b < 1048604

@@ -1,24 +1,26 @@
 -- The faults that are read are those that the bytes have.
-use Rattle.std.proofs.Common.{◌≡◌, ◌≢◌, ℕ, ◌-◌, ◌%◌, ◌≤◌, ◌⊎◌, Bool, true, false, cond, eqb, ltb, min, List, [], ◌++◌, length, take, drop, refl, sym, ap}
+use Rattle.std.proofs.Common.{◌≡◌, ◌≢◌, ℕ, ◌+◌, ◌-◌, ◌%◌, ◌≤◌, ◌⊎◌, Bool, true, false, cond, eqb, ltb, min, List, [], ◌++◌, length, take, drop, refl, sym, ap}
 use Rattle.std.proofs.Common.{◌∙◌, arith, inl, inr, Option, Some, None}
 use Rattle.std.proofs.lemmas.List.{length-drop, length-take-le, take-append-drop}
 use Rattle.bt_pcap.specs.declared.numbers.Order.{Order}
 use Rattle.bt_pcap.specs.declared.numbers.Order.TheVariants.{Little, Big}
 use Rattle.bt_pcap.specs.declared.interfaces.Interface.{Interface}
 use Rattle.bt_pcap.specs.declared.fault.FileFault.{FileFault}
-use Rattle.bt_pcap.specs.declared.fault.FileFault.TheVariants.{NoCapture, ByteOrder, Length, TooShort, RecordLength}
+use Rattle.bt_pcap.specs.declared.fault.FileFault.TheVariants.{NoCapture, ByteOrder, Length, TooShort, RecordLength, Undescribed, Unlike}
 use Rattle.bt_pcap.specs.Numbers.{u32, number32, AreBytes}
 use Rattle.bt_pcap.specs.Formats.{Format, Unknown, Pcap, Pcapng, Captured}
 use Rattle.bt_pcap.specs.Items.{section_type}
 use Rattle.bt_pcap.specs.Faults.{MayBegin, IsForeign, HasNoOrder, BeginsBlock, HasFault, foreign, unordered, short_section, short_block, short_body}
-use Rattle.bt_pcap.specs.Faults.{long_body, long_record}
+use Rattle.bt_pcap.specs.Faults.{long_body, unlike_section, unlike_block, undescribed, long_record, IsUnlike, IsAlike}
 use Rattle.bt_pcap.specs.Reading.{Answer, Item, Undecided, Faulty, word, whole, record_size, record_packet, read_header, read_record, read_packet}
-use Rattle.bt_pcap.specs.Reading.{read_interfaces, least, most, body_of, read_other, read_section_in, read_section, read_block, read_first, next_item}
+use Rattle.bt_pcap.specs.Reading.{read_interfaces, least, most, differs, lacks, whole_block, body_of, read_other, read_section_in, read_section, read_block, read_first, next_item}
 use Rattle.bt_pcap.proofs.NumberLaws.{AreBytes-drop, number32-lt, split32, front32, number32-take}
 use Rattle.bt_pcap.proofs.Readings.{chosen, eq_true, eq_false, lt_false, lt_true, magic_of}
 use Rattle.bt_pcap.proofs.Firsts.{little_micro, big_micro, little_nano, big_nano}
 use Rattle.bt_pcap.proofs.BodyLaws.{word-lt, four_words}
 use Rattle.bt_pcap.proofs.Sound.{palindrome, magic_bytes}
+use Rattle.bt_pcap.proofs.Trailers.{alike_is, unlike_is}
+use Rattle.bt_pcap.proofs.Unnamed.{names_none}
 
 -- ---- a fault that is read
 
@@ -33,6 +35,22 @@ unless false g x f e = inr (refl, e)
 no_whole : (b : Bool) (packet : Option Captured) (size : ℕ) (next : Format) (f : FileFault) → cond b Undecided (Item packet size next) ≡ Faulty f → ⊥
 no_whole true packet size next f e = cc
 no_whole false packet size next f e = cc
+
+-- the block has come; its lengths differ, or it lacks its packet
+spoiled : (order : Order) (kind size : ℕ) (b : List ℕ) (packet : Option Captured) (next : Format) (f : FileFault)
+    → whole_block order kind size b packet next ≡ Faulty f
+    → (min size 1048604 ≤ length b) × ((IsUnlike order size b × (f ≡ Unlike)) ⊎ (IsAlike order size b × (lacks kind packet ≡ true) × (f ≡ Undescribed)))
+spoiled order kind size b packet next f e =
+    let told = cond (lacks kind packet) (Faulty Undescribed) (Item packet size next) in
+    let d = decided (ltb (length b) (min size 1048604)) (cond (differs order size b) (Faulty Unlike) told) f e in
+    let enough = lt_false (length b) (min size 1048604) d.0 in
+    elim (unless (differs order size b) Unlike told f d.1) [
+      | inl x ↦ (enough, inl (unlike_is order size b x.0 enough, x.1))
+      | inr x ↦ elim (unless (lacks kind packet) Undescribed (Item packet size next) f x.1) [
+        | inl y ↦ (enough, inr (alike_is order size b x.0, y.0, y.1))
+        | inr y ↦ let none : Item packet size next ≡ Faulty f = y.1 in absurd (cc)
+      ]
+    ]
 
 no_header : (order : Order) (scale : ℕ) (b : List ℕ) (f : FileFault) → read_header order scale b ≡ Faulty f → ⊥
 unfolding read_header
@@ -77,16 +95,24 @@ other_fault order known b f le ns e fits =
       total_fits = word-lt order 1 b fits;
       other = ns;
     } in
-    let long = cond (ltb (most kind) (total - 12)) (Faulty Length) (whole total b packet next) in
+    let long = cond (ltb (most kind) (total - 12)) (Faulty Length) (whole_block order kind total b packet next) in
     elim (unless (ltb total 12) Length (cond (ltb (total - 12) (least kind)) (Faulty TooShort) long) f e) [
       | inl x ↦ short_block order known kind total refl begins (lt_true total 12 x.0) x.1
       | inr x ↦
           let lo : 12 ≤ total = lt_false total 12 x.0 in
           elim (unless (ltb (total - 12) (least kind)) TooShort long f x.1) [
             | inl y ↦ short_body order known kind total refl begins lo (omega (arith, lt_true (total - 12) (least kind) y.0, lo)) y.1
-            | inr y ↦ elim (unless (ltb (most kind) (total - 12)) Length (whole total b packet next) f y.1) [
+            | inr y ↦ elim (unless (ltb (most kind) (total - 12)) Length (whole_block order kind total b packet next) f y.1) [
               | inl z ↦ long_body order known kind total refl begins (omega (arith, lt_true (most kind) (total - 12) z.0)) z.1
-              | inr z ↦ absurd (no_whole (ltb (length b) (min total 1048604)) packet total next f z.1)
+              | inr z ↦
+                  let l = spoiled order kind total b packet next f z.1 in
+                  let least_is : least kind ≤ total - 12 = lt_false (total - 12) (least kind) y.0 in
+                  let within : total ≤ 12 + most kind = omega (arith, lt_false (most kind) (total - 12) z.0) in
+                  elim (l.1) [
+                    | inl u ↦ unlike_block order known kind total refl begins (omega arith) within u.0 u.1
+                    | inr u ↦ undescribed order known kind total refl begins (omega arith) within l.0 u.0
+                        (names_none order known kind total b lo least_is l.0 fits u.1) u.2
+                  ]
             ]
           ]
     ]
@@ -103,17 +129,29 @@ section_in_fault s order first b f may le kind magic e fits =
     let l2 : 4 ≤ length b2 = omega (arith, length-drop 4 b1) in
     let head : take 4 b ≡ u32 order section_type = sym (front32 first b (omega arith) fits) ∙ (ap (u32 first) kind ∙ palindrome first order) in
     let mid : take 4 b2 ≡ u32 order 0x1A2B3C4D = sym (front32 Big b2 l2 f2) ∙ (ap (u32 Big) magic ∙ magic_bytes order) in
-    elim (unless (ltb (word order 1 b) 16) Length (whole (word order 1 b) b None (Pcapng order [])) f e) [
+    let written : b ≡ u32 order section_type ++ (u32 order (word order 1 b) ++ (u32 order 0x1A2B3C4D ++ drop 4 b2)) =
+    sym (take-append-drop 4 b) ∙ (ap (λ (y : List ℕ). y ++ b1) head
+    ∙ ap (λ (y : List ℕ). u32 order section_type ++ y) (split32 order b1 (omega arith) f1
+    ∙ ap (λ (y : List ℕ). u32 order (word order 1 b) ++ y) (sym (take-append-drop 4 b2) ∙ ap (λ (y : List ℕ). y ++ drop 4 b2) mid))) in
+    elim (unless (ltb (word order 1 b) 16) Length (whole_block order 0x0A0D0D0A (word order 1 b) b None (Pcapng order [])) f e) [
       | inl x ↦ short_section may (record {
         order = order;
         total = word order 1 b;
         rest = drop 4 b2;
-        whole = sym (take-append-drop 4 b) ∙ (ap (λ (y : List ℕ). y ++ b1) head
-            ∙ ap (λ (y : List ℕ). u32 order section_type ++ y) (split32 order b1 (omega arith) f1
-            ∙ ap (λ (y : List ℕ). u32 order (word order 1 b) ++ y) (sym (take-append-drop 4 b2) ∙ ap (λ (y : List ℕ). y ++ drop 4 b2) mid)));
+        whole = written;
         short = lt_true (word order 1 b) 16 x.0;
       }) x.1
-      | inr x ↦ absurd (no_whole (ltb (length b) (min (word order 1 b) 1048604)) None (word order 1 b) (Pcapng order []) f x.1)
+      | inr x ↦ elim ((spoiled order 0x0A0D0D0A (word order 1 b) b None (Pcapng order []) f x.1).1) [
+        | inl u ↦ unlike_section may (record {
+          order = order;
+          total = word order 1 b;
+          rest = drop 4 b2;
+          whole = written;
+          enough = lt_false (word order 1 b) 16 x.0;
+          other = u.0;
+        }) u.1
+        | inr u ↦ let no : false ≡ true = u.1 in absurd (cc)
+      ]
     ]
 
 magic_alone : (order : Order) → number32 Big (u32 order 0x1A2B3C4D) ≡ magic_of order

@@ -2,15 +2,20 @@
 use Rattle.std.proofs.Common.{◌≡◌, ℕ, ◌≤◌, min, List, [], ◌∷◌, ◌++◌, length, take, drop, refl, sym, ap, subst, ◌∙◌, arith, Option, append_assoc}
 use Rattle.std.specs.Option.{option_to_list}
 use Rattle.std.proofs.Math.Seq.{take-append_seam, drop-append_seam}
-use Rattle.std.proofs.lemmas.List.{length-append, take-append-le}
+use Rattle.std.proofs.lemmas.List.{length-append, take-append-le, drop-append-le}
+use Rattle.bt_pcap.specs.declared.interfaces.Interface.{Interface}
+use Rattle.bt_pcap.specs.declared.numbers.Order.{Order}
 use Rattle.bt_pcap.specs.declared.numbers.Order.TheVariants.{Big}
-use Rattle.bt_pcap.specs.Numbers.{u32}
+use Rattle.bt_pcap.specs.Numbers.{u16, u32}
 use Rattle.bt_pcap.specs.Formats.{Format, Unknown, Pcap, Pcapng, Captured}
 use Rattle.bt_pcap.specs.Items.{section_type, IsItem}
-use Rattle.bt_pcap.specs.Faults.{foreign, unordered, short_section, short_block, short_body, long_body, long_record}
+use Rattle.bt_pcap.specs.Faults.{foreign, unordered, short_section, short_block, short_body, long_body, unlike_section, unlike_block, undescribed, long_record, NamesNone, enhanced}
+use Rattle.bt_pcap.specs.Faults.{obsolete, simple, IsUnlike, IsAlike}
 use Rattle.bt_pcap.specs.Captures.{IsCapture}
 use Rattle.bt_pcap.specs.Laws.{CutsDontMatter, FaultsStay, ItemsAreRead, ItemsAreUnique, ItemsHaveNoFault, joined, PacketsAreUnique}
 use Rattle.bt_pcap.specs.Reading.{Item, Undecided, Faulty, read_first, read_record, read_block, next_item}
+use Rattle.bt_pcap.proofs.NumberLaws.{length-u32}
+use Rattle.bt_pcap.proofs.Trailers.{more_bytes}
 use Rattle.bt_pcap.proofs.SameFront.{SameFront, next_same}
 use Rattle.bt_pcap.proofs.Complete.{item_again}
 use Rattle.bt_pcap.proofs.FaultAgain.{fault_again}
@@ -55,6 +60,24 @@ longer_3 a c d rest more b e = longer_2 a c (d ++ rest) more b e ∙ ap (λ (x :
 longer_4 : (a c d e rest more : List ℕ) (b : List ℕ) → b ≡ a ++ (c ++ (d ++ (e ++ rest))) → b ++ more ≡ a ++ (c ++ (d ++ (e ++ (rest ++ more))))
 longer_4 a c d e rest more b h = longer_3 a c d (e ++ rest) more b h ∙ ap (λ (x : List ℕ). a ++ (c ++ (d ++ x))) (append_assoc e rest more)
 
+names_none_stays : (order : Order) (known : List Interface) (kind : ℕ) (b more : List ℕ) → NamesNone order known kind b → NamesNone order known kind (b ++ more)
+names_none_stays order known kind b more (enhanced number rest e w f ge) =
+    enhanced number (rest ++ more) e (longer (u32 order number) rest more b w) f ge
+names_none_stays order known kind b more (obsolete number rest e w f ge) =
+    obsolete number (rest ++ more) e (longer (u16 order number) rest more b w) f ge
+names_none_stays order known kind b more (simple e none) = simple e none
+
+unlike_stays : (order : Order) (total : ℕ) (b more : List ℕ) → 4 ≤ total → IsUnlike order total b → IsUnlike order total (b ++ more)
+unlike_stays order total b more le u = record {
+  within = u.within;
+  enough = omega (arith, length-append b more, u.enough);
+  unlike = λ h. u.unlike (sym (more_bytes order total b more le u.enough) ∙ h);
+}
+
+alike_stays : (order : Order) (total : ℕ) (b more : List ℕ) → 4 ≤ total → min total 1048604 ≤ length b → IsAlike order total b
+    → IsAlike order total (b ++ more)
+alike_stays order total b more le enough a within = more_bytes order total b more le (omega (arith, enough, within)) ∙ a within
+
 pub faults_stay : FaultsStay
 faults_stay s b more f (foreign first rest es eb i ef) = foreign first (rest ++ more) es (longer first rest more b eb) i ef
 faults_stay s b more f (unordered may h ef) = unordered may (record {
@@ -94,6 +117,31 @@ faults_stay s b more f (long_body order known kind total es h lt ef) = long_body
   total_fits = h.total_fits;
   other = h.other;
 }) lt ef
+faults_stay s b more f (unlike_section may h ef) = unlike_section may (record {
+  order = h.order;
+  total = h.total;
+  rest = h.rest ++ more;
+  whole = longer_3 (u32 h.order section_type) (u32 h.order h.total) (u32 h.order 0x1A2B3C4D) h.rest more b h.whole;
+  enough = h.enough;
+  other = unlike_stays h.order h.total b more (omega (arith, h.enough)) h.other;
+}) ef
+faults_stay s b more f (unlike_block order known kind total es h lo hi u ef) = unlike_block order known kind total es (record {
+  rest = h.rest ++ more;
+  whole = longer_2 (u32 order kind) (u32 order total) h.rest more b h.whole;
+  kind_fits = h.kind_fits;
+  total_fits = h.total_fits;
+  other = h.other;
+}) lo hi (unlike_stays order total b more (omega arith) u) ef
+faults_stay s b more f (undescribed order known kind total es h lo hi enough same n ef) =
+    let eight : 8 ≤ length b = omega (arith, ap (length {A = ℕ}) h.whole, length-u32 order kind (u32 order total ++ h.rest), length-u32 order total h.rest) in
+    undescribed order known kind total es (record {
+      rest = h.rest ++ more;
+      whole = longer_2 (u32 order kind) (u32 order total) h.rest more b h.whole;
+      kind_fits = h.kind_fits;
+      total_fits = h.total_fits;
+      other = h.other;
+    }) lo hi (omega (arith, length-append b more, enough)) (alike_stays order total b more (omega arith) enough same)
+    (subst (NamesNone order known kind) (sym (drop-append-le 8 b more eight)) (names_none_stays order known kind (drop 8 b) more n)) ef
 faults_stay s b more f (long_record order scale link captured es h lt ef) = long_record order scale link captured es (record {
   seconds = h.seconds;
   fraction = h.fraction;

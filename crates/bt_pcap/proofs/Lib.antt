@@ -1,6 +1,8 @@
 pub mod OptionProofs
 pub mod Bodies
+pub mod Described
 pub mod NumberLaws
+pub mod Trailers
 pub mod Readings
 pub mod OptionValues
 pub mod Firsts
@@ -10,6 +12,7 @@ pub mod BodyAgain
 pub mod Cuts
 pub mod Complete
 pub mod Sound
+pub mod Unnamed
 pub mod FaultLaws
 pub mod FaultAgain
 pub mod StepLaws

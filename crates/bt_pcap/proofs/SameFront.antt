@@ -1,17 +1,18 @@
 -- What is read hangs on the front of the item alone.
-use Rattle.std.proofs.Common.{◌≡◌, ℕ, ◌+◌, ◌-◌, ◌%◌, ◌≤◌, min, List, [], length, take, drop, sym, ap, subst, ◌∙◌, arith, inl, inr, Option, Some, None}
+use Rattle.std.proofs.Common.{false, ◌≡◌, ℕ, ◌+◌, ◌-◌, ◌%◌, ◌≤◌, min, List, [], length, take, drop, sym, ap, subst, ◌∙◌, arith, inl, inr, Option, Some, None}
 use Rattle.bt_pcap.specs.declared.numbers.Order.{Order}
 use Rattle.bt_pcap.specs.declared.numbers.Order.TheVariants.{Big}
 use Rattle.bt_pcap.specs.declared.interfaces.Interface.{Interface}
 use Rattle.bt_pcap.specs.Numbers.{number32}
 use Rattle.bt_pcap.specs.Formats.{Format, Unknown, Pcap, Pcapng, Captured}
 use Rattle.bt_pcap.specs.Packets.{recorded}
-use Rattle.bt_pcap.specs.Reading.{Item, word, front, read_header, record_size, record_packet, read_record, read_packet, read_interfaces, body_of}
+use Rattle.bt_pcap.specs.Reading.{Item, word, differs, lacks, front, read_header, record_size, record_packet, read_record, read_packet, read_interfaces, body_of}
 use Rattle.bt_pcap.specs.Reading.{read_other, read_section, read_block, read_first, next_item}
 use Rattle.bt_pcap.proofs.NumberLaws.{word-same}
 use Rattle.bt_pcap.proofs.Readings.{header_item, header_made, record_item, record_made, OtherItem, other_made, SectionItem, section_item, section_made}
 use Rattle.bt_pcap.proofs.Readings.{block_item, block_section, block_other}
 use Rattle.bt_pcap.proofs.Firsts.{first_item, first_section, first_header}
+use Rattle.bt_pcap.proofs.Trailers.{differs_same}
 
 -- b has the front of an item of n bytes at the front of a
 pub record SameFront (n : ℕ) (a b : List ℕ) : Type 0 where
@@ -62,6 +63,8 @@ other_same order known kind total a b p n s f i =
     let bodies : body_of total b ≡ body_of total a =
     ap (λ (x : List ℕ). take (total - 12) (drop 8 x)) (ap (λ (k : ℕ). front k b) i.size_is ∙ (sym f.same ∙ ap (λ (k : ℕ). front k a) (sym i.size_is))) in
     other_made order known kind total b i.least_total i.least_fits i.most_fits (subst (λ (k : ℕ). min k 1048604 ≤ length b) (sym i.size_is) f.enough)
+    (differs_same order total a b (subst (λ (k : ℕ). take (min k 1048604) a ≡ take (min k 1048604) b) (sym i.size_is) f.same) (omega (arith, i.least_total)) i.alike)
+    (ap (λ (x : List ℕ). lacks kind (read_packet order known kind x)) bodies ∙ i.described)
     ∙ same_item (read_packet order known kind (body_of total b)) p total n (Pcapng order (read_interfaces order known kind (body_of total b))) s
     (ap (read_packet order known kind) bodies ∙ i.packet_is) i.size_is (ap (λ (x : List ℕ). Pcapng order
     (read_interfaces order known kind x)) bodies ∙ i.next_is)
@@ -73,6 +76,7 @@ section_same a b p n s f i =
     let w : word i.order 1 b ≡ word i.order 1 a = sym (word-same i.order 1 (min n 1048604) a b f.same (omega arith)) in
     let size : word i.order 1 b ≡ n = w ∙ i.size_is in
     section_made i.order b (m ∙ i.magic) (omega (arith, size)) (subst (λ (k : ℕ). min k 1048604 ≤ length b) (sym size) f.enough)
+    (subst (λ (k : ℕ). differs i.order k b ≡ false) (sym size) (differs_same i.order n a b f.same (omega (arith, lo)) i.alike))
     ∙ same_item None p (word i.order 1 b) n (Pcapng i.order []) s i.packet_is size i.next_is
 
 block_same : (order : Order) (known : List Interface) (a b : List ℕ) (p : Option Captured) (n : ℕ) (s : Format) → SameFront n a b

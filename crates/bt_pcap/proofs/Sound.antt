@@ -1,5 +1,5 @@
 -- What is read as an item is one.
-use Rattle.std.proofs.Common.{◌≡◌, ◌≢◌, ℕ, ◌+◌, ◌-◌, ◌%◌, ◌^◌, ◌≤◌, ◌<◌, min, List, ◌++◌, length, take, drop, refl, sym, ap, subst, ◌∙◌, arith, inl, inr}
+use Rattle.std.proofs.Common.{false, ◌≡◌, ◌≢◌, ℕ, ◌+◌, ◌-◌, ◌%◌, ◌^◌, ◌≤◌, ◌<◌, min, List, ◌++◌, length, take, drop, refl, sym, ap, subst, ◌∙◌, arith, inl, inr}
 use Rattle.std.proofs.Common.{Option, Some, None, append_assoc}
 use Rattle.std.proofs.lemmas.List.{length-append, length-drop, length-take-le, take-append-drop, take_all}
 use Rattle.bt_pcap.specs.declared.numbers.Order.{Order}
@@ -10,10 +10,11 @@ use Rattle.bt_pcap.specs.Formats.{Format, Unknown, Pcap, Pcapng, Captured}
 use Rattle.bt_pcap.specs.Packets.{recorded}
 use Rattle.bt_pcap.specs.Items.{section_type, HasMagic, IsHeader, IsSection, Says, IsFirst, header, section, IsNext, new_section, same_section, IsRecorded}
 use Rattle.bt_pcap.specs.Items.{IsItem}
-use Rattle.bt_pcap.specs.Reading.{Item, word, front, record_size, read_record, read_packet, read_interfaces, body_of, read_block, read_first, next_item}
+use Rattle.bt_pcap.specs.Reading.{Item, word, differs, lacks, front, record_size, read_record, read_packet, read_interfaces, body_of, read_block, read_first, next_item}
 use Rattle.bt_pcap.proofs.NumberLaws.{AreBytes-drop, AreBytes-take, number32-lt, split32, front32, drop-front}
 use Rattle.bt_pcap.proofs.Readings.{header_item, record_item, magic_of, SectionItem, section_item, OtherItem, block_item}
 use Rattle.bt_pcap.proofs.Firsts.{first_item}
+use Rattle.bt_pcap.proofs.Trailers.{trailer_at, trailer_is}
 use Rattle.bt_pcap.proofs.BodyLaws.{word-lt, four_words, says_sound}
 use Rattle.bt_pcap.proofs.Cuts.{packet_cut, interfaces_cut, body_is, octets_kept, recorded_cut, drop_16}
 
@@ -135,6 +136,7 @@ section_sound order w p t kind i f =
     ∙ (ap (λ (y : List ℕ). u32 o 0x1A2B3C4D ++ y) (sym (take-append-drop (n - 16) w3)) ∙ sym (append_assoc (u32 o 0x1A2B3C4D) rest trailer))) in
     let e1 : w1 ≡ u32 o (12 + length body) ++ (body ++ trailer) =
     sym (take-append-drop 4 w1) ∙ (ap (λ (y : List ℕ). y ++ w2) size ∙ ap (λ (y : List ℕ). u32 o (12 + length body) ++ y) e2) in
+    let at_end : drop (n - 4) w ≡ trailer = trailer_at w body trailer n e2 total in
     let fits : word o 1 w < 2 ^ 32 = word-lt o 1 w f in
     record {
       rest = rest;
@@ -142,6 +144,8 @@ section_sound order w p t kind i f =
         trailer = trailer;
         whole = sym (take-append-drop 4 w) ∙ (ap (λ (y : List ℕ). y ++ w1) head ∙ ap (λ (y : List ℕ). u32 o section_type ++ y) e1);
         four = length-drop (n - 16) w3 ∙ omega (arith, l3);
+        same = λ within. trailer_is o w trailer (12 + length body) (ap (λ (k : ℕ). drop (k - 4) w) (sym total) ∙ at_end)
+            (length-drop (n - 16) w3 ∙ omega (arith, l3)) f (subst (λ (k : ℕ). differs o k w ≡ false) total i.alike) within;
         kind_fits = omega arith;
         total_fits = subst (λ (k : ℕ). k < 2 ^ 32) (i.size_is ∙ total) fits;
       };
@@ -172,16 +176,20 @@ other_sound order known w p t ns i f =
     let e1 : w1 ≡ u32 order (12 + length body) ++ (body ++ trailer) =
     split32 order w1 (omega (arith, l1)) f1 ∙ (ap (λ (k : ℕ). u32 order k ++ w2) size ∙ ap (λ (y : List ℕ). u32 order (12 + length body) ++ y) e2) in
     let fits : word order 1 w < 2 ^ 32 = word-lt order 1 w f in
+    let at_end : drop (word order 1 w - 4) w ≡ trailer = trailer_at w body trailer (word order 1 w) e2 size in
     let bodies : body_of (word order 1 w) w ≡ take 1048596 body = body_is (word order 1 w) w body trailer e2 size in
     let packet : read_packet order known kind body ≡ p = sym (ap (read_packet order known kind) bodies ∙ packet_cut order known kind body) ∙ i.packet_is in
     let next : read_interfaces order known kind (body_of (word order 1 w) w) ≡ read_interfaces order known kind body =
     ap (read_interfaces order known kind) bodies ∙ interfaces_cut order known kind body in
     let says : Says order known kind body (read_packet order known kind body) (read_interfaces order known kind body) =
-    says_sound order known kind body (omega (arith, i.least_fits, size)) (omega (arith, i.most_fits, size)) ns (AreBytes-take (n - 12) w2 f2) in
+    says_sound order known kind body (omega (arith, i.least_fits, size)) (omega (arith, i.most_fits, size)) ns (AreBytes-take (n - 12) w2 f2)
+    (ap (lacks kind) (sym (ap (read_packet order known kind) bodies ∙ packet_cut order known kind body)) ∙ i.described) in
     same_section kind body (read_interfaces order known kind body) (record {
       trailer = trailer;
       whole = split32 order w (omega (arith, lo, total)) f ∙ ap (λ (y : List ℕ). u32 order kind ++ y) e1;
       four = length-drop (n - 12) w2 ∙ omega (arith, l2, lo, total);
+      same = λ within. trailer_is order w trailer (12 + length body) (ap (λ (k : ℕ). drop (k - 4) w) (sym size) ∙ at_end)
+          (length-drop (n - 12) w2 ∙ omega (arith, l2, lo, total)) f (subst (λ (k : ℕ). differs order k w ≡ false) size i.alike) within;
       kind_fits = number32-lt order w f;
       total_fits = subst (λ (k : ℕ). k < 2 ^ 32) size fits;
     }) (subst (λ q. Says order known kind body q (read_interfaces order known kind body)) packet says)

@@ -7,6 +7,6 @@ use Rattle.bt_pcap.specs.declared.interfaces.Interfaces.{Interfaces}
 unfoldable pub interfaces_of : Interfaces → List Interface
 interfaces_of t = take t.count t.table
 
--- With one more. Only the first 64 are noted: packets of further interfaces are passed over.
+-- With one more. Only the first 1,024 are noted.
 abbrev pub noted : List Interface → Interface → List Interface
-noted known interface = take 64 (known ++ interface ∷ [])
+noted known interface = take 1024 (known ++ interface ∷ [])

@@ -1,6 +1,6 @@
 -- The items of a capture file as they are written, field after field.
 use Rattle.std.specs.Prelude.{◌≡◌, ◌≢◌, ℕ, ◌+◌, ◌*◌, ◌%◌, ◌^◌, ◌<◌, ◌≤◌, ◌⊎◌, List, [], ◌++◌, length, take, slice_get, Option, Some, None}
-use Rattle.bt_pcap.specs.Sizes.{keep, longest}
+use Rattle.bt_pcap.specs.Sizes.{keep, need, longest}
 use Rattle.bt_pcap.specs.declared.numbers.Order.{Order}
 use Rattle.bt_pcap.specs.declared.interfaces.Interface.{Interface}
 use Rattle.bt_pcap.specs.Numbers.{u16, u32}
@@ -41,11 +41,13 @@ pub record IsRecord (order : Order) (seconds fraction original : ℕ) (octets by
 abbrev pub section_type : ℕ
 section_type = 0x0A0D0D0A
 
--- A block: type, total length, body, and four bytes with the total length again, which aren't compared (draft-ietf-opsawg-pcapng 3.1).
+-- A block: type, total length, body, and four bytes with the total length again (draft-ietf-opsawg-pcapng 3.1). Those of a block of over 1,048,604
+-- bytes aren't looked at.
 pub record IsBlock (order : Order) (kind : ℕ) (body bytes : List ℕ) : Type 0 where
   pub trailer : List ℕ
   pub whole : bytes ≡ u32 order kind ++ (u32 order (12 + length body) ++ (body ++ trailer))
   pub four : length trailer ≡ 4
+  pub same : 12 + length body ≤ need → trailer ≡ u32 order (12 + length body)
   pub kind_fits : kind < 2 ^ 32
   pub total_fits : 12 + length body < 2 ^ 32
 
@@ -81,12 +83,13 @@ pub record IsStamped (order : Order) (on : Option Interface) (packet : Option Ca
   pub octets_fit : length octets ≤ longest
   pub handed : packet ≡ packet_on on (high * 2 ^ 32 + low) (take captured octets) original
 
--- An enhanced packet block: the interface's number in four bytes (draft-ietf-opsawg-pcapng 4.3).
+-- An enhanced packet block: the number of an interface of the section in four bytes (draft-ietf-opsawg-pcapng 4.3).
 pub record IsEnhanced (order : Order) (known : List Interface) (packet : Option Captured) (body : List ℕ) : Type 0 where
   pub number : ℕ
   pub rest : List ℕ
   pub whole : body ≡ u32 order number ++ rest
   pub fits : number < 2 ^ 32
+  pub described : number < length known
   pub stamped : IsStamped order (slice_get known number) packet rest
 
 -- A packet block, which is obsolete: the interface's number in two bytes, and the number of drops (draft-ietf-opsawg-pcapng, appendix A).
@@ -96,6 +99,7 @@ pub record IsObsolete (order : Order) (known : List Interface) (packet : Option 
   pub rest : List ℕ
   pub whole : body ≡ u16 order number ++ (u16 order drops ++ rest)
   pub fits : number < 2 ^ 16
+  pub described : number < length known
   pub stamped : IsStamped order (slice_get known number) packet rest
 
 -- A simple packet block, of the first interface: the length on the wire and the packet data, without a time (draft-ietf-opsawg-pcapng 4.4).
@@ -106,6 +110,7 @@ pub record IsSimple (order : Order) (known : List Interface) (packet : Option Ca
   pub whole : body ≡ u32 order original ++ octets
   pub fits : original < 2 ^ 32
   pub octets_fit : length octets ≤ longest
+  pub described : 0 < length known
   pub handed : packet ≡ simple_on (slice_get known 0) octets original
 
 -- What a block of that type says in a section with these interfaces: its packet, and the interfaces after it. Other types are passed over.

@@ -1,5 +1,5 @@
 -- The options of an interface (draft-ietf-opsawg-pcapng 3.5 and 4.2).
-use Rattle.std.specs.Prelude.{◌≡◌, ℕ, zero, suc, ◌+◌, ◌*◌, ◌/◌, ◌^◌, ◌<◌, ◌==◌, ◌&&◌, ℤ, pos, FitsSigned, Bool, true, false, List, [], ◌∷◌, ◌++◌, length, take}
+use Rattle.std.specs.Prelude.{◌≡◌, ◌≢◌, ℕ, zero, suc, ◌+◌, ◌*◌, ◌/◌, ◌^◌, ◌<◌, ◌==◌, ◌&&◌, ℤ, pos, FitsSigned, Bool, true, false, List, [], ◌∷◌, ◌++◌, length, take}
 use Rattle.std.specs.Prelude.{drop, slice_index_or, Option, Some, None, if◌then◌else◌, nat_lt}
 use Rattle.std.specs.Int.{w64}
 use Rattle.bt_pcap.specs.declared.numbers.Order.{Order}
@@ -23,6 +23,7 @@ pub record Other : Type 0 where
 
 pub record IsOther (wanted long : ℕ) (o : Other) : Type 0 where
   pub code_fits : o.code < 2 ^ 16
+  pub not_last : o.code ≢ 0
   pub length_fits : length o.value < 2 ^ 16
   pub aligned : length o.value + length o.padding ≡ padded (length o.value)
   pub other : is_option wanted long o.code (length o.value) ≡ false
@@ -36,9 +37,11 @@ Follows order wanted long [] bytes rest = bytes ≡ rest
 Follows order wanted long (o ∷ os) bytes rest =
     (mid : List ℕ) × IsOther wanted long o × (bytes ≡ option order o mid) × Follows order wanted long os mid rest
 
--- The bytes are no whole option: fewer than four, or the value isn't there with its padding. Of the option that is looked for the value is enough.
+-- No option follows: there are fewer than four bytes, or the option opt_endofopt, of code 0, or the value isn't there with its padding. Of the option
+-- that is looked for the value is enough.
 pub data Ends (order : Order) (wanted long : ℕ) (bytes : List ℕ) : Type 0 where
   few : length bytes < 4 → Ends order wanted long bytes
+  last : (size : ℕ) (rest : List ℕ) → size < 2 ^ 16 → bytes ≡ u16 order 0 ++ (u16 order size ++ rest) → Ends order wanted long bytes
   cut : (code size : ℕ) (value : List ℕ) → code < 2 ^ 16 → size < 2 ^ 16 → bytes ≡ u16 order code ++ (u16 order size ++ value) → length value < padded size
       → (is_option wanted long code size ≡ true → length value < long) → Ends order wanted long bytes
 
@@ -70,6 +73,7 @@ abbrev pub value_in : ℕ → Order → ℕ → ℕ → List ℕ → Option (Lis
 value_in zero order wanted long bytes = None
 value_in (suc n) order wanted long bytes =
     if nat_lt (length bytes) 4 then None
+    else if number16 order bytes == 0 then None
     else if is_option wanted long (number16 order bytes) (number16 order (drop 2 bytes)) then front_of long (drop 2 (drop 2 bytes))
     else if nat_lt (length (drop 2 (drop 2 bytes))) (padded (number16 order (drop 2 bytes))) then None
     else value_in n order wanted long (drop (padded (number16 order (drop 2 bytes))) (drop 2 (drop 2 bytes)))

@@ -1,12 +1,12 @@
 -- The item at the front of bytes as a value.
 use Rattle.std.specs.Prelude.{ℕ, zero, suc, ◌+◌, ◌-◌, ◌*◌, ◌%◌, ◌^◌, ◌==◌, min, List, [], length, take, drop, slice_get, Option, Some, None, if◌then◌else◌}
-use Rattle.std.specs.Prelude.{nat_lt}
+use Rattle.std.specs.Prelude.{nat_le, nat_lt, not, Bool, false, ◌&&◌, ◌||◌}
 use Rattle.bt_pcap.specs.Sizes.{keep, need, longest}
 use Rattle.bt_pcap.specs.declared.numbers.Order.{Order}
 use Rattle.bt_pcap.specs.declared.numbers.Order.TheVariants.{Little, Big}
 use Rattle.bt_pcap.specs.declared.interfaces.Interface.{Interface}
 use Rattle.bt_pcap.specs.declared.fault.FileFault.{FileFault}
-use Rattle.bt_pcap.specs.declared.fault.FileFault.TheVariants.{NoCapture, ByteOrder, Length, TooShort, RecordLength}
+use Rattle.bt_pcap.specs.declared.fault.FileFault.TheVariants.{NoCapture, ByteOrder, Length, TooShort, RecordLength, Undescribed, Unlike}
 use Rattle.bt_pcap.specs.Numbers.{number16, number32}
 use Rattle.bt_pcap.specs.Interfaces.{noted}
 use Rattle.bt_pcap.specs.Packets.{recorded, packet_on, simple_on}
@@ -86,6 +86,27 @@ least kind = if kind == 1 then 8 else if kind == 2 then 20 else if kind == 3 the
 unfoldable pub most : ℕ → ℕ
 most kind = if kind == 2 then 20 + longest else if kind == 3 then 4 + longest else if kind == 6 then 20 + longest else 2 ^ 32 - 1
 
+-- whether a block of that type has a packet
+abbrev pub has_packet : ℕ → Bool
+has_packet kind = (kind == 6 || kind == 2) || kind == 3
+
+-- whether a block of that type has no packet though it should: its interface isn't described
+abbrev pub lacks : ℕ → Option Captured → Bool
+lacks kind None = has_packet kind
+lacks kind (Some packet) = false
+
+-- whether a block's length after its body is another one, if it is looked at
+abbrev pub differs : Order → ℕ → List ℕ → Bool
+differs order size bytes = nat_le size need && not (number32 order (drop (size - 4) bytes) == size)
+
+-- a block of that type and size, if its front has come
+abbrev pub whole_block : Order → ℕ → ℕ → List ℕ → Option Captured → Format → Answer
+whole_block order kind size bytes packet next =
+    if nat_lt (length bytes) (min size need) then Undecided
+    else if differs order size bytes then Faulty Unlike
+    else if lacks kind packet then Faulty Undescribed
+    else Item packet size next
+
 -- the body of a block, as far as it is looked at
 abbrev pub body_of : ℕ → List ℕ → List ℕ
 body_of total bytes = take (total - 12) (drop 8 (front total bytes))
@@ -96,10 +117,11 @@ read_other order known kind total bytes =
     if nat_lt total 12 then Faulty Length
     else if nat_lt (total - 12) (least kind) then Faulty TooShort
     else if nat_lt (most kind) (total - 12) then Faulty Length
-    else whole total bytes (read_packet order known kind (body_of total bytes)) (Pcapng order (read_interfaces order known kind (body_of total bytes)))
+    else whole_block order kind total bytes (read_packet order known kind (body_of total bytes)) (Pcapng order (read_interfaces order known kind (body_of total bytes)))
 
 abbrev pub read_section_in : Order → ℕ → List ℕ → Answer
-read_section_in order total bytes = if nat_lt total 16 then Faulty Length else whole total bytes None (Pcapng order [])
+read_section_in order total bytes =
+    if nat_lt total 16 then Faulty Length else whole_block order 0x0A0D0D0A total bytes None (Pcapng order [])
 
 unfoldable pub read_section : List ℕ → Answer
 read_section bytes =

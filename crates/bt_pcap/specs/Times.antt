@@ -1,13 +1,9 @@
 -- Time stamps in nanoseconds.
-use Rattle.std.specs.Prelude.{ℕ, ◌+◌, ◌-◌, ◌*◌, ◌/◌, ◌^◌, ℤ, pos, negsuc, min, if◌then◌else◌, nat_lt, nat_le}
-
--- a unit that 64 bits don't hold counts as one second
-abbrev pub fitted : ℕ → ℕ
-fitted unit = if nat_lt unit (2 ^ 64) then unit else 1
+use Rattle.std.specs.Prelude.{ℕ, ◌+◌, ◌-◌, ◌*◌, ◌/◌, ◌^◌, ℤ, pos, negsuc, min, if◌then◌else◌, nat_le}
 
 -- the time stamps in a second, by the option if_tsresol (draft-ietf-opsawg-pcapng 4.2): a power of 2 if the highest bit is set, else of 10
 abbrev pub unit_of : ℕ → ℕ
-unit_of v = fitted (if nat_le 128 v then 2 ^ (v - 128) else 10 ^ v)
+unit_of v = if nat_le 128 v then 2 ^ (v - 128) else 10 ^ v
 
 -- A time that the seconds of the option if_tsoffset are added to (draft-ietf-opsawg-pcapng 4.2). A sum before 1970 counts as 0.
 abbrev pub moved : ℤ → ℕ → ℕ

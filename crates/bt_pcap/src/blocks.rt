@@ -1,12 +1,12 @@
 //! The bodies of pcapng blocks.
-ghost use Rattle.std.specs.Prelude.{◌≡◌, ◌≤◌, length};
+ghost use Rattle.std.specs.Prelude.{◌≡◌, ◌≤◌, length, min};
 ghost use Rattle.std.specs.Option.{option_map};
 ghost use Rattle.bt_pcap.specs.Interfaces.{interfaces_of};
 ghost use Rattle.bt_pcap.specs.Packets.{packet_at as at_time, packet_on, simple_on, snapped};
-ghost use Rattle.bt_pcap.specs.Reading.{read_stamped, read_packet, read_interface, read_interfaces, least, most};
+ghost use Rattle.bt_pcap.specs.Reading.{differs, lacks, read_stamped, read_packet, read_interface, read_interfaces, least, most};
 ghost use Rattle.bt_pcap.specs.Steps.{captured};
 
-use crate::fronts::{KEEP, LONGEST, Packet};
+use crate::fronts::{KEEP, LONGEST, NEED, Packet};
 use crate::interfaces::{Interface, Interfaces};
 use crate::numbers::{Order, at_most, u16_at, u32_at};
 use crate::options::{nanos, offset, resolution};
@@ -43,6 +43,27 @@ pub(crate) fn most_body(kind: u32) -> u32
         SIMPLE => 4 + LONGEST,
         _ => u32::MAX,
     }
+}
+
+/// Tells whether the length after a block's body is another one than that before it, if it is looked at.
+pub(crate) fn is_unlike(order: Order, total: u32, bytes: &[u8]) -> bool
+    requires size { 4 ≤ total }
+    requires enough { min total 1048604 ≤ length bytes.now }
+    ensures { result ≡ differs order total bytes.now }
+{
+    let size = total as usize;
+    if size > NEED {
+        return false;
+    }
+    let (again, _) = u32_at(order, &bytes[size - 4..]);
+    again != total
+}
+
+/// Tells whether a block of that type has no packet, though it should: its interface isn't described.
+pub(crate) fn is_lacking(kind: u32, packet: &Option<Packet>) -> bool
+    ensures { result ≡ lacks kind (option_map captured packet.now) }
+{
+    packet.is_none() && matches!(kind, OBSOLETE | SIMPLE | ENHANCED)
 }
 
 /// Reads an interface description.

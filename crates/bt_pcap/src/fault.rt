@@ -15,6 +15,10 @@ pub enum FileFault {
     TooShort,
     /// The captured length of a pcap record is more than a packet has.
     RecordLength,
+    /// The total length after the body of a pcapng block is another one than that before it.
+    Unlike,
+    /// A packet of a pcapng section is on an interface that isn't described before it, or isn't one of the first `MAX_INTERFACES`.
+    Undescribed,
 }
 
 impl FileFault {
@@ -31,6 +35,10 @@ impl FileFault {
             FileFault::Length => "a block of a pcapng file has an impossible length",
             FileFault::TooShort => "a block of a pcapng file is too short",
             FileFault::RecordLength => "a record of a pcap file has an impossible length",
+            FileFault::Unlike => "the two lengths of a block of a pcapng file differ",
+            FileFault::Undescribed => {
+                "a packet of a pcapng file names an interface that isn't described, or is beyond the first 1,024"
+            }
         }
     }
 }

@@ -7,7 +7,7 @@ ghost use Rattle.bt_pcap.specs.Reading.{read_header, read_first, read_section, r
 ghost use Rattle.bt_pcap.specs.Steps.{Gives};
 ghost use Rattle.bt_pcap.specs.Captures.{Answers, GoesOn};
 
-use crate::blocks::{least_body, most_body, note, packet_of};
+use crate::blocks::{is_lacking, is_unlike, least_body, most_body, note, packet_of};
 use crate::fault::FileFault;
 use crate::fronts::{Step, front, item};
 use crate::interfaces::Interfaces;
@@ -107,6 +107,9 @@ impl CaptureFile {
         let Some(_) = front(bytes, total as usize) else {
             return Ok(Step::More);
         };
+        if is_unlike(order, total, bytes) {
+            return Err(FileFault::Unlike);
+        }
         self.kind = Kind::Pcapng { order };
         self.interfaces.clear();
         Ok(item(None, u64::from(total)))
@@ -137,8 +140,14 @@ impl CaptureFile {
         let Some(front) = front(bytes, total as usize) else {
             return Ok(Step::More);
         };
+        if is_unlike(order, total, bytes) {
+            return Err(FileFault::Unlike);
+        }
         let body = at_most(&front[8..], total as usize - 12);
         let packet = packet_of(order, &self.interfaces, kind, body);
+        if is_lacking(kind, &packet) {
+            return Err(FileFault::Undescribed);
+        }
         note(&mut self.interfaces, order, kind, body);
         Ok(item(packet, u64::from(total)))
     }

@@ -1,8 +1,8 @@
 //! The interfaces of a pcapng section, in a fixed table.
 ghost use Rattle.std.specs.Prelude.{◌≡◌, ◌<◌, ◌≤◌, ◌++◌, [], ◌∷◌, slice_get};
 
-/// The most interfaces of a section that are noted. Packets of further ones are passed over.
-pub const MAX_INTERFACES: usize = 64;
+/// The most interfaces of a section that are noted. A packet of a further one is a fault.
+pub const MAX_INTERFACES: usize = 1024;
 
 /// An interface as its packets need it.
 #[derive(Clone, Copy, Debug)]
@@ -21,7 +21,7 @@ pub(crate) struct Interface {
 pub(crate) struct Interfaces {
     table: [Interface; MAX_INTERFACES],
     count: usize,
-    ghost within: { count ≤ 64 },
+    ghost within: { count ≤ 1024 },
 }
 
 impl Interfaces {

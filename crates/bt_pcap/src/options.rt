@@ -1,10 +1,12 @@
 //! The options of an interface that say what its time stamps mean.
-ghost use Rattle.std.specs.Prelude.{◌≡◌, ◌+◌, ◌*◌, ◌<◌, ◌^◌, length, Some, None, IfSome, MatchOption};
+ghost use Rattle.std.specs.Prelude.{◌≡◌, ◌+◌, ◌*◌, ◌/◌, ◌<◌, ◌≤◌, ◌^◌, length, Some, None, IfSome, MatchOption};
 ghost use Rattle.bt_pcap.specs.Options.{is_option, value_of, resolution_of, offset_of};
-ghost use Rattle.bt_pcap.specs.Times.{fitted, unit_of, moved, nanos_of};
+ghost use Rattle.bt_pcap.specs.Times.{unit_of, moved, nanos_of};
 
 use crate::numbers::{Order, i64_of, u16_at};
 
+/// The code of the option opt_endofopt, after which no option follows.
+const END: u16 = 0;
 /// The code of the option if_tsresol.
 const RESOLUTION: u16 = 9;
 /// The code of the option if_tsoffset.
@@ -19,14 +21,18 @@ fn is_wanted(wanted: u16, long: u16, code: u16, size: u16) -> bool
     code == wanted && size == long
 }
 
-/// Returns the value of the first option that has that code and a value of that length.
+/// Returns the value of the first option that has that code and a value of that length. No option has the code 0.
 fn value(order: Order, options: &[u8], wanted: u16, long: u16) -> Option<&[u8]>
+    requires { 0 < wanted }
     ensures value { MatchOption result (value_of order wanted long options.now ≡ None) (λ v. value_of order wanted long options.now ≡ Some v.now) }
     ensures long { IfSome result (λ v. length v.now ≡ long) }
 {
     let mut rest = options;
     while rest.len() >= 4 {
         let (code, after) = u16_at(order, rest);
+        if code == END {
+            return None;
+        }
         let (size, value) = u16_at(order, after);
         if is_wanted(wanted, long, code, size) {
             return value.get(..usize::from(long));
@@ -60,24 +66,29 @@ pub(crate) fn offset(order: Order, options: &[u8]) -> i64
     }
 }
 
-/// Returns a power, or 1 if 64 bits don't hold it.
-fn power(base: u64, exponent: u8) -> u64
+/// Divides by a power. The quotient by a power that 128 bits don't hold is 0.
+fn divided(nanos: u128, base: u128, exponent: u8) -> u128
     requires { 0 < base }
-    ensures power { result ≡ fitted (base ^ exponent) }
-    ensures positive { 0 < result }
+    ensures quotient { result ≡ nanos / base ^ exponent }
+    ensures within { result ≤ nanos }
 {
-    base.checked_pow(u32::from(exponent)).unwrap_or(1)
+    match base.checked_pow(u32::from(exponent)) {
+        None => 0,
+        Some(unit) => nanos / unit,
+    }
 }
 
-/// Returns the time stamps in a second.
-fn unit(resolution: u8) -> u64
-    ensures unit { result ≡ unit_of resolution }
-    ensures positive { 0 < result }
+/// Returns the nanoseconds of a stamp. Micro- and nanoseconds need no division.
+fn elapsed(ticks: u64, resolution: u8) -> u128
+    ensures time { result ≡ ticks * 1000000000 / unit_of resolution }
+    ensures within { result < 2 ^ 94 }
 {
-    if resolution >= 128 {
-        power(2, resolution - 128)
-    } else {
-        power(10, resolution)
+    let ticks = u128::from(ticks);
+    match resolution {
+        6 => ticks * 1_000,
+        9 => ticks,
+        0..=127 => divided(ticks * 1_000_000_000, 10, resolution),
+        _ => divided(ticks * 1_000_000_000, 2, resolution - 128),
     }
 }
 
@@ -99,6 +110,5 @@ fn later(nanos: u128, offset: i64) -> u128
 pub(crate) fn nanos(ticks: u64, resolution: u8, offset: i64) -> u64
     ensures { result ≡ nanos_of resolution offset ticks }
 {
-    let nanos = u128::from(ticks) * 1_000_000_000 / u128::from(unit(resolution));
-    later(nanos, offset).min(u128::from(u64::MAX)) as u64
+    later(elapsed(ticks, resolution), offset).min(u128::from(u64::MAX)) as u64
 }

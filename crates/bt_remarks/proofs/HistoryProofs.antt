@@ -5,16 +5,18 @@ use Rattle.std.specs.BTreeMap.{btree_map_len}
 use Rattle.bt_remarks.specs.declared.events.Side.{Side}
 use Rattle.bt_remarks.specs.declared.events.Side.TheVariants.{A, B}
 use Rattle.bt_remarks.specs.declared.events.Block.{Block}
-use Rattle.bt_remarks.specs.Said.{Message, Other, Told, other, is_same, said, Kind, Blocks, Metadata, asked, answered, asked_block, asked_metadata}
+use Rattle.bt_remarks.specs.Said.{Message, Other, Told, other, is_same, said, Kind, Blocks, Metadata, asked, cancelled, answered, asked_block, asked_metadata}
 use Rattle.bt_remarks.specs.Said.{answered_block, answered_metadata}
 use Rattle.bt_remarks.specs.declared.halves.Half.{Half}
+use Rattle.bt_remarks.specs.declared.requests.Asked.{Asked}
 use Rattle.bt_remarks.specs.declared.requests.Requests.{Requests}
-use Rattle.bt_remarks.specs.Requests.{Pending, opened, closed, count_after, is_too_much, answered_after, is_unasked, is_again}
+use Rattle.bt_remarks.specs.Requests.{Pending, opened, with_cancel, closed, count_after, is_too_much, answered_after, is_unasked, is_dropped, is_again}
 use Rattle.bt_remarks.specs.Tables.{request_at, IsAfter}
-use Rattle.bt_remarks.specs.Steps.{has, unasks, asks_again, IsHalfAfter}
-use Rattle.bt_remarks.specs.Known.{number_after, is_choking, last_choke, has_all, is_named, choking_after, choke_after, all_after, named_after}
+use Rattle.bt_remarks.specs.Steps.{has, unasks, drops, asks_again, IsHalfAfter}
+use Rattle.bt_remarks.specs.Known.{number_after, has_fast, is_choking, last_choke, has_all, is_named, fast_after, choking_after, choke_after}
+use Rattle.bt_remarks.specs.Known.{unchoke_after, may_be_dropped, all_after, named_after}
 use Rattle.bt_remarks.specs.Known.{allowed_after, came_after, pending, pending_count, overflowed, last_answered}
-use Rattle.bt_remarks.specs.Remarked.{has_unasked, has_again, is_choked, has_choked, is_elsewhere, has_elsewhere}
+use Rattle.bt_remarks.specs.Remarked.{has_unasked, is_again_of, has_again, is_choked, has_choked, is_elsewhere, has_elsewhere}
 use Rattle.bt_remarks.specs.Ends.{late_of, unanswered}
 use Rattle.bt_remarks.specs.Matched.{IsRequests, IsHalf}
 
@@ -36,16 +38,19 @@ looks : (kind : Kind) (side : Side) (events : List Told) (requests : Requests) �
 looks kind side events requests h o = fun_ext (λ i. fun_ext (λ b. h.pending o i b))
 
 requests_step : (kind : Kind) (side : Side) (e : Told) (events : List Told) (old new : Requests) → IsRequests kind side events old
-    → IsAfter (asked kind (said side e)) (answered kind (said (other side) e)) (number_after events) e.mark old new → IsRequests kind side (e ∷ events) new
+    → IsAfter (asked kind (said side e)) (cancelled kind (said side e)) (answered kind (said (other side) e)) (number_after events) e.mark old new
+    → IsRequests kind side (e ∷ events) new
 requests_step kind side e events old new h a =
     let ask = asked kind (said side e) in
+    let cancel = cancelled kind (said side e) in
     let answer = answered kind (said (other side) e) in
     let still : new.overflowed ≡ false → old.overflowed ≡ false = λ o. none_of_or _ _ (sym a.overflowed ∙ o) in
     record {
       overflowed = a.overflowed ∙ or_congr _ _ old.overflowed (λ o. ap (λ f. is_too_much ask f (btree_map_len old.pending))
           (looks kind side events old h o) ∙ ap (is_too_much ask (pending kind side events)) (h.count o))
           ∙ ap (λ o. is_too_much ask (pending kind side events) (pending_count kind side events) || o) h.overflowed;
-      pending = λ o i b. a.pending o i b ∙ ap (λ f. closed answer (opened ask (number_after events) e.mark f) i b) (looks kind side events old h (still o));
+      pending = λ o i b. a.pending o i b ∙ ap (λ f. closed answer (with_cancel cancel (opened ask (number_after events) e.mark f)) i b)
+          (looks kind side events old h (still o));
       count = λ o. a.count o ∙ ap (λ f. count_after ask answer f (btree_map_len old.pending)) (looks kind side events old h (still o))
           ∙ ap (count_after ask answer (pending kind side events)) (h.count (still o));
       answered = λ o. a.answered o ∙ ap (λ f. answered_after answer f old.answered) (looks kind side events old h (still o))
@@ -55,8 +60,11 @@ requests_step kind side e events old new h a =
 pub half_step : (side : Side) (e : Told) (events : List Told) (old new : Half) → IsHalf side events old
     → IsHalfAfter (said side e) (said (other side) e) e.known (number_after events) e.mark old new → IsHalf side (e ∷ events) new
 half_step side e events old new h a = record {
+  fast = a.fast ∙ ap (fast_after (said side e)) h.fast;
   choking = a.choking ∙ ap (choking_after (said side e)) h.choking;
   choke = a.choke ∙ ap (choke_after (said side e) (number_after events)) h.choke;
+  unchoke = a.unchoke ∙ ap (λ c. unchoke_after (said side e) c (number_after events) old.unchoke) h.choking
+      ∙ ap (unchoke_after (said side e) (is_choking side events) (number_after events)) h.unchoke;
   all = a.all ∙ ap (all_after (said side e) e.known) h.all;
   named = λ k. a.named k ∙ ap (named_after (said side e) e.known k) (h.named k);
   allowed = λ k. a.allowed k ∙ ap (allowed_after (said (other side) e) k) (h.allowed k);
@@ -66,7 +74,7 @@ half_step side e events old new h a = record {
 }
 
 requests_stay : (kind : Kind) (side : Side) (events : List Told) (number mark : ℕ) (old new : Requests) → IsRequests kind side events old
-    → IsAfter None None number mark old new → IsRequests kind side events new
+    → IsAfter None None None number mark old new → IsRequests kind side events new
 requests_stay kind side events number mark old new h a =
     let still : new.overflowed ≡ false → old.overflowed ≡ false = λ o. sym a.overflowed ∙ o in
     record {
@@ -79,8 +87,10 @@ requests_stay kind side events number mark old new h a =
 pub half_stays : (side : Side) (events : List Told) (known : Bool) (number mark : ℕ) (old new : Half) → IsHalf side events old
     → IsHalfAfter Other Other known number mark old new → IsHalf side events new
 half_stays side events known number mark old new h a = record {
+  fast = a.fast ∙ h.fast;
   choking = a.choking ∙ h.choking;
   choke = a.choke ∙ h.choke;
+  unchoke = a.unchoke ∙ h.unchoke;
   all = a.all ∙ h.all;
   named = λ k. a.named k ∙ h.named k;
   allowed = λ k. a.allowed k ∙ h.allowed k;
@@ -101,12 +111,23 @@ unasked_is kind side events requests (Some block) h =
     by_known (is_unasked (Some block)) requests.overflowed (request_at requests) (pending kind side events) refl (looks kind side events requests h)
     ∙ ap (λ o. is_unasked (Some block) o (pending kind side events)) h.overflowed
 
-pub again_is : (kind : Kind) (side : Side) (events : List Told) (requests : Requests) (ask : Option Block) → IsRequests kind side events requests
-    → is_again ask requests.overflowed (request_at requests) ≡ is_again ask (overflowed kind side events) (pending kind side events)
-again_is kind side events requests None h = refl
-again_is kind side events requests (Some block) h =
-    by_known (is_again (Some block)) requests.overflowed (request_at requests) (pending kind side events) refl (looks kind side events requests h)
-    ∙ ap (λ o. is_again (Some block) o (pending kind side events)) h.overflowed
+pub again_is : (kind : Kind) (side : Side) (events : List Told) (requests : Requests) (ask : Option Block) (dropped : Asked → Bool)
+    → IsRequests kind side events requests
+    → is_again ask requests.overflowed dropped (request_at requests) ≡ is_again ask (overflowed kind side events) dropped (pending kind side events)
+again_is kind side events requests None dropped h = refl
+again_is kind side events requests (Some block) dropped h =
+    by_known (λ o p. is_again (Some block) o dropped p) requests.overflowed (request_at requests) (pending kind side events) refl
+    (looks kind side events requests h)
+    ∙ ap (λ o. is_again (Some block) o dropped (pending kind side events)) h.overflowed
+
+-- what may have been dropped, as the code keeps it
+drops_is : (side : Side) (events : List Told) (mine theirs : Half) → IsHalf side events mine → IsHalf (other side) events theirs
+    → drops mine theirs ≡ may_be_dropped Blocks side events
+drops_is side events mine theirs h g =
+    ap (λ f. is_dropped (f && theirs.has_fast) theirs.is_choking theirs.unchoke) h.fast
+    ∙ ap (λ f. is_dropped (has_fast side events && f) theirs.is_choking theirs.unchoke) g.fast
+    ∙ ap (λ c. is_dropped (has_fast side events && has_fast (other side) events) c theirs.unchoke) g.choking
+    ∙ ap (is_dropped (has_fast side events && has_fast (other side) events) (is_choking (other side) events)) g.unchoke
 
 -- each remark, from what the code keeps of the event's side and of the other side
 pub has_unasked_is : (e : Told) (events : List Told) (theirs : Half) → IsHalf (other e.side) events theirs
@@ -117,13 +138,16 @@ has_unasked_is e events theirs h =
     ∙ ap (λ x. e.known && (is_unasked (answered_block e.message) (overflowed Blocks (other e.side) events) (pending Blocks
     (other e.side) events) || x)) (unasked_is Metadata (other e.side) events theirs.metadata (answered_metadata e.message) h.metadata)
 
-pub has_again_is : (e : Told) (events : List Told) (mine : Half) → IsHalf e.side events mine
-    → asks_again mine e.message ≡ has_again e events
-has_again_is e events mine h =
-    ap (λ x. x || is_again (asked_metadata e.message) mine.metadata.overflowed (request_at mine.metadata))
-    (again_is Blocks e.side events mine.blocks (asked_block e.message) h.blocks)
-    ∙ ap (λ x. is_again (asked_block e.message) (overflowed Blocks e.side events) (pending Blocks e.side events) || x)
-    (again_is Metadata e.side events mine.metadata (asked_metadata e.message) h.metadata)
+pub has_again_is : (e : Told) (events : List Told) (mine theirs : Half) → IsHalf e.side events mine → IsHalf (other e.side) events theirs
+    → (e.known && asks_again mine theirs e.message) ≡ has_again e events
+has_again_is e events mine theirs h g =
+    ap (λ d. e.known && (is_again (asked_block e.message) mine.blocks.overflowed d (request_at mine.blocks)
+    || is_again (asked_metadata e.message) mine.metadata.overflowed (λ request. false) (request_at mine.metadata)))
+    (drops_is e.side events mine theirs h g)
+    ∙ ap (λ x. e.known && (x || is_again (asked_metadata e.message) mine.metadata.overflowed (λ request. false) (request_at mine.metadata)))
+    (again_is Blocks e.side events mine.blocks (asked_block e.message) (may_be_dropped Blocks e.side events) h.blocks)
+    ∙ ap (λ x. e.known && (is_again_of Blocks e events || x))
+    (again_is Metadata e.side events mine.metadata (asked_metadata e.message) (λ request. false) h.metadata)
 
 pub has_choked_is : (e : Told) (events : List Told) (mine theirs : Half) → IsHalf e.side events mine → IsHalf (other e.side) events theirs
     → (e.known && is_choked e.message theirs.is_choking (has mine.allowed)) ≡ has_choked e events

@@ -1,10 +1,10 @@
 -- The keys of the table of requests.
-use Rattle.std.proofs.Common.{◌≡◌, ◌+◌, ◌-◌, ℕ, Bool, true, false, ◌&&◌, ◌||◌, cond, if◌then◌else◌, is_some, max, Option, Some, None, refl, sym, ◌∙◌, ap, arith}
+use Rattle.std.proofs.Common.{◌≡◌, ◌+◌, ◌-◌, ℕ, Bool, true, false, ◌&&◌, ◌||◌, eqb, cond, if◌then◌else◌, is_some, max, Option, Some, None, refl, sym, ◌∙◌, ap, arith}
 use Rattle.std.proofs.lemmas.Bool.Decides.{nat_tests}
 use Rattle.std.specs.Ordering.{nat_cmp, ordering_then, is_eq}
 use Rattle.bt_remarks.specs.declared.requests.Asked.{Asked}
 use Rattle.bt_remarks.specs.declared.events.Block.{Block}
-use Rattle.bt_remarks.specs.Requests.{Pending, has_length, is_at, closed, later_of}
+use Rattle.bt_remarks.specs.Requests.{Pending, has_length, is_at, marked, with_cancel, closed, later_of}
 
 -- Keys are equal exactly if their parts are.
 pub key_test : (block : Block) (i b : ℕ) → is_eq (ordering_then (nat_cmp block.index i) (nat_cmp block.begin b)) ≡ is_at block i b
@@ -26,6 +26,33 @@ removed block pending i b h =
     (λ here.
     let same = at_same block i b here in
     ap (λ k. has_length block.length (pending k b)) (sym same.0) ∙ ap (λ k. has_length block.length (pending block.index k)) (sym same.1) ∙ h)
+
+-- what a table has after the request of a cancel was marked
+abbrev cancelled_one : ℕ → Asked → Asked
+cancelled_one n request = record request { is_cancelled = eqb request.length n || request.is_cancelled }
+
+marked_cases : (at : Bool) (o : Option Asked) (request : Asked) (n : ℕ) → (at ≡ true → o ≡ Some request)
+    → cond at (Some (cancelled_one n request)) o ≡ marked (λ m. at && eqb m n) o
+marked_cases true o request n h = ap (λ r. marked (λ m. eqb m n) r) (sym (h refl))
+marked_cases false None request n h = refl
+marked_cases false (Some one) request n h = refl
+
+pub cancelled_there : (block : Block) (pending : Pending) (i b : ℕ) (request : Asked) → pending block.index block.begin ≡ Some request
+    → cond (is_at block i b) (Some (cancelled_one block.length request)) (pending i b) ≡ with_cancel (Some block) pending i b
+cancelled_there block pending i b request h =
+    marked_cases (is_at block i b) (pending i b) request block.length
+    (λ here. let same = at_same block i b here in ap (λ k. pending k b) (sym same.0) ∙ ap (pending block.index) (sym same.1) ∙ h)
+
+unmarked_cases : (at : Bool) (o : Option Asked) (n : ℕ) → (at ≡ true → o ≡ None) → o ≡ marked (λ m. at && eqb m n) o
+unmarked_cases at None n h = refl
+unmarked_cases true (Some one) n h = cc (h refl)
+unmarked_cases false (Some one) n h = refl
+
+pub cancelled_nowhere : (block : Block) (pending : Pending) (i b : ℕ) → pending block.index block.begin ≡ None
+    → pending i b ≡ with_cancel (Some block) pending i b
+cancelled_nowhere block pending i b h =
+    unmarked_cases (is_at block i b) (pending i b) block.length
+    (λ here. let same = at_same block i b here in ap (λ k. pending k b) (sym same.0) ∙ ap (pending block.index) (sym same.1) ∙ h)
 
 pub fewer : (b : Bool) (n m : ℕ) → b ≡ true → m + 1 ≡ n → m ≡ (if b then n - 1 else n)
 fewer true n m h e = omega arith

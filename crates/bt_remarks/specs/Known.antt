@@ -1,13 +1,24 @@
 -- What the events so far show of a side. The newest event stands first.
-use Rattle.std.specs.Prelude.{ℕ, ◌||◌, ◌+◌, Bool, true, false, List, [], ◌∷◌, length, None, if◌then◌else◌}
+use Rattle.std.specs.Prelude.{ℕ, ◌&&◌, ◌||◌, ◌+◌, Bool, true, false, List, [], ◌∷◌, length, None, if◌then◌else◌}
 use Rattle.bt_remarks.specs.declared.events.Side.{Side}
-use Rattle.bt_remarks.specs.Said.{Message, Choke, Unchoke, AllowedFast, HaveAll, Bitfield, Have, Piece, Told, other, said, Kind, asked, answered}
+use Rattle.bt_remarks.specs.declared.requests.Asked.{Asked}
+use Rattle.bt_remarks.specs.Said.{Message, Handshake, Choke, Unchoke, AllowedFast, HaveAll, Bitfield, Have, Piece, Told, other, said}
+use Rattle.bt_remarks.specs.Said.{Kind, Blocks, Metadata, asked, cancelled, answered}
 use Rattle.bt_remarks.specs.Sets.{with_piece, with_field}
-use Rattle.bt_remarks.specs.Requests.{Pending, opened, closed, count_after, is_too_much, answered_after}
+use Rattle.bt_remarks.specs.Requests.{Pending, opened, with_cancel, closed, count_after, is_too_much, answered_after, is_dropped}
 
 -- an event's number, after these
 abbrev pub number_after : List Told → ℕ
 number_after earlier = length earlier + 1
+
+abbrev pub fast_after : Message → Bool → Bool
+fast_after (Handshake fast) before = fast
+fast_after _ before = before
+
+-- whether a side's handshake has the bit of the Fast Extension (BEP 6)
+abbrev pub has_fast : Side → List Told → Bool
+has_fast side [] = false
+has_fast side (e ∷ earlier) = fast_after (said side e) (has_fast side earlier)
 
 abbrev pub choking_after : Message → Bool → Bool
 choking_after Choke before = true
@@ -27,6 +38,15 @@ choke_after _ number before = before
 abbrev pub last_choke : Side → List Told → ℕ
 last_choke side [] = 0
 last_choke side (e ∷ earlier) = choke_after (said side e) (number_after earlier) (last_choke side earlier)
+
+abbrev pub unchoke_after : Message → Bool → ℕ → ℕ → ℕ
+unchoke_after Unchoke choking number before = if choking then number else before
+unchoke_after _ choking number before = before
+
+-- the number of the unchoke with which a side last stopped choking, or 0
+abbrev pub last_unchoke : Side → List Told → ℕ
+last_unchoke side [] = 0
+last_unchoke side (e ∷ earlier) = unchoke_after (said side e) (is_choking side earlier) (number_after earlier) (last_unchoke side earlier)
 
 abbrev pub all_after : Message → Bool → Bool → Bool
 all_after HaveAll known before = known || before
@@ -65,11 +85,13 @@ abbrev pub has_come : Side → List Told → ℕ → Bool
 has_come side [] piece = false
 has_come side (e ∷ earlier) piece = came_after (said (other side) e) piece (has_come side earlier piece)
 
--- a side's requests that are pending: without a later answer of their block and length, and without a later request of their block
+-- A side's requests that are pending: without a later answer of their block and length, and without a later request of their block. Each is marked if
+-- it was cancelled.
 abbrev pub pending : Kind → Side → List Told → Pending
 pending kind side [] index begin = None
 pending kind side (e ∷ earlier) index begin =
-    closed (answered kind (said (other side) e)) (opened (asked kind (said side e)) (number_after earlier) e.mark (pending kind side earlier)) index begin
+    closed (answered kind (said (other side) e)) (with_cancel (cancelled kind (said side e))
+    (opened (asked kind (said side e)) (number_after earlier) e.mark (pending kind side earlier))) index begin
 
 -- how many they are
 abbrev pub pending_count : Kind → Side → List Told → ℕ
@@ -88,3 +110,9 @@ abbrev pub last_answered : Kind → Side → List Told → ℕ
 last_answered kind side [] = 0
 last_answered kind side (e ∷ earlier) =
     answered_after (answered kind (said (other side) e)) (pending kind side earlier) (last_answered kind side earlier)
+
+-- whether a pending request of a side may have been dropped; none of a piece of the metadata
+abbrev pub may_be_dropped : Kind → Side → List Told → Asked → Bool
+may_be_dropped Blocks side events =
+    is_dropped (has_fast side events && has_fast (other side) events) (is_choking (other side) events) (last_unchoke (other side) events)
+may_be_dropped Metadata side events = λ request. false

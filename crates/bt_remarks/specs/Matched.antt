@@ -13,7 +13,7 @@ use Rattle.bt_remarks.specs.Remarked.{tally_of, tally_after, remarks_on}
 use Rattle.bt_remarks.specs.Steps.{has}
 use Rattle.bt_remarks.specs.Tables.{request_at}
 use Rattle.bt_remarks.specs.Known.{number_after}
-use Rattle.bt_remarks.specs.Known.{is_choking, last_choke, has_all, is_named, is_allowed, has_come, pending, pending_count, overflowed, last_answered}
+use Rattle.bt_remarks.specs.Known.{has_fast, is_choking, last_choke, last_unchoke, has_all, is_named, is_allowed, has_come, pending, pending_count, overflowed, last_answered}
 
 pub record IsRequests (kind : Kind) (side : Side) (events : List Told) (requests : Requests) : Type 0 where
   pub overflowed : requests.overflowed ≡ overflowed kind side events
@@ -22,8 +22,10 @@ pub record IsRequests (kind : Kind) (side : Side) (events : List Told) (requests
   pub answered : requests.overflowed ≡ false → requests.answered ≡ last_answered kind side events
 
 pub record IsHalf (side : Side) (events : List Told) (half : Half) : Type 0 where
+  pub fast : half.has_fast ≡ has_fast side events
   pub choking : half.is_choking ≡ is_choking side events
   pub choke : half.choke ≡ last_choke side events
+  pub unchoke : half.unchoke ≡ last_unchoke side events
   pub all : half.has_all ≡ has_all side events
   pub named : (k : ℕ) → has half.named k ≡ is_named side events k
   pub allowed : (k : ℕ) → has half.allowed k ≡ is_allowed side events k

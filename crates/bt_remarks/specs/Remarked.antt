@@ -1,13 +1,13 @@
 -- The remarks on an event, by the events before it.
 use Rattle.std.specs.Prelude.{ℕ, ◌&&◌, ◌||◌, ◌+◌, not, Bool, true, false, List, [], ◌∷◌, Option, Some, None, if◌then◌else◌}
 use Rattle.bt_remarks.specs.declared.events.Side.{Side}
-use Rattle.bt_remarks.specs.Said.{Message, Have, Request, Told, other, is_same, asked, answered, Blocks, Metadata}
+use Rattle.bt_remarks.specs.Said.{Message, Have, Request, Told, other, is_same, asked, answered, Kind, Blocks, Metadata}
 use Rattle.bt_remarks.specs.declared.events.Remarks.{Remarks}
 use Rattle.bt_remarks.specs.declared.tallies.Found.{Found}
 use Rattle.bt_remarks.specs.declared.tallies.Tally.{Tally}
 use Rattle.bt_remarks.specs.Sets.{is_noted}
 use Rattle.bt_remarks.specs.Requests.{is_unasked, is_again}
-use Rattle.bt_remarks.specs.Known.{is_choking, has_all, is_named, is_allowed, has_come, pending, overflowed}
+use Rattle.bt_remarks.specs.Known.{is_choking, has_all, is_named, is_allowed, has_come, pending, may_be_dropped, overflowed}
 
 -- unasked: an answer, known, without a pending request of its block and length
 abbrev pub has_unasked : Told → List Told → Bool
@@ -15,11 +15,13 @@ has_unasked e earlier =
     e.known && (is_unasked (answered Blocks e.message) (overflowed Blocks (other e.side) earlier) (pending Blocks (other e.side) earlier)
     || is_unasked (answered Metadata e.message) (overflowed Metadata (other e.side) earlier) (pending Metadata (other e.side) earlier))
 
--- again: a request of a block with a pending one
+abbrev pub is_again_of : Kind → Told → List Told → Bool
+is_again_of kind e earlier =
+    is_again (asked kind e.message) (overflowed kind e.side earlier) (may_be_dropped kind e.side earlier) (pending kind e.side earlier)
+
+-- again: a request, known, of a block with a pending one that wasn't dropped
 abbrev pub has_again : Told → List Told → Bool
-has_again e earlier =
-    is_again (asked Blocks e.message) (overflowed Blocks e.side earlier) (pending Blocks e.side earlier)
-    || is_again (asked Metadata e.message) (overflowed Metadata e.side earlier) (pending Metadata e.side earlier)
+has_again e earlier = e.known && (is_again_of Blocks e earlier || is_again_of Metadata e earlier)
 
 abbrev pub is_choked : Message → Bool → (ℕ → Bool) → Bool
 is_choked (Request block) choking allowed = choking && not (allowed block.index)

@@ -20,7 +20,21 @@ has_length n (Some request) = request.length == n
 abbrev pub opened : Option Block → ℕ → ℕ → Pending → Pending
 opened None number mark pending index begin = pending index begin
 opened (Some block) number mark pending index begin =
-    if is_at block index begin then Some (record { number = number; length = block.length; mark = mark }) else pending index begin
+    if is_at block index begin then Some (record { number = number; length = block.length; mark = mark; is_cancelled = false }) else pending index begin
+
+-- whether a cancel is of this block and length
+abbrev pub is_cancel : Option Block → ℕ → ℕ → ℕ → Bool
+is_cancel None index begin n = false
+is_cancel (Some block) index begin n = is_at block index begin && n == block.length
+
+abbrev pub marked : (ℕ → Bool) → Option Asked → Option Asked
+marked cancels None = None
+marked cancels (Some request) = Some (record request { is_cancelled = cancels request.length || request.is_cancelled })
+
+-- A cancel of its block and length marks a request, which stays pending: its answer may be under way.
+abbrev pub with_cancel : Option Block → Pending → Pending
+with_cancel None pending index begin = pending index begin
+with_cancel (Some block) pending index begin = marked (is_cancel (Some block) index begin) (pending index begin)
 
 -- An answer of its block and length closes a request.
 abbrev pub closed : Option Block → Pending → Pending
@@ -53,10 +67,19 @@ abbrev pub is_unasked : Option Block → Bool → Pending → Bool
 is_unasked None overflowed pending = false
 is_unasked (Some block) overflowed pending = not overflowed && not (has_length block.length (pending block.index block.begin))
 
--- whether a request is of a block with a pending one
-abbrev pub is_again : Option Block → Bool → Pending → Bool
-is_again None overflowed pending = false
-is_again (Some block) overflowed pending = not overflowed && is_some (pending block.index block.begin)
+-- Whether a pending request may have been dropped. With the Fast Extension of both sides each is answered (BEP 6). Without it a choke rejects all
+-- that are pending, and a cancel its own: the other side chokes, or has stopped to choke since the request, or it was cancelled.
+abbrev pub is_dropped : Bool → Bool → ℕ → Asked → Bool
+is_dropped fast choking unchoke request = not fast && (choking || nat_lt request.number unchoke || request.is_cancelled)
+
+abbrev pub stands : (Asked → Bool) → Option Asked → Bool
+stands dropped None = false
+stands dropped (Some request) = not (dropped request)
+
+-- whether a request is of a block with a pending one that wasn't dropped
+abbrev pub is_again : Option Block → Bool → (Asked → Bool) → Pending → Bool
+is_again None overflowed dropped pending = false
+is_again (Some block) overflowed dropped pending = not overflowed && stands dropped (pending block.index block.begin)
 
 -- whether a pending request is older than a later event that should have followed its answer, or the other side closed
 abbrev pub is_late : Bool → ℕ → Asked → Bool

@@ -9,6 +9,7 @@ use Rattle.bt_remarks.specs.declared.events.Heard.{Heard}
 
 -- A message, as far as remarks need it.
 pub data Message : Type 0 where
+  Handshake : (fast : Bool) → Message
   Choke : Message
   Unchoke : Message
   AllowedFast : (piece : ℕ) → Message
@@ -16,6 +17,7 @@ pub data Message : Type 0 where
   Bitfield : (field : List ℕ) → Message
   Have : (piece : ℕ) → Message
   Request : (block : Block) → Message
+  Cancel : (block : Block) → Message
   Piece : (block : Block) → Message
   Reject : (block : Block) → Message
   MetadataRequest : (piece : ℕ) → Message
@@ -23,6 +25,7 @@ pub data Message : Type 0 where
   Other : Message
 
 abbrev pub message_of : Event → Message
+message_of (event.Handshake fast) = Handshake fast
 message_of event.Choke = Choke
 message_of event.Unchoke = Unchoke
 message_of (event.AllowedFast piece) = AllowedFast piece
@@ -30,6 +33,7 @@ message_of event.HaveAll = HaveAll
 message_of (event.Bitfield field) = Bitfield field.now
 message_of (event.Have piece) = Have piece
 message_of (event.Request block) = Request block
+message_of (event.Cancel block) = Cancel block
 message_of (event.Piece block) = Piece block
 message_of (event.Reject block) = Reject block
 message_of (event.MetadataRequest piece) = MetadataRequest piece
@@ -82,6 +86,15 @@ asked_metadata _ = None
 abbrev pub asked : Kind → Message → Option Block
 asked Blocks message = asked_block message
 asked Metadata message = asked_metadata message
+
+-- what a message cancels: a block (BEP 3, "cancel"); no message cancels a piece of the metadata
+abbrev pub cancelled_block : Message → Option Block
+cancelled_block (Cancel block) = Some block
+cancelled_block _ = None
+
+abbrev pub cancelled : Kind → Message → Option Block
+cancelled Blocks message = cancelled_block message
+cancelled Metadata message = None
 
 -- the block that a message sends or rejects (BEP 6, "Reject Request")
 abbrev pub answered_block : Message → Option Block

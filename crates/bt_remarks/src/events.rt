@@ -20,6 +20,10 @@ pub struct Block {
 /// The numbers are indexes of pieces, for `MetadataRequest` and `MetadataAnswer` of the metadata's pieces.
 #[derive(Clone, Copy, Debug)]
 pub enum Event<'a> {
+    Handshake {
+        /// Whether it has the bit of the Fast Extension.
+        fast: bool,
+    },
     Choke,
     Unchoke,
     AllowedFast(u32),
@@ -27,6 +31,7 @@ pub enum Event<'a> {
     Bitfield(&'a [u8]),
     Have(u32),
     Request(Block),
+    Cancel(Block),
     /// A block with its data.
     Piece(Block),
     Reject(Block),
@@ -55,7 +60,7 @@ pub struct Remarks {
     pub unasked: bool,
     /// A request while its sender was choked.
     pub choked: bool,
-    /// A request again before its answer.
+    /// A request again before its answer, though the other side hasn't dropped the first one.
     pub again: bool,
     /// A have of a piece that never came here.
     pub elsewhere: bool,

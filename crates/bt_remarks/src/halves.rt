@@ -28,9 +28,13 @@ fn metadata_piece(piece: u32) -> Block
 /// What is known of a side.
 #[derive(Debug, Drop)]
 pub struct Half {
+    /// Whether its handshake has the bit of the Fast Extension.
+    has_fast: bool,
     is_choking: bool,
     /// The number of its last choke, or 0.
     choke: u64,
+    /// The number of the unchoke with which it last stopped choking, or 0.
+    unchoke: u64,
     has_all: bool,
     /// The pieces that it has named.
     named: PieceSet,
@@ -48,8 +52,10 @@ impl Half {
         ensures { (side : Side) → IsHalf side [] result }
     {
         Half {
+            has_fast: false,
             is_choking: true,
             choke: 0,
+            unchoke: 0,
             has_all: false,
             named: PieceSet::new(alloc),
             allowed: PieceSet::new(alloc),
@@ -82,12 +88,19 @@ impl Half {
         ensures err { OnErr result (IsHalfAfter Other Other known number mark self.old self.new) }
     {
         match *event {
+            Event::Handshake { fast } => {
+                self.has_fast = fast;
+                Ok(())
+            }
             Event::Choke => {
                 self.is_choking = true;
                 self.choke = number;
                 Ok(())
             }
             Event::Unchoke => {
+                if self.is_choking {
+                    self.unchoke = number;
+                }
                 self.is_choking = false;
                 Ok(())
             }
@@ -98,6 +111,10 @@ impl Half {
             Event::Bitfield(field) if known => self.named.insert_all(field),
             Event::Have(piece) if known => self.named.insert(piece),
             Event::Request(block) => self.blocks.ask(block, number, mark),
+            Event::Cancel(block) => {
+                self.blocks.cancel(block);
+                Ok(())
+            }
             Event::MetadataRequest(piece) => self.metadata.ask(metadata_piece(piece), number, mark),
             _ => Ok(()),
         }
@@ -147,14 +164,24 @@ impl Half {
         }
     }
 
-    /// Tells whether a request of this side is of a block with a pending one.
+    /// Tells whether a request of this side is of a block with a pending one that the other side hasn't dropped.
     #[inline(always)]
-    pub fn is_again(&self, event: &Event) -> bool
-        ensures { result ≡ asks_again self.now (message_of event.now) }
+    pub fn is_again(&self, theirs: &Half, event: &Event, known: bool) -> bool
+        ensures { result ≡ (known && asks_again self.now theirs.now (message_of event.now)) }
     {
+        if !known {
+            return false;
+        }
         match *event {
-            Event::Request(block) => self.blocks.is_again(block),
-            Event::MetadataRequest(piece) => self.metadata.is_again(metadata_piece(piece)),
+            Event::Request(block) => {
+                let fast = self.has_fast && theirs.has_fast;
+                self.blocks
+                    .is_again(block, fast, theirs.is_choking, theirs.unchoke)
+            }
+            Event::MetadataRequest(piece) => {
+                let block = metadata_piece(piece);
+                self.metadata.is_again(block, true, false, 0)
+            }
             _ => false,
         }
     }

@@ -47,7 +47,7 @@ fn remarks_on(mine: &Half, theirs: &Half, heard: &Heard) -> Remarks
     Remarks {
         unasked: theirs.is_unasked(&heard.event, heard.known),
         choked: mine.is_choked(theirs, &heard.event, heard.known),
-        again: mine.is_again(&heard.event),
+        again: mine.is_again(theirs, &heard.event, heard.known),
         elsewhere: mine.is_elsewhere(&heard.event, heard.known),
     }
 }

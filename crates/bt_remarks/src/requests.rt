@@ -1,8 +1,8 @@
 //! The pending requests of a side.
-ghost use Rattle.std.specs.Prelude.{◌≡◌, ◌≤◌, ℕ, None, Some, OnOk, OnErr, count_by, fold, filter, max};
+ghost use Rattle.std.specs.Prelude.{◌≡◌, ◌==◌, ◌||◌, ◌≤◌, ℕ, None, Some, OnOk, OnErr, count_by, fold, filter, max};
 ghost use Rattle.std.specs.BTreeMap.{btree_map_len, values, IsOrdered};
 ghost use Rattle.std.specs.Ordering.{nat_cmp, ordering_then};
-ghost use Rattle.bt_remarks.specs.Requests.{has_length, is_unasked, is_again, is_too_much, is_late, sooner, request_of};
+ghost use Rattle.bt_remarks.specs.Requests.{has_length, is_unasked, is_dropped, is_again, is_too_much, is_late, sooner, request_of};
 ghost use Rattle.bt_remarks.specs.Ends.{late_of, AreFoundOf};
 ghost use Rattle.bt_remarks.specs.Tables.{request_at, IsNew, IsAfter};
 
@@ -24,6 +24,7 @@ pub struct Asked {
     pub number: u64,
     pub length: u32,
     pub mark: u64,
+    pub is_cancelled: bool,
 }
 
 /// Tells whether a request should have been answered before a later event.
@@ -31,6 +32,26 @@ fn is_late(asked: Asked, closed: bool, later: u64) -> bool
     ensures { result ≡ is_late closed later asked }
 {
     closed || asked.number < later
+}
+
+/// Returns a request after a cancel of its block and of this length.
+fn marked(asked: Asked, length: u32) -> Asked
+    ensures { result ≡ record asked { is_cancelled = asked.length == length || asked.is_cancelled } }
+{
+    Asked {
+        is_cancelled: asked.length == length || asked.is_cancelled,
+        ..asked
+    }
+}
+
+/// Tells whether the other side may have dropped a request.
+///
+/// `fast` says whether both sides have the Fast Extension, `choking` whether the other side chokes, and `unchoke` is the number of the
+/// event with which it stopped.
+fn is_dropped(asked: Asked, fast: bool, choking: bool, unchoke: u64) -> bool
+    ensures { result ≡ is_dropped fast choking unchoke asked }
+{
+    !fast && (choking || asked.number < unchoke || asked.is_cancelled)
 }
 
 /// Returns the earlier of two requests, which have their keys.
@@ -106,11 +127,19 @@ impl Requests {
         !self.overflowed && !self.has(block)
     }
 
-    /// Tells whether a block was asked for before.
-    pub fn is_again(&self, block: Block) -> bool
-        ensures { result ≡ is_again (Some block) self.now.overflowed (request_at self.now) }
+    /// Tells whether a request of a block is pending that the other side hasn't dropped.
+    ///
+    /// `fast`, `choking` and `unchoke` are those of `is_dropped`.
+    pub fn is_again(&self, block: Block, fast: bool, choking: bool, unchoke: u64) -> bool
+        ensures { result ≡ is_again (Some block) self.now.overflowed (is_dropped fast choking unchoke) (request_at self.now) }
     {
-        !self.overflowed && self.pending.contains_key(&(block.index, block.begin))
+        if self.overflowed {
+            return false;
+        }
+        match self.pending.get(&(block.index, block.begin)) {
+            Some(asked) => !is_dropped(*asked, fast, choking, unchoke),
+            None => false,
+        }
     }
 
     /// Tells whether a request finds no room.
@@ -125,8 +154,8 @@ impl Requests {
     /// # Errors
     /// `AllocError` if memory runs out. The requests are as before.
     pub fn ask(&mut self, block: Block, number: u64, mark: u64) -> Result<(), AllocError>
-        ensures ok { OnOk result (IsAfter (Some block) None number mark self.old self.new) }
-        ensures err { OnErr result (IsAfter None None number mark self.old self.new) }
+        ensures ok { OnOk result (IsAfter (Some block) None None number mark self.old self.new) }
+        ensures err { OnErr result (IsAfter None None None number mark self.old self.new) }
     {
         if self.overflowed {
             return Ok(());
@@ -140,14 +169,24 @@ impl Requests {
             number,
             length: block.length,
             mark,
+            is_cancelled: false,
         };
         self.pending.insert((block.index, block.begin), asked)?;
         Ok(())
     }
 
+    /// Marks the request of a block as cancelled, if it is pending and of the block's length.
+    pub fn cancel(&mut self, block: Block)
+        ensures { (number mark : ℕ) → IsAfter None (Some block) None number mark self.old self.new }
+    {
+        if let Some(asked) = self.pending.get_mut(&(block.index, block.begin)) {
+            *asked = marked(*asked, block.length);
+        }
+    }
+
     /// Closes the request of a block, if it is pending and of the block's length.
     pub fn answer(&mut self, block: Block)
-        ensures { (number mark : ℕ) → IsAfter None (Some block) number mark self.old self.new }
+        ensures { (number mark : ℕ) → IsAfter None None (Some block) number mark self.old self.new }
     {
         let key = (block.index, block.begin);
         let number = match self.pending.get(&key) {

@@ -12,7 +12,7 @@ use Rattle.bt_remarks.specs.declared.tallies.Request.{Request}
 use Rattle.bt_remarks.specs.Ends.{IsAsked}
 use Rattle.bt_remarks.specs.Said.{Told, Message, Request as AsksFor, Other, is_same}
 use Rattle.bt_text.specs.Lines.{words as words_of}
-use Rattle.bt_told.specs.Said.{words_text}
+use Rattle.bt_rows.specs.Said.{words_text}
 use Rattle.bt_wire.specs.declared.item.Item.{Item}
 use Rattle.bt_wire.specs.declared.item.Item.TheVariants as items
 use Rattle.bt_wire.specs.Messages.{Message as WireMessage}

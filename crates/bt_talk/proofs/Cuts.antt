@@ -9,8 +9,8 @@ use Rattle.bt_judge.proofs.Both.{free_now}
 use Rattle.bt_judge.specs.declared.judge.Judge.{Judge}
 use Rattle.bt_judge.specs.Judges.{AreJudged, under}
 use Rattle.bt_judge.specs.Readings.{IsStanding}
-use Rattle.bt_told.specs.declared.report.Last.TheVariants.{Nothing, Item as LastItem, Refused}
-use Rattle.bt_told.specs.declared.said.Said.{Said}
+use Rattle.bt_rows.specs.declared.noted.Last.TheVariants.{Nothing, Item as LastItem, Refused}
+use Rattle.bt_rows.specs.declared.said.Said.{Said}
 use Rattle.bt_wire.specs.declared.context.Own.{Own}
 use Rattle.bt_wire.specs.declared.item.Item.{Item}
 use Rattle.bt_wire.specs.declared.item.Refusal.{Refusal}

@@ -22,6 +22,8 @@ use Rattle.bt_talk.specs.declared.talk.Talk.{Talk}
 use Rattle.bt_talk.specs.declared.terms.Terms.{Terms}
 use Rattle.bt_talk.specs.declared.watch.Watch.{Watch}
 use Rattle.bt_talk.specs.Cuts.{cut_after}
+use Rattle.bt_talk.specs.Strays.{heeded}
+use Rattle.bt_packet.specs.declared.tcp.Flags.{Flags}
 use Rattle.bt_talk.specs.Pasts.{Past, HasSent}
 use Rattle.bt_talk.specs.Replays.{HasOpened}
 use Rattle.bt_talk.specs.Rows.{Shown}
@@ -32,7 +34,7 @@ use Rattle.bt_talk.specs.Talks.{IsTalk, Takes, TakesAll, IsSender, Says, ShowsTu
 use Rattle.bt_talk.specs.Watching.{IsWatched}
 use Rattle.bt_talk.proofs.Closes.{closes_same}
 use Rattle.bt_talk.proofs.Deeds.{did_same}
-use Rattle.bt_talk.proofs.Marked.{after_same, closed_same, grown_as, grown_same, marked_same}
+use Rattle.bt_talk.proofs.Marked.{after_same, closed_same, grown_as, grown_same, marked_same, strays_as, strays_same}
 use Rattle.bt_talk.proofs.Saying.{says_same, stages_same}
 use Rattle.bt_talk.proofs.Shown.{appends_more, appends_same}
 use Rattle.bt_talk.proofs.Talks.{end_same, flow_same, sent_same, both_same}
@@ -42,13 +44,13 @@ use Rattle.bt_talk.proofs.Watching.{watched_same}
 pub record Alike (t u : Talk) : Type 0 where
   pub terms : u.terms ≡ t.terms
   pub ends : u.ends ≡ t.ends
-  pub a : u.a ≡ t.a
-  pub b : u.b ≡ t.b
-  pub segments : u.segments ≡ t.segments
+  pub a : u.sides.a ≡ t.sides.a
+  pub b : u.sides.b ≡ t.sides.b
+  pub segments : u.sides.segments ≡ t.sides.segments
   pub closing : u.closing ≡ t.closing
-  pub matcher : u.watch.matcher ≡ t.watch.matcher
-  pub a_notes : u.watch.a ≡ t.watch.a
-  pub b_notes : u.watch.b ≡ t.watch.b
+  pub matcher : u.sides.watch.matcher ≡ t.sides.watch.matcher
+  pub a_notes : u.sides.watch.a ≡ t.sides.watch.a
+  pub b_notes : u.sides.watch.b ≡ t.sides.watch.b
 
 pub alike_back : (t u : Talk) → Alike t u → Alike u t
 alike_back t u i = record {
@@ -69,27 +71,27 @@ pub record AreMarked (t u : Talk) : Type 0 where
   pub courses : u.courses ≡ t.courses
 
 -- What rows need was noted, and rows were appended.
-pub after_steps : (t u v x : Talk) → u ≡ record t { courses = u.courses } → v ≡ record u { marks = v.marks }
-    → x ≡ record v { watch = record v.watch { rows = x.watch.rows } } → Alike t x
+pub after_steps : (t u v x : Talk) → u ≡ record t { courses = u.courses } → v ≡ record u { sides = record u.sides { marks = v.sides.marks } }
+    → x ≡ record v { sides = record v.sides { watch = record v.sides.watch { rows = x.sides.watch.rows } } } → Alike t x
 after_steps t u v x e f g = record {
   terms = ap (λ (k : Talk). k.terms) g ∙ ap (λ (k : Talk). k.terms) f ∙ ap (λ (k : Talk). k.terms) e;
   ends = ap (λ (k : Talk). k.ends) g ∙ ap (λ (k : Talk). k.ends) f ∙ ap (λ (k : Talk). k.ends) e;
-  a = ap (λ (k : Talk). k.a) g ∙ ap (λ (k : Talk). k.a) f ∙ ap (λ (k : Talk). k.a) e;
-  b = ap (λ (k : Talk). k.b) g ∙ ap (λ (k : Talk). k.b) f ∙ ap (λ (k : Talk). k.b) e;
-  segments = ap (λ (k : Talk). k.segments) g ∙ ap (λ (k : Talk). k.segments) f ∙ ap (λ (k : Talk). k.segments) e;
+  a = ap (λ (k : Talk). k.sides.a) g ∙ ap (λ (k : Talk). k.sides.a) f ∙ ap (λ (k : Talk). k.sides.a) e;
+  b = ap (λ (k : Talk). k.sides.b) g ∙ ap (λ (k : Talk). k.sides.b) f ∙ ap (λ (k : Talk). k.sides.b) e;
+  segments = ap (λ (k : Talk). k.sides.segments) g ∙ ap (λ (k : Talk). k.sides.segments) f ∙ ap (λ (k : Talk). k.sides.segments) e;
   closing = ap (λ (k : Talk). k.closing) g ∙ ap (λ (k : Talk). k.closing) f ∙ ap (λ (k : Talk). k.closing) e;
-  matcher = ap (λ (k : Talk). k.watch.matcher) g ∙ ap (λ (k : Talk). k.watch.matcher) f ∙ ap (λ (k : Talk). k.watch.matcher) e;
-  a_notes = ap (λ (k : Talk). k.watch.a) g ∙ ap (λ (k : Talk). k.watch.a) f ∙ ap (λ (k : Talk). k.watch.a) e;
-  b_notes = ap (λ (k : Talk). k.watch.b) g ∙ ap (λ (k : Talk). k.watch.b) f ∙ ap (λ (k : Talk). k.watch.b) e;
+  matcher = ap (λ (k : Talk). k.sides.watch.matcher) g ∙ ap (λ (k : Talk). k.sides.watch.matcher) f ∙ ap (λ (k : Talk). k.sides.watch.matcher) e;
+  a_notes = ap (λ (k : Talk). k.sides.watch.a) g ∙ ap (λ (k : Talk). k.sides.watch.a) f ∙ ap (λ (k : Talk). k.sides.watch.a) e;
+  b_notes = ap (λ (k : Talk). k.sides.watch.b) g ∙ ap (λ (k : Talk). k.sides.watch.b) f ∙ ap (λ (k : Talk). k.sides.watch.b) e;
 }
 
-pub watched_alike : (events : List Told) (items : Side → List (ℕ × Item)) (t u : Talk) → Alike t u → IsWatched events items t.watch
-    → IsWatched events items u.watch
-watched_alike events items t u i w = watched_same events items t.watch u.watch i.matcher i.a_notes i.b_notes w
+pub watched_alike : (events : List Told) (items : Side → List (ℕ × Item)) (t u : Talk) → Alike t u → IsWatched events items t.sides.watch
+    → IsWatched events items u.sides.watch
+watched_alike events items t u i w = watched_same events items t.sides.watch u.sides.watch i.matcher i.a_notes i.b_notes w
 
 pub talk_alike : (a b : Past) (t u : Talk) → Alike t u → IsTalk a b t → IsTalk a b u
 talk_alike a b t u i k =
-    let said : IsHeard a b t.a.stage t.b.stage u.watch = record {
+    let said : IsHeard a b t.sides.a.stage t.sides.b.stage u.sides.watch = record {
       events = k.said.events;
       items = k.said.items;
       a_items = k.said.a_items;
@@ -97,11 +99,11 @@ talk_alike a b t u i k =
       watched = watched_alike k.said.events k.said.items t u i k.said.watched;
     } in
     record {
-      a_is = subst (λ (d : Direction). IsDirection u.terms a b d) (sym i.a) (subst (λ (n : Terms). IsDirection n a b t.a) (sym i.terms) k.a_is);
-      b_is = subst (λ (d : Direction). IsDirection u.terms b a d) (sym i.b) (subst (λ (n : Terms). IsDirection n b a t.b) (sym i.terms) k.b_is);
+      a_is = subst (λ (d : Direction). IsDirection u.terms a b d) (sym i.a) (subst (λ (n : Terms). IsDirection n a b t.sides.a) (sym i.terms) k.a_is);
+      b_is = subst (λ (d : Direction). IsDirection u.terms b a d) (sym i.b) (subst (λ (n : Terms). IsDirection n b a t.sides.b) (sym i.terms) k.b_is);
       stages = ap (λ (d : Direction). is_opening d.stage) i.a ∙ k.stages ∙ sym (ap (λ (d : Direction). is_opening d.stage) i.b);
-      said = subst (λ (d : Direction). IsHeard a b d.stage u.b.stage u.watch) (sym i.a)
-          (subst (λ (d : Direction). IsHeard a b t.a.stage d.stage u.watch) (sym i.b) said);
+      said = subst (λ (d : Direction). IsHeard a b d.stage u.sides.b.stage u.sides.watch) (sym i.a)
+          (subst (λ (d : Direction). IsHeard a b t.sides.a.stage d.stage u.sides.watch) (sym i.b) said);
     }
 
 pub opening_alike : (t u : Talk) → Alike t u → is_in_opening u ≡ is_in_opening t
@@ -111,23 +113,26 @@ pub sender_alike : (s : Segment) (t u : Talk) (side : Side) → Alike t u → Is
 sender_alike s t u side i k = subst (λ (e : Ends). (side ≡ A) ↔ (s.source ≡ e.a)) (sym i.ends) k
 
 pub stages_alike : (t u : Talk) → Alike t u → (side : Side) → (direction_of side u).stage ≡ (direction_of side t).stage
-stages_alike t u i side = stages_same side t u (ap (λ (d : Direction). d.stage) i.a) (ap (λ (d : Direction). d.stage) i.b)
+stages_alike t u i side = stages_same side t.sides u.sides (ap (λ (d : Direction). d.stage) i.a) (ap (λ (d : Direction). d.stage) i.b)
 
-abbrev pub says_alike : (s : Segment) (side : Side) (a b a' b' : Past) (t t' u u' : Talk) → Alike t u → Alike t' u' → Says s side a b a' b' t t'
-    → Says s side a b a' b' u u'
+abbrev pub says_alike : (s : Segment) (side : Side) (a b a' b' : Past) (t t' u u' : Talk) → Alike t u → Alike t' u' → Says s side a b a' b' t.sides t'.sides
+    → Says s side a b a' b' u.sides u'.sides
 says_alike s side a b a' b' t t' u u' i k x =
-    says_same s side a b a' b' t t' u u' (stages_alike t u i) (stages_alike t' u' k) (λ j. flow_same j t' u' k.a k.b)
+    says_same s side a b a' b' t.sides t'.sides u.sides u'.sides (stages_alike t u i) (stages_alike t' u' k) (λ j. flow_same j t'.sides u'.sides k.a k.b)
     (λ events items w. watched_alike events items u t (alike_back t u i) w) (λ events items w. watched_alike events items t' u' k w) x
 
 -- A segment was taken.
 abbrev pub takes_alike : (s : Segment) (when : When) (a b : Past) (t t' u u' : Talk) → Alike t u → Alike t' u' → AreMarked t u → AreMarked t' u'
     → Takes s when a b t t' → Takes s when a b u u'
 takes_alike s when a b t t' u u' i k m n x =
-    let flow = λ (side : Side). flow_same side t u i.a i.b in
-    let flow' = λ (side : Side). flow_same side t' u' k.a k.b in
+    let flow = λ (side : Side). flow_same side t.sides u.sides i.a i.b in
+    let flow' = λ (side : Side). flow_same side t'.sides u'.sides k.a k.b in
+    let flags : Flags = heeded x.stray s.flags in
     record {
       side = x.side;
       is_side = sender_alike s t u x.side i x.is_side;
+      stray = x.stray;
+      is_stray = x.is_stray;
       a' = x.a';
       b' = x.b';
       is = talk_alike x.a' x.b' t' u' k x.is;
@@ -141,22 +146,23 @@ takes_alike s when a b t t' u u' i k m n x =
           (x.opening (sym (opening_alike t u i) ∙ o));
       counted = λ o. k.segments ∙ x.counted (sym (opening_alike t u i) ∙ o) ∙ ap (λ (n : ℕ). min (n + 1) (2 ^ 32 - 1)) (sym i.segments);
       after = λ o. opening_alike t' u' k ∙ x.after (sym (opening_alike t u i) ∙ o);
-      closes = closes_same s when x.side x.a' x.b' _ _ _ _ _ _ _ _ (sym (flow' A)) (sym (flow' B)) (sym i.closing) (sym k.closing) x.closes;
+      closes = closes_same flags when x.side x.a' x.b' _ _ _ _ _ _ _ _ (sym (flow' A)) (sym (flow' B)) (sym i.closing) (sym k.closing) x.closes;
       cut = λ side.
-          both_same side t' u' k.a k.b ∙ x.cut side
-          ∙ ap (λ (c : Closing). cut_after s.flags c.closed (length (of_side side x.a' x.b').out) (cut_of side t)) (sym i.closing)
-          ∙ ap (λ (n : _). cut_after s.flags u.closing.closed (length (of_side side x.a' x.b').out) n) (sym (both_same side t u i.a i.b));
+          both_same side t'.sides u'.sides k.a k.b ∙ x.cut side
+          ∙ ap (λ (c : Closing). cut_after flags c.closed (length (of_side side x.a' x.b').out) (cut_of side t)) (sym i.closing)
+          ∙ ap (λ (n : _). cut_after flags u.closing.closed (length (of_side side x.a' x.b').out) n) (sym (both_same side t.sides u.sides i.a i.b));
       stream = ap (λ (f : Flow). f.stream) (flow' (other x.side)) ∙ x.stream ∙ ap (λ (f : Flow). f.stream) (sym (flow (other x.side)));
       noted = ap (λ (f : Flow). f.noted) (flow' (other x.side)) ∙ x.noted ∙ ap (λ (f : Flow). f.noted) (sym (flow (other x.side)));
       said = λ o. says_alike s x.side a b x.a' x.b' t t' u u' i k (x.said (sym (opening_alike t u i) ∙ o));
-      did = λ o. did_same s x.side a b x.a' x.b' t t' u u' (stages_alike t u i) (stages_alike t' u' k) flow' (closed_same t u x.side m.courses)
+      did = λ o. did_same flags x.side a b x.a' x.b' t t' u u' (stages_alike t u i) (stages_alike t' u' k) flow' (closed_same t u x.side m.courses)
           (x.did (sym (opening_alike t u i) ∙ o));
       marks = x.marks;
-      marked = λ o. marked_same s when x.side x.a' x.b' t t' u u' x.marks m.courses flow' (x.marked (sym (opening_alike t u i) ∙ o));
+      marked = λ o. marked_same s flags when x.side x.a' x.b' t t' u u' x.marks m.courses flow' (x.marked (sym (opening_alike t u i) ∙ o));
       kept = λ o. n.marks ∙ x.kept (sym (opening_alike t' u' k) ∙ o) ∙ ap (λ (l : List Mark). l ++ x.marks) (sym m.marks);
-      shut = λ side. closed_same t' u' side n.courses ∙ x.shut side ∙ after_same s x.side x.side t u side refl (sym m.courses);
+      shut = λ side. closed_same t' u' side n.courses ∙ x.shut side ∙ after_same flags x.side t u side (sym m.courses);
       began = ap (λ (c : Courses). c.first) n.courses ∙ x.began ∙ ap (λ (c : Courses). option_or c.first (Some when)) (sym m.courses);
-      grown = λ side. grown_same t' u' side n.courses ∙ x.grown side ∙ grown_as s when x.side x.side _ _ _ _ t u side refl refl refl (sym m.courses);
+      grown = λ side. grown_same t' u' side n.courses ∙ x.grown side ∙ grown_as s when x.side _ _ t u side (sym m.courses);
+      strays = λ side. strays_same t' u' side n.courses ∙ x.strays side ∙ strays_as x.stray x.side t u side (sym m.courses);
     }
 
 -- ---- rows
@@ -216,16 +222,16 @@ pub settled_alike : (s : Segment) (when : When) (a b : Past) (t t' u u' : Talk) 
     → HasSettled s when a b t t' (takes_alike s when a b u u' t t' i k m n took) r r'
 settled_alike s when a b t t' u u' r r' l l' i k m n e f took h = record {
   quiet = λ o. appends_same [] l l' r r' (sym e) (sym f) (h.quiet (sym (opening_alike u' t' k) ∙ o));
-  opened = λ o. subst (λ (x : List Mark). HasOpened (x ++ took.marks) took.a' took.b' t'.a.stage t'.b.stage t'.watch r r') (sym m.marks)
-      (stages_opened (marks_of u ++ took.marks) took.a' took.b' u'.a.stage u'.b.stage t'.a.stage t'.b.stage t'.watch r r'
+  opened = λ o. subst (λ (x : List Mark). HasOpened (x ++ took.marks) took.a' took.b' t'.sides.a.stage t'.sides.b.stage t'.sides.watch r r') (sym m.marks)
+      (stages_opened (marks_of u ++ took.marks) took.a' took.b' u'.sides.a.stage u'.sides.b.stage t'.sides.a.stage t'.sides.b.stage t'.sides.watch r r'
       (ap (λ (d : Direction). d.stage) k.a) (ap (λ (d : Direction). d.stage) k.b)
-      (opened_alike (marks_of u ++ took.marks) took.a' took.b' u'.a.stage u'.b.stage u'.watch t'.watch r r' l l' k.matcher k.a_notes k.b_notes e f
+      (opened_alike (marks_of u ++ took.marks) took.a' took.b' u'.sides.a.stage u'.sides.b.stage u'.sides.watch t'.sides.watch r r' l l' k.matcher k.a_notes k.b_notes e f
       (h.opened (sym (opening_alike u' t' k) ∙ o))));
 }
 
 -- The watch has other rows.
-pub with_watch : (t : Talk) (lost : Bool) (w : Watch) → w.matcher ≡ t.watch.matcher → w.a ≡ t.watch.a → w.b ≡ t.watch.b
-    → Alike t (record t { is_lost = lost; watch = w })
+pub with_watch : (t : Talk) (lost : Bool) (w : Watch) → w.matcher ≡ t.sides.watch.matcher → w.a ≡ t.sides.watch.a → w.b ≡ t.sides.watch.b
+    → Alike t (record t { is_lost = lost; sides = record t.sides { watch = w } })
 with_watch t lost w e f g = record {
   terms = refl;
   ends = refl;

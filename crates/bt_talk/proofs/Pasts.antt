@@ -23,13 +23,24 @@ by_taken g opening p flow given flow' given' t (inl h) = record {
     front = if opening then p.out ++ t.more else p.front;
   };
   is = h.1;
-  adds = record { more = t.more; out = refl; front = refl; lost = t.none; added = inl (h.0, refl, refl, h.2, h.3, h.4) };
+  adds = record { more = t.more; out = refl; front = refl; lost = t.none; added = inl (h.0, refl, refl, h.2) };
   out = t.is;
 }
-by_taken g opening p flow given flow' given' t (inr h) = record {
+by_taken g opening p flow given flow' given' t (inr (inl h)) = record {
+  past = record {
+    heard = p.heard ++ Took (sent_at g h.0) ∷ [];
+    segs = p.segs;
+    out = p.out ++ t.more;
+    front = if opening then p.out ++ t.more else p.front;
+  };
+  is = subst (λ l. IsFlow (p.heard ++ Took (sent_at g h.0) ∷ []) p.segs l flow') (sym (ap (λ l. p.out ++ l) h.3 ∙ append-nil p.out)) h.1;
+  adds = record { more = t.more; out = refl; front = refl; lost = t.none; added = inr (inl (h.0, refl, refl, h.2, h.3, h.4)) };
+  out = t.is;
+}
+by_taken g opening p flow given flow' given' t (inr (inr h)) = record {
   past = record { heard = p.heard; segs = p.segs; out = p.out ++ t.more; front = if opening then p.out ++ t.more else p.front };
   is = subst (λ l. IsFlow p.heard p.segs l flow') (sym (ap (λ l. p.out ++ l) h.1 ∙ append-nil p.out)) h.2;
-  adds = record { more = t.more; out = refl; front = refl; lost = t.none; added = inr (h.0, h.1, refl, refl, h.3, h.4) };
+  adds = record { more = t.more; out = refl; front = refl; lost = t.none; added = inr (inr (h.0, h.1, refl, refl, h.3, h.4)) };
   out = t.is;
 }
 

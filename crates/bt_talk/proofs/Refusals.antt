@@ -5,8 +5,8 @@ use Rattle.std.specs.Prelude.{IsSome}
 use Rattle.bt_judge.specs.Readings.{IsTold, IsUnread}
 use Rattle.bt_text.specs.declared.ended.Ended.TheVariants.{Refused}
 use Rattle.bt_text.specs.Lines.{ended_by}
-use Rattle.bt_told.specs.declared.why.RefusedMessage.{RefusedMessage}
-use Rattle.bt_told.specs.Whys.{message_in}
+use Rattle.bt_rows.specs.declared.refused.RefusedMessage.{RefusedMessage}
+use Rattle.bt_rows.specs.Refused.{message_in}
 use Rattle.bt_wire.specs.declared.context.Own.{Own}
 use Rattle.bt_wire.specs.declared.item.Item.{Item}
 use Rattle.bt_wire.specs.declared.item.Refusal.{Refusal}

@@ -12,7 +12,7 @@ use Rattle.bt_judge.specs.Judges.{AreJudged}
 use Rattle.bt_remarks.specs.declared.events.Side.{Side}
 use Rattle.bt_remarks.specs.declared.events.Side.TheVariants.{A, B}
 use Rattle.bt_remarks.specs.Said.{other, is_same}
-use Rattle.bt_told.specs.declared.report.Last.{Last}
+use Rattle.bt_rows.specs.declared.noted.Last.{Last}
 use Rattle.bt_wire.specs.declared.item.Item.{Item}
 use Rattle.bt_talk.specs.declared.closing.When.{When}
 use Rattle.bt_talk.specs.declared.replay.Close.{Close}

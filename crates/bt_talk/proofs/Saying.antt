@@ -13,12 +13,12 @@ use Rattle.bt_wire.specs.declared.item.Refusal.{Refusal}
 use Rattle.bt_talk.specs.declared.stage.Judged.{Judged}
 use Rattle.bt_talk.specs.declared.stage.Stage.{Stage}
 use Rattle.bt_talk.specs.declared.stage.Stage.TheVariants.{Opening, Open, Stranger}
-use Rattle.bt_talk.specs.declared.talk.Talk.{Talk}
+use Rattle.bt_talk.specs.declared.sides.Sides.{Sides}
 use Rattle.bt_talk.specs.declared.terms.Terms.{Terms}
 use Rattle.bt_talk.specs.Pasts.{Past}
 use Rattle.bt_talk.specs.Shown.{GoesShown}
 use Rattle.bt_talk.specs.Stages.{AreItemsIn, IsKnown, IsRefusedIn, IsStage}
-use Rattle.bt_talk.specs.Talks.{AreItemsOf, IsKnownOf, IsTalk, Says, direction_of, flow_of, of_side}
+use Rattle.bt_talk.specs.Talks.{AreItemsOf, AreSides, IsKnownOf, Says, direction_in, flow_in, of_side}
 use Rattle.bt_talk.specs.Watching.{IsWatched, with_items}
 use Rattle.bt_talk.proofs.Items.{items_only, items_stay}
 
@@ -52,35 +52,35 @@ stay : (p p' : Past) (s s' : Stage) (xs : List (ℕ × Item)) → s' ≡ s → p
 stay p p' s s' xs e f g i = subst (λ (x : Stage). AreItemsIn x p' xs) (sym e) (items_stay s p p' xs f g i)
 
 -- The sender's items are followed by these; those of the other side stay.
-pub items_on : (side : Side) (a b a' b' : Past) (t t' : Talk) (xs items : List (ℕ × Item)) → IsTalk a b t → AreItemsOf side a b t xs
-    → AreItemsOf side a' b' t' (xs ++ items) → (direction_of (other side) t').stage ≡ (direction_of (other side) t).stage
+pub items_on : (terms : Terms) (side : Side) (a b a' b' : Past) (t t' : Sides) (xs items : List (ℕ × Item)) → AreSides terms a b t → AreItemsOf side a b t xs
+    → AreItemsOf side a' b' t' (xs ++ items) → (direction_in (other side) t').stage ≡ (direction_in (other side) t).stage
     → (of_side (other side) a' b').front ≡ (of_side (other side) a b).front → (of_side (other side) a' b').out ≡ (of_side (other side) a b).out
     → (before : Side → List (ℕ × Item)) → ((k : Side) → AreItemsOf k a b t (before k)) → (k : Side) → AreItemsOf k a' b' t' (with_items side items before k)
-items_on A a b a' b' t t' xs items i x y e f g before all A = go_on t.terms a b a' t.a.stage t'.a.stage xs (before A) items i.a_is.stage x y (all A)
-items_on A a b a' b' t t' xs items i x y e f g before all B = stay b b' t.b.stage t'.b.stage (before B) e f g (all B)
-items_on B a b a' b' t t' xs items i x y e f g before all A = stay a a' t.a.stage t'.a.stage (before A) e f g (all A)
-items_on B a b a' b' t t' xs items i x y e f g before all B = go_on t.terms b a b' t.b.stage t'.b.stage xs (before B) items i.b_is.stage x y (all B)
+items_on terms A a b a' b' t t' xs items i x y e f g before all A = go_on terms a b a' t.a.stage t'.a.stage xs (before A) items i.a_is.stage x y (all A)
+items_on terms A a b a' b' t t' xs items i x y e f g before all B = stay b b' t.b.stage t'.b.stage (before B) e f g (all B)
+items_on terms B a b a' b' t t' xs items i x y e f g before all A = stay a a' t.a.stage t'.a.stage (before A) e f g (all A)
+items_on terms B a b a' b' t t' xs items i x y e f g before all B = go_on terms b a b' t.b.stage t'.b.stage xs (before B) items i.b_is.stage x y (all B)
 
 -- A side sent a segment, which completes these items.
-abbrev pub says_by : (s : Segment) (side : Side) (a b a' b' : Past) (t t' : Talk) (xs items : List (ℕ × Item)) (known : Bool) → IsTalk a b t
-    → AreItemsOf side a b t xs → AreItemsOf side a' b' t' (xs ++ items) → (direction_of (other side) t').stage ≡ (direction_of (other side) t).stage
+abbrev pub says_by : (terms : Terms) (s : Segment) (side : Side) (a b a' b' : Past) (t t' : Sides) (xs items : List (ℕ × Item)) (known : Bool) → AreSides terms a b t
+    → AreItemsOf side a b t xs → AreItemsOf side a' b' t' (xs ++ items) → (direction_in (other side) t').stage ≡ (direction_in (other side) t).stage
     → (of_side (other side) a' b').front ≡ (of_side (other side) a b).front → (of_side (other side) a' b').out ≡ (of_side (other side) a b).out
     → (s.flags.rst ≡ false → IsKnownOf (other side) a' b' t' known) → GoesShown side known items t.watch t'.watch → Says s side a b a' b' t t'
-says_by s side a b a' b' t t' xs items known i x y e f g is goes = record {
+says_by terms s side a b a' b' t t' xs items known i x y e f g is goes = record {
   items = items;
   known = known;
   known_is = is;
-  are = items_on side a b a' b' t t' xs items i x y e f g;
+  are = items_on terms side a b a' b' t t' xs items i x y e f g;
   follow = λ events before w. (goes events before w).1.watched;
 }
 
-pub stages_same : (side : Side) (t u : Talk) → u.a.stage ≡ t.a.stage → u.b.stage ≡ t.b.stage → (direction_of side u).stage ≡ (direction_of side t).stage
+pub stages_same : (side : Side) (t u : Sides) → u.a.stage ≡ t.a.stage → u.b.stage ≡ t.b.stage → (direction_in side u).stage ≡ (direction_in side t).stage
 stages_same A t u e f = e
 stages_same B t u e f = f
 
 -- What it stands on is as it was.
-abbrev pub says_same : (s : Segment) (side : Side) (a b a' b' : Past) (t t' u u' : Talk) → ((k : Side) → (direction_of k u).stage ≡ (direction_of k t).stage)
-    → ((k : Side) → (direction_of k u').stage ≡ (direction_of k t').stage) → ((k : Side) → flow_of k u' ≡ flow_of k t')
+abbrev pub says_same : (s : Segment) (side : Side) (a b a' b' : Past) (t t' u u' : Sides) → ((k : Side) → (direction_in k u).stage ≡ (direction_in k t).stage)
+    → ((k : Side) → (direction_in k u').stage ≡ (direction_in k t').stage) → ((k : Side) → flow_in k u' ≡ flow_in k t')
     → ((events : List Told) (items : Side → List (ℕ × Item)) → IsWatched events items u.watch → IsWatched events items t.watch)
     → ((events : List Told) (items : Side → List (ℕ × Item)) → IsWatched events items t'.watch → IsWatched events items u'.watch)
     → Says s side a b a' b' t t' → Says s side a b a' b' u u'
@@ -89,8 +89,8 @@ says_same s side a b a' b' t t' u u' e f g v w x =
     record {
       items = x.items;
       known = x.known;
-      known_is = λ r. subst (λ (i : Stage). IsKnown i p (flow_of (other side) u') x.known) (sym (f (other side)))
-          (subst (λ (i : Flow). IsKnown (direction_of (other side) t').stage p i x.known) (sym (g (other side))) (x.known_is r));
+      known_is = λ r. subst (λ (i : Stage). IsKnown i p (flow_in (other side) u') x.known) (sym (f (other side)))
+          (subst (λ (i : Flow). IsKnown (direction_in (other side) t').stage p i x.known) (sym (g (other side))) (x.known_is r));
       are = λ before all k. subst (λ (i : Stage). AreItemsIn i (of_side k a' b') (with_items side x.items before k)) (sym (f k))
           (x.are before (λ j. subst (λ (i : Stage). AreItemsIn i (of_side j a b) (before j)) (e j) (all j)) k);
       follow = λ events before i. w _ _ (x.follow events before (v events before i));

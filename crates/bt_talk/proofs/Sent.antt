@@ -8,10 +8,11 @@ use Rattle.bt_flow.specs.declared.flow.Flow.{Flow}
 use Rattle.bt_remarks.specs.declared.events.Side.{Side}
 use Rattle.bt_remarks.specs.declared.events.Side.TheVariants.{A, B}
 use Rattle.bt_remarks.specs.Said.{other}
-use Rattle.bt_talk.specs.declared.talk.Talk.{Talk}
+use Rattle.bt_talk.specs.declared.sides.Sides.{Sides}
+use Rattle.bt_talk.specs.declared.terms.Terms.{Terms}
 use Rattle.bt_talk.specs.Pasts.{Past, HasSent, HasSentBy, IsAcked, given_of}
 use Rattle.bt_talk.specs.Sent.{IsReady, IsSent, SendsOn, is_wanted}
-use Rattle.bt_talk.specs.Talks.{IsTalk, of_side}
+use Rattle.bt_talk.specs.Talks.{AreSides, of_side}
 use Rattle.bt_talk.proofs.Receivers.{start_within}
 use Rattle.bt_talk.proofs.Talks.{acked_same, front_kept}
 
@@ -97,6 +98,6 @@ sent_none true p bytes e f = record { start = None; is_start = λ n. absurd (cc)
 sent_none false p bytes e f = absurd (cc)
 
 -- What a side sent has the opening as its prefix.
-pub parts_of : (side : Side) (a b : Past) (t : Talk) → IsTalk a b t → (later : List ℕ) × ((of_side side a b).out ≡ (of_side side a b).front ++ later)
-parts_of A a b t i = (i.a_is.later, i.a_is.front)
-parts_of B a b t i = (i.b_is.later, i.b_is.front)
+pub parts_of : (terms : Terms) (side : Side) (a b : Past) (t : Sides) → AreSides terms a b t → (later : List ℕ) × ((of_side side a b).out ≡ (of_side side a b).front ++ later)
+parts_of terms A a b t i = (i.a_is.later, i.a_is.front)
+parts_of terms B a b t i = (i.b_is.later, i.b_is.front)

@@ -10,8 +10,8 @@ use Rattle.bt_remarks.specs.declared.events.Side.TheVariants.{A, B}
 use Rattle.bt_remarks.specs.Matched.{IsMatched}
 use Rattle.bt_remarks.specs.Said.{Told, Message, is_same}
 use Rattle.bt_tcp.specs.declared.covered.Gap.{Gap}
-use Rattle.bt_told.specs.declared.report.Means.{Means}
-use Rattle.bt_told.specs.declared.rows.Deed.TheVariants as deed
+use Rattle.bt_rows.specs.declared.parts.Means.{Means}
+use Rattle.bt_rows.specs.declared.rows.Deed.TheVariants as deed
 use Rattle.bt_wire.specs.declared.item.Item.{Item}
 use Rattle.bt_wire.specs.declared.item.Refusal.{Refusal}
 use Rattle.bt_talk.specs.declared.closing.When.{When}

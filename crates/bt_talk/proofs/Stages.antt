@@ -1,7 +1,9 @@
 -- What a direction's stage says of its past.
 use Rattle.bt_talk.specs.declared.terms.Terms.{Terms}
-use Rattle.std.proofs.Common.{◌≡◌, ◌∙◌, ℕ, true, false, List, [], ◌++◌, append-nil, append_assoc, Option, Some, None, refl, sym, ap, subst}
+use Rattle.std.proofs.Common.{◌≡◌, ◌∙◌, ℕ, Bool, true, false, inl, inr, List, [], ◌∷◌, ◌++◌, append-nil, append_assoc, Option, Some, None, refl, sym, ap, subst}
+use Rattle.bt_tcp.specs.Heard.{Acked}
 use Rattle.bt_flow.specs.declared.flow.Given.{Given}
+use Rattle.bt_flow.specs.Flows.{HasHeard}
 use Rattle.bt_intro.specs.declared.introduction.Introduction.{Introduction}
 use Rattle.bt_intro.specs.Hearing.{IsHeardOf}
 use Rattle.bt_talk.specs.declared.stage.Stage.{Stage}
@@ -10,7 +12,7 @@ use Rattle.bt_talk.specs.declared.direction.Direction.{Direction}
 use Rattle.bt_talk.specs.declared.stage.Cut.{Cut}
 use Rattle.bt_talk.specs.Cuts.{IsCutNow, IsWithin, cut_length}
 use Rattle.bt_talk.specs.Pasts.{Past, IsFlowOf, Adds}
-use Rattle.bt_talk.specs.Stages.{is_opening, receiver_in, IsStage, IsDirection}
+use Rattle.bt_talk.specs.Stages.{HearsOf, is_opening, receiver_in, IsStage, IsDirection}
 use Rattle.bt_talk.proofs.Cuts.{cut_more, cut_none, within_more}
 use Rattle.bt_talk.proofs.Receivers.{receiver_same, judged_same}
 
@@ -22,6 +24,28 @@ stage_same terms p q p' q' (Open j) o e f i = (
   judged_same j.value.receiver.own p p' j.value.judge e o i.1,
 )
 stage_same terms p q p' q' Stranger o e f i = receiver_same terms p q p' q' None e f i
+
+-- The direction has another flow now.
+with_flow : (terms : Terms) (p q other : Past) (d d' : Direction) → q.out ≡ p.out → q.front ≡ p.front → d'.intro ≡ d.intro → d'.stage ≡ d.stage → d'.cut ≡ d.cut
+    → IsDirection terms p other d → IsFlowOf q d'.flow → IsDirection terms q other d'
+with_flow terms p q other d d' o e i s c old f = record {
+  flow = f;
+  intro = subst (λ (x : Introduction). IsHeardOf q.front x) (sym i) (subst (λ (l : List ℕ). IsHeardOf l d.intro) (sym e) old.intro);
+  later = old.later;
+  front = o ∙ old.front ∙ ap (λ (l : List ℕ). l ++ old.later) (sym e);
+  stage = subst (λ (x : Stage). IsStage terms q other x) (sym s) (stage_same terms p other q other d.stage o e refl old.stage);
+  within = subst (λ (l : List ℕ). IsWithin (cut_length d'.cut) l) (sym o) (subst (λ (x : Option Cut). IsWithin (cut_length x) p.out) (sym c) old.within);
+  cut = subst (λ (x : Stage). IsCutNow (receiver_in x) q.front q.out d'.cut) (sym s) (subst (λ (x : Option Cut). IsCutNow (receiver_in d.stage) q.front q.out x) (sym c)
+      (subst (λ (l : List ℕ). IsCutNow (receiver_in d.stage) l q.out d.cut) (sym e)
+      (subst (λ (l : List ℕ). IsCutNow (receiver_in d.stage) p.front l d.cut) (sym o) old.cut)));
+}
+
+pub hears_of : (number : ℕ) (opens : Bool) (terms : Terms) (p other : Past) (d d' : Direction) → d'.intro ≡ d.intro → d'.stage ≡ d.stage → d'.cut ≡ d.cut
+    → IsDirection terms p other d → HasHeard number opens p.heard p.segs p.out d'.flow → HearsOf number opens terms p other d'
+hears_of number opens terms p other d d' i s c old (inl h) =
+    let q : Past = record p { heard = p.heard ++ Acked (record { number = number; opens = opens; place = h.0 }) ∷ [] } in
+    inl (h.0, with_flow terms p q other d d' refl refl i s c old h.1, h.2)
+hears_of number opens terms p other d d' i s c old (inr h) = inr (with_flow terms p p other d d' refl refl i s c old h.1, h.0)
 
 -- The other side's front matters only after the opening.
 pub stage_beside : (terms : Terms) (p q q' : Past) (s : Stage) → (is_opening s ≡ false → q'.front ≡ q.front) → IsStage terms p q s

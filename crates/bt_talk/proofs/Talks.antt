@@ -1,6 +1,6 @@
 -- What is known of a side of a connection, and of both after a segment.
 use Rattle.bt_talk.specs.declared.terms.Terms.{Terms}
-use Rattle.std.proofs.Common.{◌≡◌, ◌∙◌, ℕ, true, false, Bool, ◌∷◌, [], ◌++◌, Option, length, Some, None, refl, sym, ap, subst, arith, min, ◌-◌, ◌^◌}
+use Rattle.std.proofs.Common.{◌≡◌, ◌∙◌, ℕ, true, false, Bool, ◌∷◌, [], ◌++◌, Option, length, Some, None, refl, sym, ap, subst, arith, inl, inr, min, ◌-◌, ◌^◌}
 use Rattle.std.specs.Prelude.{nat_le, if◌then◌else◌, ◌||◌}
 use Rattle.std.proofs.lemmas.Bool.Decides.{nat_tests}
 use Rattle.bt_tcp.specs.Heard.{Acked}
@@ -18,37 +18,44 @@ use Rattle.bt_talk.specs.declared.stage.Cut.{Cut}
 use Rattle.bt_packet.specs.declared.tcp.Flags.{Flags}
 use Rattle.bt_talk.specs.declared.stage.Stage.{Stage}
 use Rattle.bt_talk.specs.declared.watch.Watch.{Watch}
-use Rattle.bt_talk.specs.declared.talk.Talk.{Talk}
+use Rattle.bt_talk.specs.declared.sides.Sides.{Sides}
+use Rattle.bt_talk.specs.declared.closing.Closed.{Closed}
 use Rattle.bt_talk.specs.Pasts.{Past, Adds, IsAcked, IsAckedBy, IsFlowOf, HasSent, HasSentBy, given_of}
-use Rattle.bt_talk.specs.Stages.{IsDirection, IsHeard, IsStage, is_opening, receiver_in}
-use Rattle.bt_talk.specs.Talks.{IsTalk, IsEnd, IsSender, direction_of, cut_of, flow_of, of_side, is_in_opening, is_over}
+use Rattle.bt_talk.specs.Stages.{HearsOf, IsDirection, IsHeard, IsStage, is_opening, receiver_in}
+use Rattle.bt_talk.specs.Talks.{AreSides, IsEnd, are_in_opening, cut_in, direction_in, flow_in, of_side, is_over}
 
-direction_is : (side : Side) (a b : Past) (t : Talk) → IsTalk a b t
-    → IsDirection t.terms (of_side side a b) (of_side (other side) a b) (direction_of side t)
-direction_is A a b t i = i.a_is
-direction_is B a b t i = i.b_is
+direction_is : (terms : Terms) (side : Side) (a b : Past) (t : Sides) → AreSides terms a b t
+    → IsDirection terms (of_side side a b) (of_side (other side) a b) (direction_in side t)
+direction_is terms A a b t i = i.a_is
+direction_is terms B a b t i = i.b_is
 
 -- the direction of a side
-pub found : (side : Side) (a b : Past) (t : Talk) (d : Direction) → d ≡ direction_of side t → IsTalk a b t
-    → IsDirection t.terms (of_side side a b) (of_side (other side) a b) d
-found side a b t d e i =
-    subst (λ (x : Direction). IsDirection t.terms (of_side side a b) (of_side (other side) a b) x) (sym e) (direction_is side a b t i)
+pub found : (terms : Terms) (side : Side) (a b : Past) (t : Sides) (d : Direction) → d ≡ direction_in side t → AreSides terms a b t
+    → IsDirection terms (of_side side a b) (of_side (other side) a b) d
+found terms side a b t d e i =
+    subst (λ (x : Direction). IsDirection terms (of_side side a b) (of_side (other side) a b) x) (sym e) (direction_is terms side a b t i)
 
-stage_of : (side : Side) (a b : Past) (t : Talk) → IsTalk a b t → is_opening (direction_of side t).stage ≡ is_in_opening t
-stage_of A a b t i = refl
-stage_of B a b t i = sym i.stages
+stage_of : (terms : Terms) (side : Side) (a b : Past) (t : Sides) → AreSides terms a b t → is_opening (direction_in side t).stage ≡ are_in_opening t
+stage_of terms A a b t i = refl
+stage_of terms B a b t i = sym i.stages
 
-pub opening_of : (side : Side) (a b : Past) (t : Talk) (d : Direction) → d ≡ direction_of side t → IsTalk a b t
-    → is_opening d.stage ≡ is_in_opening t
-opening_of side a b t d e i = ap (λ (x : Direction). is_opening x.stage) e ∙ stage_of side a b t i
+pub opening_of : (terms : Terms) (side : Side) (a b : Past) (t : Sides) (d : Direction) → d ≡ direction_in side t → AreSides terms a b t
+    → is_opening d.stage ≡ are_in_opening t
+opening_of terms side a b t d e i = ap (λ (x : Direction). is_opening x.stage) e ∙ stage_of terms side a b t i
 
 -- ---- a segment
 
-pub acked_some : (s : Segment) (p : Past) (n at : ℕ) → s.flags.rst ≡ false → s.acked ≡ Some n
-    → IsAcked s p (record p { heard = p.heard ++ Acked (record { number = n; opens = s.flags.syn; place = at }) ∷ [] })
-acked_some s p n at r e =
-    let q : Past = record p { heard = p.heard ++ Acked (record { number = n; opens = s.flags.syn; place = at }) ∷ [] } in
-    subst (λ (b : Bool). IsAckedBy b s.acked s.flags.syn p q) (sym r) (subst (λ (o : Option ℕ). IsAckedBy false o s.flags.syn p q) (sym e) (at, refl))
+acked_of : (s : Segment) (p q : Past) (n : ℕ) → s.flags.rst ≡ false → s.acked ≡ Some n → IsAckedBy false (Some n) s.flags.syn p q → IsAcked s p q
+acked_of s p q n r e i =
+    subst (λ (b : Bool). IsAckedBy b s.acked s.flags.syn p q) (sym r) (subst (λ (o : Option ℕ). IsAckedBy false o s.flags.syn p q) (sym e) i)
+
+-- This side was heard with the acknowledgement, if it isn't passed over.
+pub acked_some : (terms : Terms) (s : Segment) (p other : Past) (d : Direction) (n : ℕ) → s.flags.rst ≡ false → s.acked ≡ Some n
+    → HearsOf n s.flags.syn terms p other d → (q : Past) × IsDirection terms q other d × IsAcked s p q × (q.front ≡ p.front)
+acked_some terms s p other d n r e (inl h) =
+    let q : Past = record p { heard = p.heard ++ Acked (record { number = n; opens = s.flags.syn; place = h.0 }) ∷ [] } in
+    (q, h.1, acked_of s p q n r e (inl (h.0, refl, h.2)), refl)
+acked_some terms s p other d n r e (inr h) = (p, h.0, acked_of s p p n r e (inr (refl, h.1)), refl)
 
 pub acked_none : (s : Segment) (p : Past) → s.flags.rst ≡ false → s.acked ≡ None → IsAcked s p p
 acked_none s p r e =
@@ -80,11 +87,11 @@ pub end_same : (a b : Past) (n n' : ℕ) (over over' : Bool) → n ≡ n' → ov
 end_same a b n n' over over' e f i =
     subst (λ (k : ℕ). IsEnd a b k over') e (subst (λ (o : Bool). IsEnd a b n o) f i)
 
-pub direction_same : (side : Side) (t t' : Talk) → t'.a ≡ t.a → t'.b ≡ t.b → direction_of side t' ≡ direction_of side t
-direction_same A t t' e f = e
-direction_same B t t' e f = f
+pub sides_same : (side : Side) (t t' : Sides) → t'.a ≡ t.a → t'.b ≡ t.b → direction_in side t' ≡ direction_in side t
+sides_same A t t' e f = e
+sides_same B t t' e f = f
 
-pub flow_same : (side : Side) (t t' : Talk) → t'.a ≡ t.a → t'.b ≡ t.b → flow_of side t' ≡ flow_of side t
+pub flow_same : (side : Side) (t t' : Sides) → t'.a ≡ t.a → t'.b ≡ t.b → flow_in side t' ≡ flow_in side t
 flow_same A t t' e f = ap (λ (d : Direction). d.flow) e
 flow_same B t t' e f = ap (λ (d : Direction). d.flow) f
 
@@ -93,17 +100,11 @@ pub sent_same : (s : Segment) (opening : Bool) (p : Past) (flow flow' : Flow) (q
 sent_same s opening p flow flow' q after after' e f h =
     subst (λ (x : Flow). HasSent s opening p x q after') e (subst (λ (y : Flow). HasSent s opening p flow q y) f h)
 
--- One side sent the segment.
-pub sender_same : (s : Segment) (t : Talk) (x y : Side) → IsSender s t x → IsSender s t y → x ≡ y
-sender_same s t A A i j = refl
-sender_same s t B B i j = refl
-sender_same s t A B i j = sym (j.1 (i.0 refl))
-sender_same s t B A i j = i.1 (j.0 refl)
-
 acked_by : (reset : Bool) (o : Option ℕ) (opens : Bool) (q q' : Past) → IsAckedBy reset o opens q q' → (q'.front ≡ q.front) × (q'.out ≡ q.out)
 acked_by true o opens q q' e = (ap (λ (p : Past). p.front) e, ap (λ (p : Past). p.out) e)
 acked_by false None opens q q' e = (ap (λ (p : Past). p.front) e, ap (λ (p : Past). p.out) e)
-acked_by false (Some n) opens q q' e = (ap (λ (p : Past). p.front) e.1, ap (λ (p : Past). p.out) e.1)
+acked_by false (Some n) opens q q' (inl e) = (ap (λ (p : Past). p.front) e.1, ap (λ (p : Past). p.out) e.1)
+acked_by false (Some n) opens q q' (inr e) = (ap (λ (p : Past). p.front) e.0, ap (λ (p : Past). p.out) e.0)
 
 -- An acknowledgement adds no byte.
 pub acked_same : (s : Segment) (q q' : Past) → IsAcked s q q' → (q'.front ≡ q.front) × (q'.out ≡ q.out)
@@ -123,44 +124,44 @@ after_opening terms p q d d' o e i k = record {
 }
 
 -- The opening ended: both sides have another stage.
-pub ended : (a b : Past) (t u : Talk) (o o' : Opened) → u.terms ≡ t.terms → IsOpenedBy t.a o u.a → IsOpenedBy t.b o' u.b
+pub ended : (terms : Terms) (a b : Past) (t u : Sides) (o o' : Opened) → IsOpenedBy t.a o u.a → IsOpenedBy t.b o' u.b
     → is_opening o.stage ≡ false → is_opening o'.stage ≡ false
-    → IsOpened t.terms a b (cut_of A t) o → IsOpened t.terms b a (cut_of B t) o' → IsHeard a b o.stage o'.stage u.watch → IsTalk a b t → IsTalk a b u
-ended a b t u o o' ep ea eb x y i j said k = record {
-  a_is = subst (λ (n : Terms). IsDirection n a b u.a) (sym ep) (after_opening t.terms a b t.a u.a o ea k.a_is i);
-  b_is = subst (λ (n : Terms). IsDirection n b a u.b) (sym ep) (after_opening t.terms b a t.b u.b o' eb k.b_is j);
+    → IsOpened terms a b (cut_in A t) o → IsOpened terms b a (cut_in B t) o' → IsHeard a b o.stage o'.stage u.watch → AreSides terms a b t → AreSides terms a b u
+ended terms a b t u o o' ea eb x y i j said k = record {
+  a_is = after_opening terms a b t.a u.a o ea k.a_is i;
+  b_is = after_opening terms b a t.b u.b o' eb k.b_is j;
   stages = ap is_opening ea.stage ∙ x ∙ sym y ∙ sym (ap is_opening eb.stage);
   said = subst (λ (s : Stage). IsHeard a b s u.b.stage u.watch) (sym ea.stage)
       (subst (λ (s : Stage). IsHeard a b o.stage s u.watch) (sym eb.stage) said);
 }
 
-pub cuts_same : (side : Side) (t u : Talk) → cut_length u.a.cut ≡ cut_length t.a.cut → cut_length u.b.cut ≡ cut_length t.b.cut → cut_of side u ≡ cut_of side t
+pub cuts_same : (side : Side) (t u : Sides) → cut_length u.a.cut ≡ cut_length t.a.cut → cut_length u.b.cut ≡ cut_length t.b.cut → cut_in side u ≡ cut_in side t
 cuts_same A t u e f = e
 cuts_same B t u e f = f
 
-pub both_same : (side : Side) (t u : Talk) → u.a ≡ t.a → u.b ≡ t.b → cut_of side u ≡ cut_of side t
+pub both_same : (side : Side) (t u : Sides) → u.a ≡ t.a → u.b ≡ t.b → cut_in side u ≡ cut_in side t
 both_same A t u e f = ap (λ (d : Direction). cut_length d.cut) e
 both_same B t u e f = ap (λ (d : Direction). cut_length d.cut) f
 
 -- The first FIN or RST notes how many bytes there are.
-pub cut_noted : (side : Side) (a b : Past) (t u : Talk) (flags : Flags) → closes_first flags t.closing.closed ≡ true
+pub cut_noted : (side : Side) (a b : Past) (t u : Sides) (flags : Flags) (closed : Option Closed) → closes_first flags closed ≡ true
     → cut_length u.a.cut ≡ Some (length a.out) → cut_length u.b.cut ≡ Some (length b.out)
-    → cut_of side u ≡ cut_after flags t.closing.closed (length (of_side side a b).out) (cut_of side t)
-cut_noted A a b t u flags is e f = e ∙ sym (ap (λ (k : Bool). if k then Some (length a.out) else cut_of A t) is)
-cut_noted B a b t u flags is e f = f ∙ sym (ap (λ (k : Bool). if k then Some (length b.out) else cut_of B t) is)
+    → cut_in side u ≡ cut_after flags closed (length (of_side side a b).out) (cut_in side t)
+cut_noted A a b t u flags closed is e f = e ∙ sym (ap (λ (k : Bool). if k then Some (length a.out) else cut_in A t) is)
+cut_noted B a b t u flags closed is e f = f ∙ sym (ap (λ (k : Bool). if k then Some (length b.out) else cut_in B t) is)
 
-pub cut_kept : (side : Side) (n : ℕ) (t : Talk) (flags : Flags) → closes_first flags t.closing.closed ≡ false
-    → cut_of side t ≡ cut_after flags t.closing.closed n (cut_of side t)
-cut_kept side n t flags is = sym (ap (λ (k : Bool). if k then Some n else cut_of side t) is)
+pub cut_kept : (side : Side) (n : ℕ) (t : Sides) (flags : Flags) (closed : Option Closed) → closes_first flags closed ≡ false
+    → cut_in side t ≡ cut_after flags closed n (cut_in side t)
+cut_kept side n t flags closed is = sym (ap (λ (k : Bool). if k then Some n else cut_in side t) is)
 
-pub flows_same : (side : Side) (t u : Talk) → u.a.flow ≡ t.a.flow → u.b.flow ≡ t.b.flow → flow_of side u ≡ flow_of side t
+pub flows_same : (side : Side) (t u : Sides) → u.a.flow ≡ t.a.flow → u.b.flow ≡ t.b.flow → flow_in side u ≡ flow_in side t
 flows_same A t u e f = e
 flows_same B t u e f = f
 
 -- Both sides have noted the close.
-pub closed_both : (a b : Past) (t u : Talk) → u.terms ≡ t.terms → u.watch ≡ t.watch → u.a.stage ≡ t.a.stage → u.b.stage ≡ t.b.stage
-    → IsDirection u.terms a b u.a → IsDirection u.terms b a u.b → IsTalk a b t → IsTalk a b u
-closed_both a b t u ep ew ea eb i j k = record {
+pub closed_both : (terms : Terms) (a b : Past) (t u : Sides) → u.watch ≡ t.watch → u.a.stage ≡ t.a.stage → u.b.stage ≡ t.b.stage
+    → IsDirection terms a b u.a → IsDirection terms b a u.b → AreSides terms a b t → AreSides terms a b u
+closed_both terms a b t u ew ea eb i j k = record {
   a_is = i;
   b_is = j;
   stages = ap is_opening ea ∙ k.stages ∙ sym (ap is_opening eb);

@@ -11,7 +11,7 @@ use Rattle.bt_remarks.specs.declared.matcher.Matcher.{Matcher}
 use Rattle.bt_remarks.specs.Matched.{IsMatched}
 use Rattle.bt_remarks.specs.Remarked.{remarks_on, tally_of, tally_after, found_after, first_of}
 use Rattle.bt_remarks.specs.Said.{Told, Message, is_same}
-use Rattle.bt_told.specs.declared.said.Said.{Said}
+use Rattle.bt_rows.specs.declared.said.Said.{Said}
 use Rattle.bt_wire.specs.declared.item.Item.{Item}
 use Rattle.bt_talk.specs.declared.watch.Watch.{Watch}
 use Rattle.bt_talk.specs.Events.{event_of}

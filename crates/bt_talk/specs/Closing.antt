@@ -5,7 +5,6 @@ use Rattle.std.specs.Option.{option_or}
 use Rattle.bt_remarks.specs.declared.events.Side.{Side}
 use Rattle.bt_remarks.specs.declared.events.Side.TheVariants.{A, B}
 use Rattle.bt_packet.specs.declared.tcp.Flags.{Flags}
-use Rattle.bt_packet.specs.declared.tcp.Segment.{Segment}
 use Rattle.bt_flow.specs.declared.flow.Flow.{Flow}
 use Rattle.bt_flow.specs.Flows.{IsClosed, high_in}
 use Rattle.bt_talk.specs.declared.closing.When.{When}
@@ -38,20 +37,20 @@ high_at B closed = closed.high_b
 abbrev pub IsClosedOf : Past → Flow → Bool → Type 0
 IsClosedOf p flow closed = IsClosed p.heard p.out flow.stream closed
 
--- A side sent this segment, after which both have sent this. A RST ends a connection, and so do both FINs.
-pub record Closes (s : Segment) (when : When) (side : Side) (a b : Past) (of_a of_b : Flow) (old new : Closing) : Type 0 where
+-- A side sent a segment with these flags, after which both have sent this. A RST ends a connection, and so do both FINs.
+pub record Closes (flags : Flags) (when : When) (side : Side) (a b : Past) (of_a of_b : Flow) (old new : Closing) : Type 0 where
   pub a_closed : Bool
   pub b_closed : Bool
   pub a_is : IsClosedOf a of_a a_closed
   pub b_is : IsClosedOf b of_b b_closed
-  pub closed : new.closed ≡ closed_after old.closed s.flags (record {
+  pub closed : new.closed ≡ closed_after old.closed flags (record {
     side = side;
-    by_reset = s.flags.rst;
+    by_reset = flags.rst;
     when = when;
     high_a = high_in a.heard of_a.stream;
     high_b = high_in b.heard of_b.stream;
   })
-  pub over : new.over ≡ over_after old.over (s.flags.rst || (a_closed && b_closed)) when.nanos
+  pub over : new.over ≡ over_after old.over (flags.rst || (a_closed && b_closed)) when.nanos
 
 -- ---- the next connection between the same ends
 

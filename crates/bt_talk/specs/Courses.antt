@@ -1,5 +1,5 @@
 -- What rows need to know of each side besides its items.
-use Rattle.std.specs.Prelude.{ℕ, ◌-◌, Bool, true, false, ◌||◌, List, [], ◌∷◌, Option, Some, None, if◌then◌else◌}
+use Rattle.std.specs.Prelude.{ℕ, ◌+◌, ◌-◌, ◌^◌, min, Bool, true, false, ◌||◌, List, [], ◌∷◌, Option, Some, None, if◌then◌else◌}
 use Rattle.std.specs.Bool.{then_some}
 use Rattle.std.specs.Option.{option_or}
 use Rattle.bt_packet.specs.declared.tcp.Flags.{Flags}
@@ -7,9 +7,9 @@ use Rattle.bt_remarks.specs.declared.events.Remarks.{Remarks}
 use Rattle.bt_remarks.specs.declared.events.Side.{Side}
 use Rattle.bt_remarks.specs.declared.events.Side.TheVariants.{A, B}
 use Rattle.bt_tcp.specs.declared.covered.Gap.{Gap}
-use Rattle.bt_told.specs.declared.report.Means.{Means}
-use Rattle.bt_told.specs.declared.report.Means.TheVariants.{Fin, Rst}
-use Rattle.bt_told.specs.declared.rows.Deed.TheVariants as deed
+use Rattle.bt_rows.specs.declared.parts.Means.{Means}
+use Rattle.bt_rows.specs.declared.parts.Means.TheVariants.{Fin, Rst}
+use Rattle.bt_rows.specs.declared.rows.Deed.TheVariants as deed
 use Rattle.bt_wire.specs.declared.item.Refusal.{Refusal}
 use Rattle.bt_talk.specs.declared.closing.When.{When}
 use Rattle.bt_talk.specs.declared.course.Course.{Course}
@@ -18,7 +18,7 @@ use Rattle.bt_talk.specs.declared.rows.Heading.{Heading}
 use Rattle.bt_talk.specs.Rows.{Shown, row_at}
 
 abbrev pub not_begun : Course
-not_begun = record { is_closed = false; grown = None }
+not_begun = record { is_closed = false; grown = None; strays = 0 }
 
 abbrev pub course_of : Side → Courses → Course
 course_of A c = c.a
@@ -37,8 +37,16 @@ abbrev pub closes_by : Flags → Bool → Option Means
 closes_by flags true = None
 closes_by flags false = then_some (flags.fin || flags.rst) (means_of flags)
 
-abbrev pub course_after : Flags → Bool → When → Course → Course
-course_after flags grows when c = record { is_closed = c.is_closed || (flags.fin || flags.rst); grown = option_or (then_some grows when) c.grown }
+-- one more, if it is a stray, up to 2 ^ 64 - 1
+abbrev pub counted : Bool → ℕ → ℕ
+counted stray n = min (2 ^ 64 - 1) (n + (if stray then 1 else 0))
+
+abbrev pub course_after : Flags → (stray grows : Bool) → When → Course → Course
+course_after flags stray grows when c = record {
+  is_closed = c.is_closed || (flags.fin || flags.rst);
+  grown = option_or (then_some grows when) c.grown;
+  strays = counted stray c.strays;
+}
 
 -- ---- the rows
 

@@ -6,8 +6,8 @@ use Rattle.bt_intro.specs.declared.settling.Receiver.{Receiver}
 use Rattle.bt_intro.specs.Hellos.{IsFirstHello}
 use Rattle.bt_judge.specs.Judges.{under}
 use Rattle.bt_packet.specs.declared.tcp.Flags.{Flags}
-use Rattle.bt_told.specs.declared.report.Last.{Last}
-use Rattle.bt_told.specs.declared.report.Last.TheVariants.{Nothing, Item as LastItem, Refused}
+use Rattle.bt_rows.specs.declared.noted.Last.{Last}
+use Rattle.bt_rows.specs.declared.noted.Last.TheVariants.{Nothing, Item as LastItem, Refused}
 use Rattle.bt_wire.specs.declared.context.Own.{Own}
 use Rattle.bt_wire.specs.declared.item.Item.{Item}
 use Rattle.bt_wire.specs.declared.item.Refusal.{Refusal}

@@ -11,7 +11,9 @@ use Rattle.bt_wire.specs.declared.item.Item.TheVariants as items
 use Rattle.bt_wire.specs.Messages.{Message as WireMessage}
 use Rattle.bt_wire.specs.declared.message.Message.TheVariants as m
 use Rattle.bt_remarks.specs.declared.events.Block.{Block}
-use Rattle.bt_remarks.specs.Said.{Message, Choke, Unchoke, AllowedFast, HaveAll, Bitfield, Have, Request, Piece, Reject, MetadataRequest, MetadataAnswer, Other}
+use Rattle.bt_wire.specs.Handshakes.{sets_fast}
+use Rattle.bt_remarks.specs.Said.{Message, Handshake, Choke, Unchoke, AllowedFast, HaveAll, Bitfield, Have, Request, Cancel, Piece, Reject}
+use Rattle.bt_remarks.specs.Said.{MetadataRequest, MetadataAnswer, Other}
 
 abbrev pub block_of : ℕ → ℕ → ℕ → Block
 block_of index begin length = record { index = index; begin = begin; length = length }
@@ -33,6 +35,7 @@ message_event m.Unchoke = Unchoke
 message_event (m.Have index) = Have index
 message_event (m.Bitfield bits) = Bitfield bits
 message_event (m.Request index begin length) = Request (block_of index begin length)
+message_event (m.Cancel index begin length) = Cancel (block_of index begin length)
 message_event (m.Piece index begin block) = Piece (block_of index begin (min (length block) (2 ^ 32 - 1)))
 message_event m.HaveAll = HaveAll
 message_event (m.Reject index begin length) = Reject (block_of index begin length)
@@ -41,5 +44,5 @@ message_event (m.Extended e) = extended_event e
 message_event msg = Other
 
 abbrev pub event_of : Item → Message
-event_of (items.Handshake h) = Other
+event_of (items.Handshake h) = Handshake (sets_fast h.reserved)
 event_of (items.Message msg) = message_event msg

@@ -9,7 +9,7 @@ use Rattle.bt_tcp.specs.declared.covered.Gap.{Gap}
 use Rattle.bt_tcp.specs.declared.covered.Gaps.{Gaps}
 use Rattle.bt_text.specs.declared.ended.Ended.{Ended}
 use Rattle.bt_text.specs.declared.ended.Ended.TheVariants.{Accepted, Refused}
-use Rattle.bt_told.specs.declared.rows.Deed.TheVariants as deed
+use Rattle.bt_rows.specs.declared.rows.Deed.TheVariants as deed
 use Rattle.bt_wire.specs.declared.fault.Reason.{Reason}
 use Rattle.bt_wire.specs.declared.fault.Reason.TheVariants.{EndInside}
 use Rattle.bt_wire.specs.declared.item.Refusal.{Refusal}

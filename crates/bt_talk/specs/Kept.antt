@@ -2,7 +2,7 @@
 use Rattle.std.specs.Prelude.{Bool, true, false, Option, Some, None, Box}
 use Rattle.std.specs.declared.alloc.Global.{Global}
 use Rattle.bt_remarks.specs.declared.events.Remarks.{Remarks}
-use Rattle.bt_told.specs.declared.said.Said.{Said}
+use Rattle.bt_rows.specs.declared.said.Said.{Said}
 use Rattle.bt_talk.specs.declared.notes.Firsts.{Firsts}
 
 -- the last item, and the first one with each remark

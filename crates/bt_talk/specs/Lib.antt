@@ -15,6 +15,7 @@ pub mod Stages
 pub mod Marks
 pub mod Replays
 pub mod Ends
+pub mod Strays
 pub mod Closing
 pub mod Talks
 pub mod Unanswered

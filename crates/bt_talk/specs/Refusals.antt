@@ -4,8 +4,8 @@ use Rattle.bt_ext.specs.declared.ids.Rules.TheVariants.{Free, Bep}
 use Rattle.bt_judge.specs.Judges.{AreTold, under}
 use Rattle.bt_text.specs.declared.ended.Ended.{Ended}
 use Rattle.bt_text.specs.declared.ended.Ended.TheVariants.{Accepted, Refused}
-use Rattle.bt_told.specs.declared.why.RefusedMessage.{RefusedMessage}
-use Rattle.bt_told.specs.Whys.{message_in}
+use Rattle.bt_rows.specs.declared.refused.RefusedMessage.{RefusedMessage}
+use Rattle.bt_rows.specs.Refused.{message_in}
 use Rattle.bt_wire.specs.declared.context.Own.{Own}
 use Rattle.bt_wire.specs.declared.item.Item.{Item}
 use Rattle.bt_wire.specs.declared.item.Refusal.{Refusal}

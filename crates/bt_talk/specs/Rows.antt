@@ -3,9 +3,9 @@ use Rattle.std.specs.Prelude.{ℕ, ◌-◌, List, []}
 use Rattle.std.specs.List.{flat_map}
 use Rattle.bt_remarks.specs.declared.events.Remarks.{Remarks}
 use Rattle.bt_remarks.specs.declared.events.Side.{Side}
-use Rattle.bt_told.specs.declared.rows.Deed.{Deed}
-use Rattle.bt_told.specs.declared.rows.Row.{Row}
-use Rattle.bt_told.specs.Rows.{row_text, row_object}
+use Rattle.bt_rows.specs.declared.rows.Deed.{Deed}
+use Rattle.bt_rows.specs.declared.rows.Row.{Row}
+use Rattle.bt_rows.specs.Rows.{row_text, row_object}
 use Rattle.bt_talk.specs.declared.closing.When.{When}
 use Rattle.bt_talk.specs.declared.rows.Heading.{Heading}
 use Rattle.bt_talk.specs.declared.rows.Showing.{Showing}

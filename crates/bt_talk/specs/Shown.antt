@@ -3,9 +3,9 @@ use Rattle.std.specs.Prelude.{◌≡◌, ℕ, Bool, List, [], ◌∷◌, ◌++�
 use Rattle.bt_remarks.specs.declared.events.Side.{Side}
 use Rattle.bt_remarks.specs.Remarked.{remarks_on}
 use Rattle.bt_remarks.specs.Said.{Told, is_same}
-use Rattle.bt_told.specs.declared.report.Means.{Means}
-use Rattle.bt_told.specs.declared.rows.Deed.TheVariants as deed
-use Rattle.bt_told.specs.declared.said.Said.{Said}
+use Rattle.bt_rows.specs.declared.parts.Means.{Means}
+use Rattle.bt_rows.specs.declared.rows.Deed.TheVariants as deed
+use Rattle.bt_rows.specs.declared.said.Said.{Said}
 use Rattle.bt_wire.specs.declared.item.Item.{Item}
 use Rattle.bt_wire.specs.declared.item.Refusal.{Refusal}
 use Rattle.bt_talk.specs.declared.closing.When.{When}

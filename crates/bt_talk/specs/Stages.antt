@@ -1,8 +1,10 @@
 -- How far one direction is: in the opening its bytes are kept, after that they are judged.
 use Rattle.bt_talk.specs.declared.terms.Terms.{Terms}
-use Rattle.std.specs.Prelude.{◌≡◌, ℕ, Bool, true, false, not, List, [], ◌++◌, drop, Option, Some, None}
+use Rattle.std.specs.Prelude.{◌≡◌, ℕ, Bool, true, false, not, List, [], ◌∷◌, ◌++◌, drop, Option, Some, None, ◌⊎◌}
 use Rattle.bt_ext.specs.declared.ids.Rules.TheVariants.{Free}
 use Rattle.bt_feed.specs.Pumps.{Took}
+use Rattle.bt_tcp.specs.Heard.{Acked}
+use Rattle.bt_tcp.specs.Acceptable.{IsUnsent, is_unsent}
 use Rattle.bt_flow.specs.declared.flow.Flow.{Flow}
 use Rattle.bt_flow.specs.Flows.{HasHole}
 use Rattle.bt_intro.specs.Hearing.{IsHeardOf}
@@ -67,6 +69,13 @@ pub record IsDirection (terms : Terms) (p other : Past) (d : Direction) : Type 0
   pub stage : IsStage terms p other d.stage
   pub within : IsWithin (cut_length d.cut) p.out
   pub cut : IsCutNow (receiver_in d.stage) p.front p.out d.cut
+
+-- This side was heard with an acknowledgement of its number, unless that can't have been sent yet.
+abbrev pub HearsOf : ℕ → Bool → Terms → Past → Past → Direction → Type 0
+HearsOf number opens terms p other d' =
+    ((at : ℕ) × IsDirection terms (record p { heard = p.heard ++ Acked (record { number = number; opens = opens; place = at }) ∷ [] }) other d'
+    × (is_unsent p.heard at ≡ false))
+    ⊎ (IsDirection terms p other d' × IsUnsent p.heard number true)
 
 -- the items that were judged of a side: none in the opening, and none without a receiver
 abbrev pub AreItemsIn : Stage → Past → List (ℕ × Item) → Type 0

@@ -12,11 +12,11 @@ use Rattle.bt_remarks.specs.Requests.{Pending}
 use Rattle.bt_remarks.specs.Said.{Told, is_same, other}
 use Rattle.bt_text.specs.declared.ended.Ended.{Ended}
 use Rattle.bt_text.specs.declared.ended.Ended.TheVariants.{Accepted, Refused}
-use Rattle.bt_told.specs.declared.report.Noted.{Noted}
-use Rattle.bt_told.specs.declared.said.Name.TheVariants as name
-use Rattle.bt_told.specs.declared.said.Numbers.TheVariants.{Three}
-use Rattle.bt_told.specs.declared.said.Said.{Said}
-use Rattle.bt_told.specs.declared.said.Words.TheVariants.{Message}
+use Rattle.bt_rows.specs.declared.noted.Noted.{Noted}
+use Rattle.bt_rows.specs.declared.said.Name.TheVariants as name
+use Rattle.bt_rows.specs.declared.said.Numbers.TheVariants.{Three}
+use Rattle.bt_rows.specs.declared.said.Said.{Said}
+use Rattle.bt_rows.specs.declared.said.Words.TheVariants.{Message}
 use Rattle.bt_wire.specs.declared.handshake.Handshake.{Handshake}
 use Rattle.bt_wire.specs.declared.item.Item.{Item}
 use Rattle.bt_wire.specs.Handshakes.{sets_fast}

@@ -8,11 +8,11 @@ use Rattle.bt_remarks.specs.Matched.{IsMatched}
 use Rattle.bt_remarks.specs.Remarked.{remarks_on, tally_of}
 use Rattle.bt_remarks.specs.Said.{Told, Message, is_same}
 use Rattle.bt_text.specs.Lines.{words as words_of}
-use Rattle.bt_told.specs.declared.report.Noted.{Noted}
-use Rattle.bt_told.specs.declared.report.Remarked.{Remarked}
-use Rattle.bt_told.specs.declared.rows.Deed.TheVariants as deed
-use Rattle.bt_told.specs.declared.said.Said.{Said}
-use Rattle.bt_told.specs.Said.{words_text}
+use Rattle.bt_rows.specs.declared.noted.Noted.{Noted}
+use Rattle.bt_rows.specs.declared.noted.Remarked.{Remarked}
+use Rattle.bt_rows.specs.declared.rows.Deed.TheVariants as deed
+use Rattle.bt_rows.specs.declared.said.Said.{Said}
+use Rattle.bt_rows.specs.Said.{words_text}
 use Rattle.bt_wire.specs.declared.item.Item.{Item}
 use Rattle.bt_talk.specs.declared.watch.Watch.{Watch}
 use Rattle.bt_talk.specs.Events.{event_of}

@@ -1,6 +1,7 @@
 //! How a connection was closed.
 ghost use Rattle.std.specs.Prelude.{◌≡◌, ◌||◌, ◌&&◌, is_some};
 ghost use Rattle.bt_talk.specs.Cuts.{closes_first};
+ghost use Rattle.bt_talk.specs.Strays.{heeded as heeded_by};
 ghost use Rattle.bt_talk.specs.Closing.{still_open, closed_after, over_after, is_quiet, high_at, opens_by};
 
 use bt_packet::Flags;
@@ -101,6 +102,22 @@ impl Closing {
             Some(over) => nanos.saturating_sub(over) >= QUIET,
             None => false,
         }
+    }
+}
+
+/// Returns the flags of a segment that count: of a stray neither SYN, nor FIN, nor RST.
+pub(crate) fn heeded(flags: Flags, is_stray: bool) -> Flags
+    ensures { result ≡ heeded_by is_stray flags }
+{
+    if is_stray {
+        Flags {
+            fin: false,
+            syn: false,
+            rst: false,
+            ack: flags.ack,
+        }
+    } else {
+        flags
     }
 }
 

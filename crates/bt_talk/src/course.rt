@@ -8,7 +8,7 @@ ghost use Rattle.bt_remarks.specs.Said.{is_same};
 use crate::closing::When;
 use bt_packet::Flags;
 use bt_remarks::Side;
-use bt_told::Means;
+use bt_rows::Means;
 
 /// What came of a side so far.
 #[derive(Clone, Copy)]
@@ -17,12 +17,15 @@ pub(crate) struct Course {
     pub(crate) is_closed: bool,
     /// The packet with which its stream grew last; before that, the first one with a byte of the side.
     pub(crate) grown: Option<When>,
+    /// How many of its segments were strays.
+    pub(crate) strays: u64,
 }
 
 /// That of a side which has sent nothing.
 const NOT_BEGUN: Course = Course {
     is_closed: false,
     grown: None,
+    strays: 0,
 };
 
 /// What came of both sides so far.
@@ -51,11 +54,12 @@ fn close_by(flags: Flags, is_closed: bool) -> Option<Means>
 
 impl Course {
     /// Notes a segment of the side.
-    fn take(&mut self, flags: Flags, grows: bool, when: When)
-        ensures { self.new ≡ course_after flags grows when self.old }
+    fn take(&mut self, flags: Flags, stray: bool, grows: bool, when: When)
+        ensures { self.new ≡ course_after flags stray grows when self.old }
     {
         self.is_closed |= flags.fin || flags.rst;
         self.grown = grows.then_some(when).or(self.grown);
+        self.strays = self.strays.saturating_add(u64::from(stray));
     }
 }
 
@@ -91,24 +95,25 @@ impl Courses {
 
     /// Notes a segment of a side, and returns how the side closes with it, if it hasn't closed before.
     ///
-    /// `grows` says whether its stream grew, or its first byte came.
+    /// `flags` are those that count, and `stray` says whether it is a stray. `grows` says whether its stream grew, or its first byte came.
     pub(crate) fn take(
         &mut self,
         side: Side,
         flags: Flags,
+        stray: bool,
         grows: bool,
         when: When,
     ) -> Option<Means>
         ensures closes { result ≡ closes_by flags (course_of side self.old).is_closed }
         ensures after { (s : Side) → course_of s self.new
-            ≡ (if is_same side s then course_after flags grows when (course_of s self.old) else course_of s self.old) }
+            ≡ (if is_same side s then course_after flags stray grows when (course_of s self.old) else course_of s self.old) }
         ensures first { self.new.first ≡ option_or self.old.first (Some when) }
     {
         self.first = self.first.or(Some(when));
         let closes = close_by(flags, self.of(side).is_closed);
         match side {
-            Side::A => self.a.take(flags, grows, when),
-            Side::B => self.b.take(flags, grows, when),
+            Side::A => self.a.take(flags, stray, grows, when),
+            Side::B => self.b.take(flags, stray, grows, when),
         }
         closes
     }

@@ -7,14 +7,13 @@ ghost use Rattle.bt_intro.specs.Hearing.{IsHeardOf, HasNoMemory};
 ghost use Rattle.bt_intro.specs.Hellos.{IsStartOf};
 ghost use Rattle.bt_judge.specs.Judges.{AreJudged};
 ghost use Rattle.bt_feed.specs.Pumps.{Took};
-ghost use Rattle.bt_tcp.specs.Heard.{Acked};
 ghost use Rattle.bt_wire.specs.declared.context.Own.{Own};
 ghost use Rattle.bt_wire.specs.declared.item.Item.{Item};
 ghost use Rattle.bt_talk.specs.Pasts.{Past, no_past, IsFlowOf, Adds};
 ghost use Rattle.bt_talk.specs.Sent.{IsReady};
 ghost use Rattle.bt_talk.specs.Receivers.{IsReceiver, IsJudgedBy, IsReceiverNow, AreItems, AreVerdicts};
 ghost use Rattle.bt_talk.specs.Replays.{IsReplay, IsOpenedBy};
-ghost use Rattle.bt_talk.specs.Stages.{IsDirection, IsStage, AreItemsIn, Speaks, is_opening, receiver_in, IsRefusedIn, IsKnown};
+ghost use Rattle.bt_talk.specs.Stages.{HearsOf, IsDirection, IsStage, AreItemsIn, Speaks, is_opening, receiver_in, IsRefusedIn, IsKnown};
 ghost use Rattle.bt_talk.specs.Cuts.{IsCutBy, IsLastBefore, cut_length};
 ghost use Rattle.bt_talk.specs.Watching.{IsLast, Watches};
 
@@ -25,7 +24,7 @@ use crate::watch::Watch;
 use bt_flow::{Flow, Given};
 use bt_intro::{Introduction, Receiver};
 use bt_judge::Judge;
-use bt_told::{Last, Said};
+use bt_rows::{Last, Said};
 use bt_wire::Refusal;
 use std::alloc::{AllocError, Global};
 use std::mem::size_of;
@@ -175,10 +174,10 @@ impl Direction {
         }
     }
 
-    /// Takes an acknowledgement by the other side.
+    /// Takes an acknowledgement by the other side, unless it is of what can't have been sent yet.
     pub(crate) fn hear(&mut self, acked: u32, opens: bool)
         ensures heard { (terms : Terms) (p other : Past) → IsDirection terms p other self.old
-            → (at : ℕ) × IsDirection terms (record p { heard = p.heard ++ Acked (record { number = acked; opens = opens; place = at }) ∷ [] }) other self.new }
+            → HearsOf acked opens terms p other self.new }
         ensures stage { self.new.stage ≡ self.old.stage }
         ensures cut { self.new.cut ≡ self.old.cut }
         ensures stream { self.new.flow.stream ≡ self.old.flow.stream }

@@ -13,6 +13,7 @@ mod refused;
 mod replay;
 mod room;
 mod rows;
+mod sides;
 mod stage;
 mod summary;
 mod talk;

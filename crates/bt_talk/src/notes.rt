@@ -3,7 +3,7 @@ ghost use Rattle.std.specs.Prelude.{◌≡◌, None, OnOk, IfSome};
 ghost use Rattle.bt_talk.specs.Kept.{first_said, firsts_after, no_firsts, noted};
 
 use bt_remarks::Remarks;
-use bt_told::Said;
+use bt_rows::Said;
 use std::alloc::{AllocError, Global};
 use std::marker::Model;
 use std::mem::size_of;

@@ -8,8 +8,8 @@ ghost use Rattle.bt_wire.specs.declared.item.Refusal.{Refusal};
 ghost use Rattle.bt_talk.specs.Refusals.{IsMessageOf, AreExplained};
 
 use bt_judge::{Judge, Unread};
+use bt_rows::RefusedMessage;
 use bt_text::ended::Ended;
-use bt_told::RefusedMessage;
 
 /// The verdicts of a stream by both rule sets, and what is there of the messages that they refuse.
 #[derive(Clone, Copy)]

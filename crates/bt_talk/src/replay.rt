@@ -25,7 +25,7 @@ use crate::watch::Watch;
 use bt_intro::Receiver;
 use bt_judge::Judge;
 use bt_remarks::Side;
-use bt_told::{Last, Means, Said};
+use bt_rows::{Last, Means, Said};
 use bt_wire::Refusal;
 use std::alloc::{AllocError, Global};
 

@@ -5,7 +5,7 @@ ghost use Rattle.bt_talk.specs.Shows.{Appends};
 
 use crate::closing::When;
 use bt_remarks::{Remarks, Side};
-use bt_told::{Deed, Row, RowBuffer, RowForm, Said, Stamp};
+use bt_rows::{Deed, Row, RowBuffer, RowForm, Said, Stamp};
 use std::alloc::{AllocError, Global};
 
 /// How rows are shown.

@@ -17,7 +17,7 @@ use crate::terms::Terms;
 use crate::watch::Watch;
 use bt_intro::{Introduction, Receiver, receiver_of};
 use bt_judge::Judge;
-use bt_told::{Last, Said};
+use bt_rows::{Last, Said};
 use bt_wire::Own;
 use std::alloc::{AllocError, Global};
 

@@ -1,9 +1,9 @@
 //! What a connection tells of its sides, and the rows at its end.
-ghost use Rattle.std.specs.Prelude.{is_some, ◌≡◌, [], ◌-◌, ℕ, List, length, OnOk, OnErr, Option};
+ghost use Rattle.std.specs.Prelude.{is_some, ◌≡◌, [], ◌-◌, ℕ, List, length, OnOk, OnErr, Option, Bool};
 ghost use Rattle.bt_talk.specs.Pasts.{Past};
 ghost use Rattle.bt_remarks.specs.declared.events.Side.{Side};
 
-use crate::closing::{Closed, opens};
+use crate::closing::{Closed, heeded, opens};
 use crate::inside::ended_inside;
 use crate::refused::Judgement;
 use crate::replay::Mark;
@@ -15,8 +15,8 @@ use bt_intro::Receiver;
 use bt_jobs::Announced;
 use bt_packet::Segment;
 use bt_remarks::{Ending, Side};
+use bt_rows::{Deed, Last, Noted, Remarked};
 use bt_tcp::Gaps;
-use bt_told::{Deed, Last, Noted, Remarked};
 use bt_wire::{Handshake, Refusal};
 use std::alloc::AllocError;
 use std::mem::size_of;
@@ -32,7 +32,8 @@ impl Talk {
     ghost use Rattle.std.specs.Prelude.{option_map, unwrap_or};
     ghost use Rattle.bt_tcp.specs.Heard.{opening_of};
     ghost use Rattle.bt_talk.specs.Closing.{high_at, is_quiet, opens_by};
-    ghost use Rattle.bt_talk.specs.Talks.{IsTalk, ShowsGap, terms_of, closing_of, IsSender, is_in_opening, flow_of, cut_of, of_side};
+    ghost use Rattle.bt_talk.specs.Strays.{IsStrayReset, heeded as heeded_by};
+    ghost use Rattle.bt_talk.specs.Talks.{IsTalk, ShowsGap, terms_of, closing_of, IsSender, is_in_opening, flow_of, cut_of, of_side, strays_of};
     ghost use Rattle.bt_talk.specs.Receivers.{AreVerdicts, IsReceiverNow};
     ghost use Rattle.bt_talk.specs.Cuts.{IsLastBefore};
     ghost use Rattle.bt_talk.specs.Inside.{AreEndRows, AreLastRows, EndsInside, ShowsInside};
@@ -178,7 +179,7 @@ impl Talk {
         if !self.have_fast() {
             return None;
         }
-        unanswered_of(&self.watch.matcher, side, self.ending(other(side)))
+        unanswered_of(&self.sides.watch.matcher, side, self.ending(other(side)))
     }
 
     /// Returns the remarks on what a side sent, as if the connection ended here.
@@ -194,7 +195,7 @@ impl Talk {
         let unanswered = self.unanswered(side);
         Remarked {
             unanswered,
-            ..self.watch.remarked(side)
+            ..self.sides.watch.remarked(side)
         }
     }
 
@@ -264,6 +265,14 @@ impl Talk {
         self.direction(side).flow.conflicts()
     }
 
+    /// Returns how many segments of a side were strays, up to 2^64 - 1: a RST with a number that the other side couldn't expect next, or
+    /// another segment that wasn't in the other side's window (RFC 9293 3.4, 3.5.3).
+    pub fn strays(&self, side: Side) -> u64
+        ensures { result ≡ strays_of side self.now }
+    {
+        self.courses.of(side).strays
+    }
+
     /// Tells whether bytes of a side are known to be sent that aren't put together.
     pub fn has_hole(&self, side: Side) -> bool
         ensures { (a b : Past) → IsTalk a b self.now → let p = of_side side a b in HasHole p.heard p.out (flow_of side self.now).stream result }
@@ -325,22 +334,30 @@ impl Talk {
 
     /// Tells whether a segment begins another connection between the same ends.
     ///
-    /// It does if it is a SYN without ACK of a side that has sent something, and not that side's SYN again.
+    /// It does if it is a SYN without ACK of a side that has sent something, and not that side's SYN again. A stray RST never does.
     pub fn opens_again(&self, segment: &Segment) -> bool
         ensures { (a b : Past) → IsTalk a b self.now → (side : Side) × IsSender segment.now self.now side × (let p = of_side side a b in
-            result ≡ opens_by segment.now.flags (high_in p.heard (flow_of side self.now).stream) (opening_of p.heard) segment.now.sequence) }
+            (stray : Bool) × IsStrayReset segment.now p stray × (result ≡ opens_by (heeded_by stray segment.now.flags) (high_in p.heard (flow_of side self.now).stream) (opening_of p.heard) segment.now.sequence)) }
     {
-        let flow = &self.direction(self.ends.sender(segment)).flow;
-        opens(segment.flags, flow.high(), flow.opening(), segment.sequence)
+        let side = self.ends.sender(segment);
+        let stray = self.is_stray_reset(side, segment);
+        let flags = heeded(segment.flags, stray);
+        let flow = &self.direction(side).flow;
+        opens(flags, flow.high(), flow.opening(), segment.sequence)
     }
 
     /// Returns about how many bytes of memory the connection takes besides its own fields.
     pub fn size(&self) -> usize {
-        let marks = self.marks.capacity().saturating_mul(size_of::<Mark>());
-        self.a
+        let marks = self
+            .sides
+            .marks
+            .capacity()
+            .saturating_mul(size_of::<Mark>());
+        self.sides
+            .a
             .size()
-            .saturating_add(self.b.size())
+            .saturating_add(self.sides.b.size())
             .saturating_add(marks)
-            .saturating_add(self.watch.size())
+            .saturating_add(self.sides.watch.size())
     }
 }

@@ -11,8 +11,8 @@ use crate::closing::Closed;
 use crate::refused::Judgement;
 use bitflags::Flags;
 use bt_remarks::{Ending, Matcher, Request, Side};
+use bt_rows::{Name, Noted, Numbers, Said, Words};
 use bt_text::ended::Ended;
-use bt_told::{Name, Noted, Numbers, Said, Words};
 use bt_wire::{Handshake, Reserved};
 
 /// Returns the other side.

@@ -13,20 +13,21 @@ ghost use Rattle.bt_talk.specs.Events.{block_of, metadata_event, extended_event,
 ghost use Rattle.bt_talk.specs.Courses.{refusal_rows, close_rows};
 ghost use Rattle.bt_talk.specs.Rows.{row_at};
 ghost use Rattle.bt_talk.specs.Shows.{Appends};
-ghost use Rattle.bt_told.specs.declared.rows.Deed.TheVariants as deed;
+ghost use Rattle.bt_rows.specs.declared.rows.Deed.TheVariants as deed;
 ghost use Rattle.bt_talk.specs.Kept.{noted as noted_by};
 ghost use Rattle.bt_talk.specs.Watching.{IsItemAt, IsNoted};
 
 use crate::closing::When;
 use crate::notes::Notes;
 use crate::rows::{NO_HEADING, NO_REMARKS, Rows};
+use bitflags::Flags;
 use bt_bencode::DictRef;
 use bt_ext::{ExtView, Kind};
 use bt_feed::{Sink, SinkFault, View};
 use bt_remarks::{Block, Event, Found, Heard, Matcher, Remarks, Side};
+use bt_rows::{Deed, Means, Noted, Remarked, Said, Words};
 use bt_text::words::Dictionary;
-use bt_told::{Deed, Means, Noted, Remarked, Said, Words};
-use bt_wire::{MessageView, Refusal};
+use bt_wire::{MessageView, Refusal, Reserved};
 use std::alloc::{AllocError, Global};
 use std::mem;
 
@@ -84,6 +85,11 @@ fn message_event<'a>(message: &MessageView<'a>) -> Event<'a>
             begin,
             length,
         } => Event::Request(block_of(*index, *begin, *length)),
+        MessageView::Cancel {
+            index,
+            begin,
+            length,
+        } => Event::Cancel(block_of(*index, *begin, *length)),
         MessageView::Piece {
             index,
             begin,
@@ -107,7 +113,9 @@ fn event_of<'a>(view: &View<'a>) -> Event<'a>
     ensures { said_in result ≡ event_by (item_of view.now) }
 {
     match view {
-        View::Handshake(_) => Event::Other,
+        View::Handshake(handshake) => Event::Handshake {
+            fast: handshake.reserved.contains(Reserved::FAST),
+        },
         View::Message(message) => message_event(message),
     }
 }

@@ -1,5 +1,5 @@
 -- What a capture tells of one direction of a connection, beside its bytes: the segments that it sent, and the acknowledgements by the other side, newest last.
-use Rattle.std.specs.Prelude.{◌≡◌, ℕ, max, ◌+◌, ◌-◌, ◌%◌, ◌^◌, Bool, List, [], ◌∷◌, Option, Some, None, unwrap_or, IsSome, ◌⊎◌, if◌then◌else◌, nat_lt}
+use Rattle.std.specs.Prelude.{◌≡◌, ℕ, max, ◌+◌, ◌-◌, ◌%◌, ◌^◌, Bool, List, [], ◌∷◌, Option, Some, None, unwrap_or, IsSome, is_some, ◌⊎◌, if◌then◌else◌, nat_lt}
 use Rattle.std.specs.Bool.{then_some}
 use Rattle.std.specs.Option.{option_or}
 use Rattle.bt_tcp.specs.Places.{IsNearest}
@@ -71,10 +71,6 @@ opening_of heard = option_or (latest syn_number heard) (first acked_syn heard)
 
 -- places
 
-abbrev pub segment_place : Heard → Option ℕ
-segment_place (Took s) = Some s.place
-segment_place (Acked a) = None
-
 abbrev pub segment_end : Heard → Option ℕ
 segment_end (Took s) = Some (s.place + s.size)
 segment_end (Acked a) = None
@@ -92,10 +88,6 @@ abbrev pub acked_place : Heard → Option ℕ
 acked_place (Took s) = None
 acked_place (Acked a) = Some a.place
 
--- the place near which the next number stands: that of the last segment
-abbrev pub last_of : List Heard → ℕ
-last_of heard = unwrap_or (latest segment_place heard) (2 ^ 40)
-
 -- where the segments end, at least the first place
 abbrev pub end_of : List Heard → ℕ
 end_of heard = greatest (2 ^ 40) segment_end heard
@@ -103,6 +95,10 @@ end_of heard = greatest (2 ^ 40) segment_end heard
 -- where what was acknowledged ends, at least the first place
 abbrev pub acked_of : List Heard → ℕ
 acked_of heard = greatest (2 ^ 40) acked_place heard
+
+-- An acknowledgment was captured.
+abbrev pub has_ack : List Heard → Bool
+has_ack heard = is_some (first acked_place heard)
 
 -- where what was captured ends, 0 if nothing was
 abbrev pub high_of : List Heard → ℕ
@@ -112,10 +108,9 @@ high_of heard = greatest 0 captured_end heard
 abbrev pub fin_of : List Heard → Option ℕ
 fin_of heard = latest fin_place heard
 
--- Each number stands at the place nearest to the segment before it (RFC 9293 3.4).
+-- Each number stands at the place nearest to where the segments before it end (RFC 9293 3.4).
 abbrev pub near_after : ℕ → Heard → ℕ
-near_after near (Took s) = s.place
-near_after near (Acked a) = near
+near_after near e = raised (segment_end e) near
 
 abbrev pub place_of : Heard → ℕ
 place_of (Took s) = s.place

@@ -45,10 +45,6 @@ HandsOutMore next ahead more next' ahead' =
 abbrev pub EndsStream : ℕ → (ℕ → Option ℕ) → List ℕ → Type 0
 EndsStream next ahead more = (segs : List Segment) (base : ℕ) (out : List ℕ) → IsTaken segs base out next ahead → IsStream segs base (out ++ more)
 
--- A gap was given up: what follows is a stream of its own.
-abbrev pub BeginsAnew : ℕ → (ℕ → Option ℕ) → ℕ → (ℕ → Option ℕ) → Type 0
-BeginsAnew next ahead next' ahead' = (segs : List Segment) (base : ℕ) (out : List ℕ) → IsTaken segs base out next ahead → IsTaken segs next' [] next' ahead'
-
 -- The window is another one now, and has taken and handed out the same.
 abbrev pub GoesOn : ℕ → (ℕ → Option ℕ) → ℕ → (ℕ → Option ℕ) → Type 0
 GoesOn next ahead next' ahead' = (segs : List Segment) (base : ℕ) (out : List ℕ) → IsTaken segs base out next ahead → IsTaken segs base out next' ahead'

@@ -1,5 +1,6 @@
 //! What a capture tells of one direction of a connection, beside its bytes: what was opened, sent, acknowledged and closed.
 ghost use Rattle.std.specs.Prelude.{◌≡◌, ◌+◌, ◌%◌, ◌^◌, ◌≤◌, if◌then◌else◌};
+ghost use Rattle.bt_tcp.specs.Acceptable.{is_out_of_range};
 
 use crate::places::place;
 
@@ -10,7 +11,10 @@ const LOWEST: u64 = 0x1_0000_0000;
 
 const HIGHEST: u64 = 0x4000_0000_0000_0000;
 
-/// A segment's place is below 2^32, or it ends past 2^62.
+/// The greatest window (RFC 7323 2.2, 2.3).
+const WINDOW: u64 = 65_535 << 14;
+
+/// A segment is passed over: it isn't in the window, or its place is out of range.
 #[derive(Clone, Copy, Debug, PartialEq, Eq)]
 pub struct PlaceFault;
 
@@ -21,13 +25,14 @@ pub struct PlaceFault;
 pub struct Half {
     zero: Option<u32>,
     opening: Option<u32>,
-    last: u64,
     end: u64,
     acked: u64,
+    is_acked: bool,
     fin: Option<u64>,
     high: u64,
-    ghost lowest: { 2 ^ 32 ≤ last },
-    ghost highest: { last ≤ 2 ^ 62 },
+    ghost lowest: { 2 ^ 32 ≤ end },
+    ghost highest: { end ≤ 2 ^ 62 },
+    ghost heard: { acked ≤ 2 ^ 63 },
 }
 
 /// Returns the number of a segment's first data byte. A SYN counts as one before it.
@@ -41,10 +46,20 @@ fn data_number(sequence: u32, syn: bool) -> u32
     }
 }
 
+/// Tells whether a segment's place is below 2^32, or it ends past 2^62.
+fn is_out_of_range(at: u64, captured: usize, length: u64) -> bool
+    ensures { result ≡ is_out_of_range captured length at }
+{
+    at < LOWEST || at > HIGHEST || length > HIGHEST - at || captured as u64 > HIGHEST - at
+}
+
 impl Half {
-    ghost use Rattle.std.specs.Prelude.{ℕ, ◌<◌, List, [], IsTrue, ◌↔◌, IfOk, OnErr};
+    ghost use Rattle.std.specs.Prelude.{ℕ, ◌<◌, List, [], IsTrue, ◌↔◌, IfOk, OnErr, IfSome, None, true, false, unwrap_or};
     ghost use Rattle.bt_tcp.specs.Heard.{Heard, Took, Acked, sent_of, IsBase, IsStart};
-    ghost use Rattle.bt_tcp.specs.Halves.{IsHalf, HearsMore, IsOutOfRange};
+    ghost use Rattle.bt_tcp.specs.Halves.{IsHalf, HearsMore};
+    ghost use Rattle.bt_tcp.specs.Acceptable.{is_numbered, is_passed, is_past_filling, is_unsent, window_end, IsPassed, IsUnsent};
+    ghost use Rattle.bt_tcp.specs.Places.{IsNearest};
+    ghost use Rattle.bt_tcp.specs.Resets.{MayBeNext, is_sent_to};
 
     /// Starts with nothing captured.
     pub fn new() -> Half
@@ -53,12 +68,60 @@ impl Half {
         Half {
             zero: None,
             opening: None,
-            last: FIRST,
             end: FIRST,
             acked: FIRST,
+            is_acked: false,
             fin: None,
             high: 0,
         }
+    }
+
+    /// Returns the place of a number: the nearest to what was sent.
+    fn place_of(&self, number: u32) -> u64
+        ensures is { IsNearest (unwrap_or self.now.zero number) self.now.end number result }
+        ensures high { result ≤ 2 ^ 63 }
+    {
+        place(self.zero.unwrap_or(number), self.end, number)
+    }
+
+    /// Tells whether the numbers of this side are certain. Until a byte of it was captured, a SYN may give another number.
+    fn is_numbered(&self, syn: bool) -> bool
+        ensures { (heard : List Heard) → IsHalf heard self.now → result ≡ is_numbered heard syn }
+    {
+        self.high > 0 || (self.opening.is_some() && !syn)
+    }
+
+    /// Returns the place at which the window of this side's receiver ends at the latest.
+    fn window_end(&self) -> u64
+        ensures { (heard : List Heard) → IsHalf heard self.now → result ≡ window_end heard }
+    {
+        self.end.max(self.acked) + WINDOW
+    }
+
+    /// Tells whether a segment at a place is passed over.
+    fn is_passed(&self, at: u64, syn: bool, fin: bool, captured: usize, length: u64) -> bool
+        ensures passed { (heard : List Heard) → IsHalf heard self.now → result ≡ is_passed heard syn fin captured length at }
+        ensures range { result ≡ false → at + length ≤ 2 ^ 62 }
+        ensures captured { result ≡ false → at + captured ≤ 2 ^ 62 }
+    {
+        if is_out_of_range(at, captured, length) {
+            return true;
+        }
+        if !self.is_numbered(syn) {
+            return false;
+        }
+        at >= self.window_end() || (fin && at + length + 1 < self.acked)
+    }
+
+    /// Tells whether [`Half::take`] passes a segment over: none of it is in the window of its receiver (RFC 9293 3.4).
+    ///
+    /// `length` is how many data bytes it has, of which `captured` were captured. The window is the greatest possible one. Nothing is
+    /// out of it before the side's SYN or its first captured byte. A FIN before what was acknowledged is passed over too.
+    pub fn passes(&self, sequence: u32, syn: bool, fin: bool, captured: usize, length: u64) -> bool
+        ensures { (heard : List Heard) → IsHalf heard self.now → IsPassed heard sequence syn fin captured length result }
+    {
+        let at = self.place_of(data_number(sequence, syn));
+        self.is_passed(at, syn, fin, captured, length)
     }
 
     /// Takes a segment that this side sent, and returns the place of its first data byte.
@@ -66,7 +129,7 @@ impl Half {
     /// `length` is how many data bytes it has, of which `captured` were captured. A RST isn't to be taken.
     ///
     /// # Errors
-    /// `PlaceFault` if its place is out of range. Nothing has changed then.
+    /// `PlaceFault` if it is passed over, as [`Half::passes`] tells. Nothing has changed then.
     pub fn take(
         &mut self,
         sequence: u32,
@@ -77,12 +140,13 @@ impl Half {
     ) -> Result<u64, PlaceFault>
         ensures taken { IfOk result (λ at. HearsMore self.old
             (Took (record { sequence = sequence; syn = syn; fin = fin; captured = captured; size = length; place = at })) self.new) }
-        ensures refused { OnErr result (IsOutOfRange self.old ((sequence + (if syn then 1 else 0)) % 2 ^ 32) captured length) }
+        ensures counts { IfOk result (λ at. (heard : List Heard) → IsHalf heard self.old → is_passed heard syn fin captured length at ≡ false) }
+        ensures refused { OnErr result ((heard : List Heard) → IsHalf heard self.old → IsPassed heard sequence syn fin captured length true) }
         ensures kept { OnErr result (self.new ≡ self.old) }
     {
         let number = data_number(sequence, syn);
-        let at = place(self.zero.unwrap_or(number), self.last, number);
-        if at < LOWEST || at > HIGHEST || length > HIGHEST - at || captured as u64 > HIGHEST - at {
+        let at = self.place_of(number);
+        if self.is_passed(at, syn, fin, captured, length) {
             return Err(PlaceFault);
         }
         let end = at + length;
@@ -94,26 +158,42 @@ impl Half {
         *self = Half {
             zero: self.zero.or(Some(number)),
             opening: syn.then_some(sequence).or(self.opening),
-            last: at,
             end: end.max(self.end),
             acked: self.acked,
+            is_acked: self.is_acked,
             fin: fin.then_some(end).or(self.fin),
             high,
         };
         Ok(at)
     }
 
+    /// Tells whether what ends at a place can't have been sent yet.
+    fn is_unsent(&self, at: u64) -> bool
+        ensures { (heard : List Heard) → IsHalf heard self.now → result ≡ is_unsent heard at }
+    {
+        self.is_numbered(false) && at > self.window_end()
+    }
+
     /// Takes an acknowledgement by the other side, and returns its place.
     ///
     /// `opens` says whether it came with the other side's SYN.
-    pub fn hear(&mut self, acked: u32, opens: bool) -> u64
-        ensures { HearsMore self.old (Acked (record { number = acked; opens = opens; place = result })) self.new }
+    ///
+    /// It returns `None` if that can't have been sent yet (RFC 9293 3.10.7.4). Nothing has changed then.
+    pub fn hear(&mut self, acked: u32, opens: bool) -> Option<u64>
+        ensures heard { IfSome result (λ at. HearsMore self.old (Acked (record { number = acked; opens = opens; place = at })) self.new) }
+        ensures counts { IfSome result (λ at. (heard : List Heard) → IsHalf heard self.old → is_unsent heard at ≡ false) }
+        ensures refused { result ≡ None → (heard : List Heard) → IsHalf heard self.old → IsUnsent heard acked true }
+        ensures kept { result ≡ None → self.new ≡ self.old }
     {
-        let at = place(self.zero.unwrap_or(acked), self.last, acked);
+        let at = self.place_of(acked);
+        if self.is_unsent(at) {
+            return None;
+        }
         self.zero = self.zero.or(Some(acked));
         self.opening = self.opening.or(opens.then_some(acked.wrapping_sub(1)));
         self.acked = self.acked.max(at);
-        at
+        self.is_acked = true;
+        Some(at)
     }
 
     /// Returns the place after the SYN, if its number is known.
@@ -166,6 +246,30 @@ impl Half {
         next < self.sent(next)
     }
 
+    /// Tells whether all before a place is known to be sent. The FIN counts as one.
+    fn is_sent_to(&self, at: u64) -> bool
+        ensures { (heard : List Heard) → IsHalf heard self.now → result ≡ is_sent_to heard at }
+    {
+        let to_fin = match self.fin {
+            Some(fin) => at.saturating_sub(1) <= fin,
+            None => false,
+        };
+        at <= self.end || at <= self.acked || to_fin
+    }
+
+    /// Tells whether the receiver of this side may expect a number next.
+    ///
+    /// It may, if that is from what it acknowledged up to what was sent. If no number is known, it may expect any.
+    pub fn may_be_next(&self, sequence: u32) -> bool
+        ensures { (heard : List Heard) → IsHalf heard self.now → MayBeNext heard sequence result }
+    {
+        let Some(zero) = self.zero else {
+            return true; // no number is known
+        };
+        let at = place(zero, self.end, sequence);
+        at >= self.acked && self.is_sent_to(at)
+    }
+
     /// Returns the number of this side's SYN, if it is known.
     pub fn opening(&self) -> Option<u32>
         ensures { result ≡ self.now.opening }
@@ -178,6 +282,13 @@ impl Half {
         ensures { result ≡ self.now.acked }
     {
         self.acked
+    }
+
+    /// Tells whether no segment fills a gap at a place any more: it was acknowledged, or no acknowledgement was ever captured.
+    pub fn is_past_filling(&self, place: u64) -> bool
+        ensures { (heard : List Heard) → IsHalf heard self.now → result ≡ is_past_filling heard place }
+    {
+        !self.is_acked || place < self.acked
     }
 
     /// Returns the place of the FIN, if one was captured.

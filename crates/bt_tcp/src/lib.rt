@@ -8,10 +8,8 @@ pub mod history;
 pub mod laws;
 mod places;
 mod rings;
-mod whole;
 
 pub use covered::{Gap, Gaps, Span, Spans, TableFull};
 pub use halves::{Half, PlaceFault};
 pub use places::place;
 pub use rings::{Put, Ring};
-pub use whole::{Captured, Failed, reassemble};

@@ -4,7 +4,7 @@ ghost use Rattle.bt_tcp.specs.Bits.{places, flag};
 ghost use Rattle.bt_tcp.specs.Segments.{Segment, or_else, byte_in};
 ghost use Rattle.bt_tcp.specs.Cells.{slot_of, is_known, ring, IsRing, IsWritten};
 ghost use Rattle.bt_tcp.specs.Rings.{ahead, IsSound};
-ghost use Rattle.bt_tcp.specs.Windows.{IsTaken, IsPutOf, IsReady, TakesOneMore, HandsOutMore, EndsStream, BeginsAnew, GoesOn};
+ghost use Rattle.bt_tcp.specs.Windows.{IsTaken, IsPutOf, IsReady, TakesOneMore, HandsOutMore, EndsStream, GoesOn};
 ghost use Rattle.bt_tcp.specs.History.{differs, conflicts, held};
 
 use crate::bits;
@@ -293,31 +293,11 @@ impl Ring {
         &bytes[head..head + count]
     }
 
-    /// Tells whether it is known that no byte is ahead: all that segments covered was handed out or given up.
+    /// Tells whether it is known that no byte is ahead: all that segments covered was handed out.
     pub fn is_empty(&self) -> bool
         ensures { result ≡ nat_le self.now.end self.now.next }
     {
         self.end <= self.next
-    }
-
-    /// Gives up the gap before the first byte ahead, and returns how many places that are. The stream goes on after them, as one of its own.
-    ///
-    /// With no byte ahead there is no gap to give up.
-    pub fn give_up(&mut self, known: &[u8], bytes: &[u8]) -> usize
-        requires { IsSound self.old known.now bytes.now }
-        ensures sound { IsSound self.new known.now bytes.now }
-        ensures next { self.new.next ≡ self.old.next + result }
-        ensures gap { (k : ℕ) → k < result → ahead self.old known.now bytes.now k ≡ None }
-        ensures ends { ahead self.new known.now bytes.now 0 ≡ None → (k : ℕ) → ahead self.new known.now bytes.now k ≡ None }
-        ensures taken { 0 < result → BeginsAnew self.old.next (ahead self.old known.now bytes.now) self.new.next (ahead self.new known.now bytes.now) }
-    {
-        let count = count_unknown(known, bytes.len(), self.head, bytes.len());
-        if count == bytes.len() {
-            return 0;
-        }
-        self.head = advanced(known, bytes.len(), self.head, count);
-        self.next += count as u64;
-        count
     }
 
     /// Tells whether a byte differs from the one ahead at its place, if there is one.

@@ -28,6 +28,7 @@ use bt_jobs::{OtherError, run_check_after};
 use bt_link::run_rig;
 use bt_loop::{open_tcp, run_loop};
 use bt_pcap::FileFault;
+use bt_peers::{PeersJob, end_peers, run_peers};
 use bt_run::hint::Kept;
 use bt_text::ended::ToolFault;
 use bt_wire::Own;
@@ -134,6 +135,7 @@ impl<'a, R: Files + Input + Net + Clock + RandomSource + AllocGlobal, W: Write, 
             Asked::Capture(request) => self.capture(request),
             Asked::Loop(rules, limit) => self.run_loop(*rules, *limit),
             Asked::Fetch(job) => self.fetch(job),
+            Asked::Peers(job) => self.peers(job),
             Asked::Serve(job) => self.serve(job),
             Asked::Told(Notice::Usage, text) => self.refuse(text.as_str()),
             Asked::Told(_, text) => {
@@ -562,6 +564,14 @@ impl<'a, R: Files + Input + Net + Clock + RandomSource + AllocGlobal, W: Write, 
             Ok(listed) => self.fetch_from(job, listed.as_slice()),
             Err(status) => status,
         }
+    }
+
+    /// Searches for the peers of a link, and returns the exit status.
+    #[inline(never)]
+    fn peers(&mut self, job: &PeersJob) -> u8 {
+        let alloc = self.host.alloc();
+        let found = run_peers(self.host, alloc, job, &mut self.writer, &mut self.errors);
+        end_peers(found, self.is_gone.get(), &mut self.errors)
     }
 
     /// Serves metadata to peers, and returns the exit status.

@@ -11,9 +11,9 @@ use Rattle.bt_tracker.specs.declared.answer.HttpAnswer.TheVariants.{Failure, Pee
 use Rattle.bt_tracker.specs.declared.answer.HttpError.{HttpError}
 use Rattle.bt_tracker.specs.declared.answer.HttpError.TheVariants.{Long, Head, Body}
 
--- what follows the head of a response of status 200
+-- what follows the head of a response of status 200 and of at most 64 fields
 abbrev pub IsBody : List ℕ → List ℕ → Type 0
-IsBody answer body = (h : ResponseHead) × ReadsResponse answer h body × (status_code h ≡ 200)
+IsBody answer body = (h : ResponseHead) × ReadsResponse answer h body × (length h.fields ≤ 64) × (status_code h ≡ 200)
 
 -- the byte string at a key
 abbrev pub text_at : List ℕ → Pairs → Option (List ℕ)

@@ -39,7 +39,7 @@ pub enum HttpError {
 
 /// Returns the status of a response, and what follows its head.
 fn split_head(answer: &[u8]) -> Option<(u16, &[u8])>
-    ensures some { IfSome result (λ x. (h : ResponseHead) × ReadsResponse answer.now h x.1.now × (status_code h ≡ x.0)) }
+    ensures some { IfSome result (λ x. (h : ResponseHead) × ReadsResponse answer.now h x.1.now × (length h.fields ≤ 64) × (status_code h ≡ x.0)) }
     ensures found { (h : ResponseHead) (rest : List ℕ) → ReadsResponse answer.now h rest → length h.fields ≤ 64
         → IsSomeAnd result (λ x. x.0 ≡ status_code h) }
 {

@@ -8,7 +8,7 @@ use Rattle.std.specs.declared.cmp.Ordering.{Ordering}
 use Rattle.std.specs.declared.cmp.Ordering.TheVariants.{Less, Equal, Greater}
 use Rattle.std.proofs.lemmas.Bool.Decides.{nat_tests}
 use Rattle.bt_packet.specs.declared.address.Address.{Address}
-use Rattle.bt_packet.specs.declared.utp.Utp.{Utp}
+use Rattle.bt_packet.specs.Utp.{UtpPacket}
 use Rattle.bt_packet.specs.contracts.address.AddressEq.TheImpl.Laws as address_laws
 use Rattle.bt_packet.specs.contracts.address.AddressOrd.TheImpl as address_ord
 use Rattle.bt_packet.specs.contracts.address.AddressOrd.TheImpl.Laws as order_laws
@@ -57,11 +57,12 @@ or_comm false false = refl
 or_first : (a b : Bool) → a ≡ true → (a || b) ≡ true
 or_first a b h = ap (λ t. t || b) h
 
-pub same_self : (a : Utp) → same_ends a a ≡ true
+pub from_self : (a : UtpPacket) → is_from a.source a.target a ≡ true
+from_self a = ap (λ t. t && same_address a.target a.target) (laws.refl a.source) ∙ laws.refl a.target
+
+pub same_self : (a : UtpPacket) → same_ends a a ≡ true
 unfolding same_ends
-same_self a =
-    let own = ap (λ t. t && same_address a.target a.target) (laws.refl a.source) ∙ laws.refl a.target in
-    or_first (is_from a.source a.target a) (is_from a.target a.source a) own
+same_self a = or_first (is_from a.source a.target a) (is_from a.target a.source a) (from_self a)
 
 and_comm : (a b : Bool) → (a && b) ≡ (b && a)
 and_comm true true = refl
@@ -69,7 +70,7 @@ and_comm true false = refl
 and_comm false true = refl
 and_comm false false = refl
 
-pub same_symm : (a b : Utp) → same_ends a b ≡ same_ends b a
+pub same_symm : (a b : UtpPacket) → same_ends a b ≡ same_ends b a
 unfolding same_ends
 same_symm a b =
     ap (λ t. (t && same_address a.target b.target) || is_from a.target a.source b) (laws.symm a.source b.source)
@@ -78,7 +79,7 @@ same_symm a b =
     ∙ ap (λ t. is_from b.source b.target a || (same_address b.source a.target && t)) (laws.symm a.source b.target)
     ∙ ap (λ t. is_from b.source b.target a || t) (and_comm (same_address b.source a.target) (same_address b.target a.source))
 
-same_congr : (a b c : Utp) → same_ends a b ≡ true → same_ends a c ≡ same_ends b c
+same_congr : (a b c : UtpPacket) → same_ends a b ≡ true → same_ends a c ≡ same_ends b c
 unfolding same_ends
 same_congr a b c h = elim (either (is_from a.source a.target b) (is_from a.target a.source b) h) [
   | inl there ↦
@@ -111,18 +112,18 @@ id_laws = record {
       ap (λ t. t && (a.id == c.id)) (same_congr a b c e.0) ∙ ap (λ t. same_ends b c && t) (eqb_congr a.id b.id c.id e.1);
 }
 
-pub id_ends : (d x : Utp) → same_id d x ≡ true → same_ends d x ≡ true
+pub id_ends : (d x : UtpPacket) → same_id d x ≡ true → same_ends d x ≡ true
 unfolding same_id
 id_ends d x h = (both (same_ends d x) (d.id == x.id) h).0
 
 -- what comes from the one end to the other has the same ends
-pub from_ends : (a b : Address) (d : Utp) → a ≡ d.source → b ≡ d.target → (x : Utp) → is_from a b x ≡ true → same_ends d x ≡ true
+pub from_ends : (a b : Address) (d : UtpPacket) → a ≡ d.source → b ≡ d.target → (x : UtpPacket) → is_from a b x ≡ true → same_ends d x ≡ true
 unfolding same_ends
 from_ends a b d e g x h =
     let from = ap (λ c. is_from c d.target x) (sym e) ∙ ap (λ c. is_from a c x) (sym g) ∙ h in
     or_first (is_from d.source d.target x) (is_from d.target d.source x) from
 
-pub back_ends : (d x : Utp) → is_from d.target d.source x ≡ true → same_ends d x ≡ true
+pub back_ends : (d x : UtpPacket) → is_from d.target d.source x ≡ true → same_ends d x ≡ true
 unfolding same_ends
 back_ends d x h = or_comm (is_from d.source d.target x) (is_from d.target d.source x) ∙ or_first (is_from d.target d.source x) (is_from d.source d.target x) h
 
@@ -136,17 +137,17 @@ or_shuffle false true true d = refl
 or_shuffle false true false d = refl
 or_shuffle false false c d = refl
 
-split : (d : Utp) (fs : List Utp) → list_any (same_ends d) fs ≡ (list_any (is_from d.source d.target) fs || list_any (is_from d.target d.source) fs)
+split : (d : UtpPacket) (fs : List UtpPacket) → list_any (same_ends d) fs ≡ (list_any (is_from d.source d.target) fs || list_any (is_from d.target d.source) fs)
 unfolding same_ends
 split d [] = refl
 split d (x ∷ fs) =
     ap (λ t. same_ends d x || t) (split d fs)
     ∙ or_shuffle (is_from d.source d.target x) (is_from d.target d.source x) (list_any (is_from d.source d.target) fs) (list_any (is_from d.target d.source) fs)
 
-pub neither_way : (d : Utp) (fs : List Utp) → list_any (is_from d.source d.target) fs ≡ false → list_any (is_from d.target d.source) fs ≡ false
+pub neither_way : (d : UtpPacket) (fs : List UtpPacket) → list_any (is_from d.source d.target) fs ≡ false → list_any (is_from d.target d.source) fs ≡ false
     → list_any (same_ends d) fs ≡ false
 neither_way d fs there back = split d fs ∙ none_of_both (list_any (is_from d.source d.target) fs) (list_any (is_from d.target d.source) fs) there back
 
-pub there_ends : (d x : Utp) → is_from d.source d.target x ≡ true → same_ends d x ≡ true
+pub there_ends : (d x : UtpPacket) → is_from d.source d.target x ≡ true → same_ends d x ≡ true
 unfolding same_ends
 there_ends d x h = or_first (is_from d.source d.target x) (is_from d.target d.source x) h

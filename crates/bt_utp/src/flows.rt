@@ -1,7 +1,7 @@
 //! The datagrams of uTP between each two ends.
 ghost use Rattle.std.specs.Prelude.{◌≡◌, ◌++◌, ◌∷◌, [], List, Option, Some, None, OnOk, OnErr, length};
 ghost use Rattle.std.specs.List.{slice_get};
-ghost use Rattle.bt_packet.specs.declared.utp.Utp.{Utp as Datagram};
+ghost use Rattle.bt_packet.specs.Utp.{UtpPacket, utp_packet};
 ghost use Rattle.bt_utp.specs.Flows.{firsts, flows, kept, same_ends};
 ghost use Rattle.bt_utp.specs.States.{AreCounted, IsPlace};
 
@@ -39,7 +39,7 @@ impl UtpFlows {
 
     /// Returns the place of a datagram's flow.
     fn find(&self, datagram: &Utp) -> Option<usize>
-        ensures { (ds : List Datagram) → AreCounted ds self.now → IsPlace (firsts same_ends (kept ds)) datagram.now result }
+        ensures { (ds : List UtpPacket) → AreCounted ds self.now → IsPlace (firsts same_ends (kept ds)) (utp_packet datagram.now) result }
     {
         match self.places.get(&(datagram.source, datagram.target)) {
             Some(place) => Some(*place),
@@ -51,16 +51,16 @@ impl UtpFlows {
     }
 
     /// Takes a datagram of a flow that is there.
-    fn go_on(&mut self, place: usize, id: u16) -> Result<(), AllocError>
-        ensures ok { OnOk result ((ds : List Datagram) (d : Datagram) → d.id ≡ id → AreCounted ds self.old
-            → IsPlace (firsts same_ends (kept ds)) d (Some place) → AreCounted (ds ++ d ∷ []) self.new) }
-        ensures err { OnErr result ((ds : List Datagram) → AreCounted ds self.old → AreCounted ds self.new) }
+    fn go_on(&mut self, place: usize, datagram: &Utp) -> Result<(), AllocError>
+        ensures ok { OnOk result ((ds : List UtpPacket) → AreCounted ds self.old
+            → IsPlace (firsts same_ends (kept ds)) (utp_packet datagram.now) (Some place) → AreCounted (ds ++ utp_packet datagram.now ∷ []) self.new) }
+        ensures err { OnErr result ((ds : List UtpPacket) → AreCounted ds self.old → AreCounted ds self.new) }
     {
         let has_room = self.ids < LIMIT;
         let Some(flow) = self.flows.get_mut(place) else {
             return Ok(());
         };
-        match flow.take(id, has_room) {
+        match flow.take(datagram, has_room) {
             Ok(true) => {
                 self.ids += 1;
                 Ok(())
@@ -72,9 +72,9 @@ impl UtpFlows {
 
     /// Begins a flow with its first datagram. Without room nothing is told of it.
     fn begin(&mut self, first: &Utp) -> Result<(), AllocError>
-        ensures ok { OnOk result ((ds : List Datagram) → AreCounted ds self.old
-            → IsPlace (firsts same_ends (kept ds)) first.now None → AreCounted (ds ++ first.now ∷ []) self.new) }
-        ensures err { OnErr result ((ds : List Datagram) → AreCounted ds self.old → AreCounted ds self.new) }
+        ensures ok { OnOk result ((ds : List UtpPacket) → AreCounted ds self.old
+            → IsPlace (firsts same_ends (kept ds)) (utp_packet first.now) None → AreCounted (ds ++ utp_packet first.now ∷ []) self.new) }
+        ensures err { OnErr result ((ds : List UtpPacket) → AreCounted ds self.old → AreCounted ds self.new) }
     {
         if self.ids >= LIMIT {
             return Ok(());
@@ -93,25 +93,25 @@ impl UtpFlows {
     /// # Errors
     /// `AllocError` if out of memory. The flows are as before.
     pub fn take(&mut self, datagram: &Utp) -> Result<(), AllocError>
-        ensures ok { OnOk result ((ds : List Datagram) → AreCounted ds self.old → AreCounted (ds ++ datagram.now ∷ []) self.new) }
-        ensures err { OnErr result ((ds : List Datagram) → AreCounted ds self.old → AreCounted ds self.new) }
+        ensures ok { OnOk result ((ds : List UtpPacket) → AreCounted ds self.old → AreCounted (ds ++ utp_packet datagram.now ∷ []) self.new) }
+        ensures err { OnErr result ((ds : List UtpPacket) → AreCounted ds self.old → AreCounted ds self.new) }
     {
         match self.find(datagram) {
-            Some(place) => self.go_on(place, datagram.id),
+            Some(place) => self.go_on(place, datagram),
             None => self.begin(datagram),
         }
     }
 
     /// Returns how many flows there are.
     pub fn len(&self) -> usize
-        ensures { (ds : List Datagram) → AreCounted ds self.now → result ≡ length (flows ds) }
+        ensures { (ds : List UtpPacket) → AreCounted ds self.now → result ≡ length (flows ds) }
     {
         self.flows.len()
     }
 
     /// Returns how many datagrams of a flow there are. The flows are in the order of their first datagrams.
     pub fn counted(&self, place: usize) -> Option<Counted>
-        ensures { (ds : List Datagram) → AreCounted ds self.now → result ≡ slice_get (flows ds) place }
+        ensures { (ds : List UtpPacket) → AreCounted ds self.now → result ≡ slice_get (flows ds) place }
     {
         match self.flows.get(place) {
             Some(flow) => Some(flow.counted()),

@@ -1,6 +1,6 @@
 use Rattle.std.proofs.Common.{◌∙◌, Option, Some, refl, sym, subst}
 use Rattle.bt_talk.specs.declared.closing.Closed.{Closed as FirstClose}
-use Rattle.bt_told.specs.declared.report.Closed.{Closed}
+use Rattle.bt_report.specs.declared.report.Closed.{Closed}
 use Rattle.bt_capture.specs.Reportings.{IsClosedBy}
 use Rattle.bt_capture.proofs.reporting.closed_of.Goals as goal
 

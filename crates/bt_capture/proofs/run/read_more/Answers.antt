@@ -19,8 +19,8 @@ returns-in-Ok-read-clause-after g c o i =
     let r = c.args.packets.now in
     let P : List (Pair × Held) → Type 0 = λ l. IsTelling o before now l run r in
     let e = c.in-Ok-read.ensures.read in
-    told_read o before left now run.table run r c.read.new.self (λ packets h. read_bytes o before left packets r c.read.new.self e.0 e.3 e.4 h)
-    (subst P (sym c.write.ensures.table) (c.in-Ok.ensures.after During o before c.args.run.now.table r i))
+    told_read o before left now run.connections.table run r c.read.new.self (λ packets h. read_bytes o before left packets r c.read.new.self e.0 e.3 e.4 h)
+    (subst P (sym c.write.ensures.table) (c.in-Ok.ensures.after During o before c.args.run.now.connections.table r i))
 
 pub returns-in-Ok-eq0-clause-after : goal.returns-in-Ok-eq0-clause-after
 returns-in-Ok-eq0-clause-after g c o i =
@@ -31,8 +31,8 @@ returns-in-Ok-eq0-clause-after g c o i =
     let r = c.args.packets.now in
     let P : List (Pair × Held) → Type 0 = λ l. IsTelling o before now l run r in
     let e = c.in-Ok-eq0.ensures.read in
-    told_read o before left now run.table run r c.read.new.self (λ packets h. read_bytes o before left packets r c.read.new.self e.0 e.3 e.4 h)
-    (subst P (sym c.write.ensures.table) (c.in-Ok.ensures.after During o before c.args.run.now.table r i))
+    told_read o before left now run.connections.table run r c.read.new.self (λ packets h. read_bytes o before left packets r c.read.new.self e.0 e.3 e.4 h)
+    (subst P (sym c.write.ensures.table) (c.in-Ok.ensures.after During o before c.args.run.now.connections.table r i))
 
 pub returns-in-Err-Memory-clause-after : goal.returns-in-Err-Memory-clause-after
 returns-in-Err-Memory-clause-after g c o i =
@@ -42,8 +42,8 @@ returns-in-Err-Memory-clause-after g c o i =
     let run = c.write.new.run in
     let r = c.args.packets.now in
     let e = c.in-Err-Memory.ensures.err in
-    partly o left now c.args.run.now.table run c.read.new.self (told_read o before left now c.args.run.now.table run r c.read.new.self
-    (λ packets h. read_kept o before left packets r c.read.new.self e.0 e.1 h) (c.in-Ok.ensures.after During o before c.args.run.now.table r i))
+    partly o left now c.args.run.now.connections.table run c.read.new.self (told_read o before left now c.args.run.now.connections.table run r c.read.new.self
+    (λ packets h. read_kept o before left packets r c.read.new.self e.0 e.1 h) (c.in-Ok.ensures.after During o before c.args.run.now.connections.table r i))
 
 pub returns-in-Ok-eq0-clause-more : goal.returns-in-Ok-eq0-clause-more
 returns-in-Ok-eq0-clause-more g c w =
@@ -70,7 +70,7 @@ returns-in-Err-Failed-clause-more g c w =
 
 pub returns-in-Err-clause-after : goal.returns-in-Err-clause-after
 returns-in-Err-clause-after g c o i =
-    c.in-Err.ensures.after During o (g.R.Source.seen c.args.reader.now).left c.args.run.now.table c.args.packets.now i
+    c.in-Err.ensures.after During o (g.R.Source.seen c.args.reader.now).left c.args.run.now.connections.table c.args.packets.now i
 
 pub returns-in-Ok-read-clause-advances : goal.returns-in-Ok-read-clause-advances
 returns-in-Ok-read-clause-advances g c e =

@@ -13,8 +13,7 @@ returns-in-Ok-clause-after c o left now i =
     record {
       packets = i.packets ++ p ∷ [];
       read = read_packet o left i.packets (p ∷ []) c.args.packets.now _ goes i.read;
-      terms = c.take-in-Ok-Some.ensures.terms ∙ i.terms;
-      form = c.take-in-Ok-Some.ensures.form ∙ i.form;
+      asked = c.take-in-Ok-Some.ensures.asked ∙ i.asked;
       time = c.take-in-Ok-Some.ensures.start i.packets i.time;
       follows = c.in-Ok.ensures.goes o.target now i.packets number i.time i.follows;
       utp = c.in-Ok.ensures.utp i.packets i.utp;
@@ -27,19 +26,18 @@ returns-in-Err-take-clause-after c o left now i =
     let number = next_number i.packets i.read.all c.args.packets.now c.packets.result c.saturating_add-number.result i.read.reading c.packets.ensures
     c.saturating_add-number.ensures in
     let goes = hands_some c.args.packets.now _ c.take.result c.in-Ok-Some.packet (search rules) c.take.follows.holds-at-none.0 in
-    given_up o left now (i.packets ++ p ∷ []) c.take-in-Ok-Some.new.self _ (read_packet o left i.packets (p ∷ []) c.args.packets.now _ goes i.read)
-    (c.take-in-Ok-Some.ensures.terms ∙ i.terms) (c.take-in-Ok-Some.ensures.form ∙ i.form) (c.take-in-Ok-Some.ensures.start i.packets i.time)
-    (c.in-Err-take.ensures.goes o.target now i.packets number i.time i.follows)
+    given_up o left now (i.packets ++ p ∷ []) c.take-in-Ok-Some.new.self.connections _ (read_packet o left i.packets (p ∷ []) c.args.packets.now _ goes i.read)
+    (c.take-in-Ok-Some.ensures.asked ∙ i.asked) (c.in-Err-take.ensures.goes o.target now i.packets number i.time i.follows)
 
 pub returns-in-Ok-None-clause-after : goal.returns-in-Ok-None-clause-after
 returns-in-Ok-None-clause-after c o left now i =
     let goes = hands_none c.args.packets.now _ c.take.result (search rules) c.take.follows.holds-at-none.0 in
-    told_read o left left now c.args.run.now.table c.args.run.now c.args.packets.now _ (λ packets h. read_quiet o left packets c.args.packets.now _ goes h) i
+    told_read o left left now c.args.run.now.connections.table c.args.run.now c.args.packets.now _ (λ packets h. read_quiet o left packets c.args.packets.now _ goes h) i
 
 pub returns-in-Err-clause-after : goal.returns-in-Err-clause-after
 returns-in-Err-clause-after c o left now i =
     let goes = hands_fault c.args.packets.now _ c.take.result c.in-Err.fault (search rules) c.take.follows.holds-at-none.0 in
-    told_read o left left now c.args.run.now.table c.args.run.now c.args.packets.now _ (λ packets h. read_quiet o left packets c.args.packets.now _ goes h) i
+    told_read o left left now c.args.run.now.connections.table c.args.run.now c.args.packets.now _ (λ packets h. read_quiet o left packets c.args.packets.now _ goes h) i
 
 pub returns-in-Ok-None-clause-waits : goal.returns-in-Ok-None-clause-waits
 returns-in-Ok-None-clause-waits c e = hands_more c.args.packets.now _ c.take.result (search rules) c.take.follows.holds-at-none.0

@@ -20,7 +20,7 @@ returns-in-Err-File g c o i gone =
     let run = c.read_all.new.run in
     let old = g.R.Source.seen c.args.reader.now in
     let seen = g.R.Source.seen c.read_all.new.reader in
-    let P : Stop → Type 0 = λ s. AfterStop s o seen.left (g.W.Target.seen c.read_all.new.writer) run.table run r in
+    let P : Stop → Type 0 = λ s. AfterStop s o seen.left (g.W.Target.seen c.read_all.new.writer) run.connections.table run r in
     let Q : Stop → Type 0 = λ s. IsWhy s r o.source seen in
     c.end_read-in-Err-File.ensures o seen (subst P c.in-Err-File.field-0-is (c.in-Err-File.ensures.after o i))
     (subst Q c.in-Err-File.field-0-is (why_on c.in-Err-File.field-0 r o.source old seen gone c.in-Err-File.ensures.all))
@@ -31,7 +31,7 @@ returns-in-Err-Read g c o i gone =
     let run = c.read_all.new.run in
     let old = g.R.Source.seen c.args.reader.now in
     let seen = g.R.Source.seen c.read_all.new.reader in
-    let P : Stop → Type 0 = λ s. AfterStop s o seen.left (g.W.Target.seen c.read_all.new.writer) run.table run r in
+    let P : Stop → Type 0 = λ s. AfterStop s o seen.left (g.W.Target.seen c.read_all.new.writer) run.connections.table run r in
     let Q : Stop → Type 0 = λ s. IsWhy s r o.source seen in
     c.end_read-in-Err-Read.ensures o seen (subst P c.in-Err-Read.field-0-is (c.in-Err-Read.ensures.after o i))
     (subst Q c.in-Err-Read.field-0-is (why_on c.in-Err-Read.field-0 r o.source old seen gone c.in-Err-Read.ensures.all))
@@ -40,5 +40,5 @@ pub returns-in-Err-Fault : goal.returns-in-Err-Fault
 returns-in-Err-Fault g c o i gone =
     let run = c.read_all.new.run in
     let left = (g.R.Source.seen c.read_all.new.reader).left in
-    let P : Stop → Type 0 = λ s. AfterStop s o left (g.W.Target.seen c.read_all.new.writer) run.table run c.read_all.new.packets in
+    let P : Stop → Type 0 = λ s. AfterStop s o left (g.W.Target.seen c.read_all.new.writer) run.connections.table run c.read_all.new.packets in
     inl (c.read_all.new.packets, subst P c.in-Err-Fault.field-0-is (c.in-Err-Fault.ensures.after o i))

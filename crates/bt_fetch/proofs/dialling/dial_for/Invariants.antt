@@ -14,6 +14,7 @@ invariant-loop-at g l = record {
   inside : g.D.Device.inside l.device + count_by (λ s. is_some s) l.fn.dials.slots.items
       ≡ g.D.Device.inside l.fn.device + count_by (λ s. is_some s) l.dials.slots.items;
   places : g.D.Device.places l.device ≡ g.D.Device.places l.fn.device;
+  list : g.D.Device.list l.device ≡ g.D.Device.list l.fn.device;
   held : vec_len l.dials.slots ≡ vec_len l.fn.dials.slots;
   len : vec_len l.queue.again ≡ vec_len l.fn.queue.again;
   log : (start : Option (List Happening)) → IsCourse Going start (g.D.Device.log l.fn.device) (dials_of l.fn.queue.next l.fn.queue.again.items)

@@ -8,6 +8,7 @@ abbrev pub invariant-loop-slot : goal.invariant-loop-slot
 invariant-loop-slot g l = record {
   inside : g.D.Device.inside l.device + count_by (λ s. is_some s) l.fn.dials.slots.items
       ≡ g.D.Device.inside l.fn.device + count_by (λ s. is_some s) l.slots.items;
+  list : g.D.Device.list l.device ≡ g.D.Device.list l.fn.device;
   log : (s : Stage) (start : Option (List Happening)) (dials : ℕ → ℕ) → IsCourse s start (g.D.Device.log l.fn.device) dials
       → IsCourse s start (g.D.Device.log l.device) dials;
 }

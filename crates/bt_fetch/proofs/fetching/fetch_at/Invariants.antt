@@ -1,9 +1,9 @@
-use Rattle.std.proofs.Common.{◌≡◌, ◌+◌, List, Option, is_some, option_map, count_by, sum_by, All, vec_len}
+use Rattle.std.proofs.Common.{◌≡◌, ◌≤◌, ◌+◌, List, Option, is_some, option_map, count_by, sum_by, All, vec_len}
 use Rattle.bt_fetch.specs.Wishes.{handshake_of}
 use Rattle.bt_fetch.specs.Dials.{burden}
 use Rattle.bt_fetch.specs.Logs.{IsCourse, Going}
 use Rattle.bt_fetch.specs.Queues.{dials_of, rest_of}
-use Rattle.bt_fetch.specs.Swarms.{cost, weight}
+use Rattle.bt_fetch.specs.Swarms.{cost, outlook, weight}
 use Rattle.bt_fetch.specs.declared.device.Happening.{Happening}
 use Rattle.bt_fetch.proofs.fetching.fetch_at.Given as goal
 
@@ -16,12 +16,14 @@ invariant-rounds g l = record {
   places : g.D.Device.places l.device ≡ g.D.Device.places l.fn.device;
   held : vec_len l.places ≡ vec_len l.fn.places;
   slots : vec_len l.dials.slots ≡ vec_len l.fn.dials.slots;
-  len : vec_len l.queue.again ≡ vec_len l.fn.queue.again;
+  fits : vec_len l.queue.again ≤ (g.D.Device.list l.device).known;
   log : (start : Option (List Happening)) → IsCourse Going start (g.D.Device.log l.fn.device) (dials_of l.fn.queue.next l.fn.queue.again.items)
       → IsCourse Going start (g.D.Device.log l.device) (dials_of l.queue.next l.queue.again.items);
 }
 
--- the looks and the steps that may still be made, and what each dial costs
+-- the looks and the steps that may still be made, what each dial costs, also at addresses that aren't known yet, and how often the device
+-- may say that more may come
 abbrev pub decreases-rounds : goal.decreases-rounds
 decreases-rounds g l = sum_by (λ p. weight (option_map (λ v. v.left) p.visit)) l.places.items
-    + sum_by (λ s. burden (option_map (λ d. d.left) s)) l.dials.slots.items + cost (rest_of l.queue.next l.queue.again.items)
+    + sum_by (λ s. burden (option_map (λ d. d.left) s)) l.dials.slots.items
+    + cost (rest_of l.queue.next l.queue.again.items) + outlook (g.D.Device.list l.device) (vec_len l.queue.again)

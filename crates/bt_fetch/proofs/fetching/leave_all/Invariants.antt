@@ -8,6 +8,7 @@ abbrev pub invariant-loop-place : goal.invariant-loop-place
 invariant-loop-place g l = record {
   inside : g.D.Device.inside l.device + count_by (λ p. is_some p.visit) l.fn.places.items
       ≡ g.D.Device.inside l.fn.device + count_by (λ p. is_some p.visit) l.places.items;
+  list : g.D.Device.list l.device ≡ g.D.Device.list l.fn.device;
   log : (s : Stage) (start : Option (List Happening)) (dials : ℕ → ℕ) → IsCourse s start (g.D.Device.log l.fn.device) dials
       → IsCourse s start (g.D.Device.log l.device) dials;
 }

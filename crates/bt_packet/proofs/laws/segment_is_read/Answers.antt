@@ -1,5 +1,5 @@
-use Rattle.bt_packet.proofs.FoundIp.{segment_found}
-use Rattle.bt_packet.proofs.Read.{segment_read}
+use Rattle.bt_packet.proofs.FoundTcp.{segment_found}
+use Rattle.bt_packet.proofs.ReadAll.{segment_read}
 use Rattle.bt_packet.proofs.laws.segment_is_read.Goals as goal
 
 pub returns : goal.returns

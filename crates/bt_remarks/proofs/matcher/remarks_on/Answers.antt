@@ -12,5 +12,5 @@ pub returns : goal.returns
 returns c = λ events h g.
     same _ _ _ _ _ _ _ _ (c.is_unasked.ensures ∙ has_unasked_is (told c.args.heard.now) events c.args.theirs.now g)
     (c.is_choked.ensures ∙ has_choked_is (told c.args.heard.now) events c.args.mine.now c.args.theirs.now h g)
-    (c.is_again.ensures ∙ has_again_is (told c.args.heard.now) events c.args.mine.now h)
+    (c.is_again.ensures ∙ has_again_is (told c.args.heard.now) events c.args.mine.now c.args.theirs.now h g)
     (c.is_elsewhere.ensures ∙ has_elsewhere_is (told c.args.heard.now) events c.args.mine.now h)

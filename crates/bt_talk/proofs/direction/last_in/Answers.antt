@@ -1,6 +1,6 @@
 use Rattle.std.proofs.Common.{ℕ, List, drop, sym, subst}
 use Rattle.bt_wire.specs.declared.item.Item.{Item}
-use Rattle.bt_told.specs.declared.report.Last.TheVariants.{Nothing}
+use Rattle.bt_rows.specs.declared.noted.Last.TheVariants.{Nothing}
 use Rattle.bt_talk.specs.declared.stage.Judged.{Judged}
 use Rattle.bt_talk.specs.declared.stage.Stage.{Stage}
 use Rattle.bt_talk.specs.Cuts.{IsCutBy, IsLastOf}

@@ -1,6 +1,6 @@
 use Rattle.std.proofs.Common.{◌≡◌, [], Option, Some, sym, subst}
 use Rattle.bt_intro.specs.declared.settling.Receiver.{Receiver}
-use Rattle.bt_told.specs.declared.report.Last.TheVariants.{Nothing}
+use Rattle.bt_rows.specs.declared.noted.Last.TheVariants.{Nothing}
 use Rattle.bt_talk.specs.declared.stage.Judged.{Judged}
 use Rattle.bt_talk.specs.Cuts.{IsCutBy}
 use Rattle.bt_talk.specs.Replays.{Held, IsJudgedTo, IsReplayBy}

@@ -3,7 +3,7 @@ use Rattle.bt_remarks.specs.declared.tallies.Request.{Request}
 use Rattle.bt_remarks.specs.Ends.{unanswered, AreFoundOf, IsFirst, IsAsked}
 use Rattle.bt_remarks.specs.Matched.{IsMatched}
 use Rattle.bt_remarks.specs.Said.{Told}
-use Rattle.bt_told.specs.declared.said.Said.{Said}
+use Rattle.bt_rows.specs.declared.said.Said.{Said}
 use Rattle.bt_talk.specs.Watching.{IsAmong}
 use Rattle.bt_talk.proofs.AskedItems.{asked_item}
 use Rattle.bt_talk.proofs.unanswered.unanswered_of.Goals as goal

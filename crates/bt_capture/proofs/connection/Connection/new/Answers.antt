@@ -17,20 +17,12 @@ returns-clause-open c when = record {
     made = record {
       begin = c.new.result;
       turns = [];
-      nothing = c.new.ensures.is;
-      opening = c.new.ensures.opening;
-      not_closed = c.new.ensures.closing;
-      no_segment = c.new.ensures.segments;
+      begun = c.new.ensures;
       has_taken = (refl, refl, refl, refl);
-      is = c.new.ensures.is;
+      is = c.new.ensures.nothing;
       ends = c.new.ensures.ends;
-      terms_are = c.new.ensures.terms;
-      unmarked = c.new.ensures.marks;
-      unshut = c.new.ensures.not_shut;
-      watched = c.new.ensures.watched;
-      unbegun = c.new.ensures.began;
-      ungrown = c.new.ensures.ungrown;
-      heard = first_heard c.new.result c.new.ensures.is c.new.ensures.opening;
+      terms_are = c.new.ensures.terms_are;
+      heard = first_heard c.new.result c.new.ensures.nothing c.new.ensures.opening;
     };
     next = tt;
   };

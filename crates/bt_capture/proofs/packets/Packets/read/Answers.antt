@@ -1,12 +1,12 @@
 use Rattle.std.proofs.Common.{◌≡◌, ℕ, ◌+◌, ◌++◌, min, List, [], length, drop, sym, ap, subst, ◌∙◌}
 use Rattle.bt_capture.specs.Readings.{most, GoesOn}
 use Rattle.bt_capture.proofs.Going.{reads_more}
-use Rattle.bt_capture.proofs.Viewing.{read_more, read_none}
+use Rattle.bt_capture.proofs.Viewing.{read_more}
 use Rattle.bt_capture.proofs.packets.Packets.read.Goals as goal
 
-pub returns-in-Ok-clause-read : goal.returns-in-Ok-clause-read
-returns-in-Ok-clause-read g c =
-    let told = c.in-Ok.ensures.read in
+pub returns-clause-read : goal.returns-clause-read
+returns-clause-read g c =
+    let told = c.in_ok-count.ensures.read in
     let x = told.0 in
     let w = c.self.inside.walk in
     let old = c.args.self.now in
@@ -15,10 +15,3 @@ returns-in-Ok-clause-read g c =
     c.saturating_add-self-inside.ensures ∙ ap (λ (n : ℕ). min (c.self.inside.bytes + n) most) (sym told.1) in
     let is = read_more w c.self.inside.buffer c.read.new.self x c.self.inside.bytes c.saturating_add-self-inside.result old c.self.view_is more sum in
     (x, told.1, is, subst (λ s. GoesOn old x [] s) (sym is) (reads_more old x), told.3)
-
-pub returns-in-Err-clause-err : goal.returns-in-Err-clause-err
-returns-in-Err-clause-err g c =
-    let told = c.in-Err.ensures.err in (
-      read_none c.self.inside.walk c.self.inside.buffer c.read.new.self c.self.inside.bytes c.args.self.now c.self.view_is (told.0 ∙ c.drop_front.ensures),
-      told.1,
-    )

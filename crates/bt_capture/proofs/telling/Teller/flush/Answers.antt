@@ -14,6 +14,7 @@ returns-in-Ok-clause-written g c start reports written t =
     let old = c.args.self.now in
     all_written start before after old (record {
       text = c.clear.new.self;
+      line = old.line;
       form = old.form;
       torrents = old.torrents;
       is_refused = old.is_refused;

@@ -1,5 +1,5 @@
 use Rattle.std.proofs.Common.{ap, refl}
-use Rattle.bt_told.specs.declared.report.Report.{Report}
+use Rattle.bt_report.specs.declared.report.Report.{Report}
 use Rattle.bt_capture.proofs.telling.Teller.report_on.Goals as goal
 
 pub returns-in-Ok-clause-told : goal.returns-in-Ok-clause-told

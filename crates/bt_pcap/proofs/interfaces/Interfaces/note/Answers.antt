@@ -5,16 +5,16 @@ use Rattle.bt_pcap.specs.Interfaces.{interfaces_of}
 use Rattle.bt_pcap.proofs.interfaces.Interfaces.note.Goals as goal
 
 -- one more element at the end, within the table
-within : {X : Type 0} (xs : List X) (n : ℕ) (x : X) → n < length xs → n < 64 → take (n + 1) (set xs n x) ≡ take 64 (take n xs ++ x ∷ [])
+within : {X : Type 0} (xs : List X) (n : ℕ) (x : X) → n < length xs → n < 1024 → take (n + 1) (set xs n x) ≡ take 1024 (take n xs ++ x ∷ [])
 within xs n x lt fits =
-    take_more_set xs n x lt ∙ sym (take_all 64 (take n xs ++ x ∷ []) (omega (arith, length-append (take n xs) (x ∷ []), length-take n xs)))
+    take_more_set xs n x lt ∙ sym (take_all 1024 (take n xs ++ x ∷ []) (omega (arith, length-append (take n xs) (x ∷ []), length-take n xs)))
 
 -- no place for one more
-past : {X : Type 0} (xs : List X) (n : ℕ) (x : X) → length xs ≡ 64 → n ≡ 64 → take n xs ≡ take 64 (take n xs ++ x ∷ [])
+past : {X : Type 0} (xs : List X) (n : ℕ) (x : X) → length xs ≡ 1024 → n ≡ 1024 → take n xs ≡ take 1024 (take n xs ++ x ∷ [])
 past xs n x len full =
-    let size : 64 ≤ length (take n xs) = omega (arith, length-take n xs) in
-    let whole : length (take n xs) ≤ 64 = omega (arith, length-take n xs) in
-    sym (take-append-le 64 (take n xs) (x ∷ []) size ∙ take_all 64 (take n xs) whole)
+    let size : 1024 ≤ length (take n xs) = omega (arith, length-take n xs) in
+    let whole : length (take n xs) ≤ 1024 = omega (arith, length-take n xs) in
+    sym (take-append-le 1024 (take n xs) (x ∷ []) size ∙ take_all 1024 (take n xs) whole)
 
 pub returns-then-self-lt-MAX_INTERFACES : goal.returns-then-self-lt-MAX_INTERFACES
 unfolding interfaces_of

@@ -1,5 +1,5 @@
 use Rattle.std.proofs.Common.{◌≡◌, ◌+◌, ◌-◌, ◌^◌, min, ◌++◌, [], append-nil, length, ℕ, List, Option, Some, refl, sym, ap, subst, arith}
-use Rattle.bt_told.specs.declared.said.Said.{Said}
+use Rattle.bt_rows.specs.declared.said.Said.{Said}
 use Rattle.bt_talk.specs.declared.replay.Close.{Close}
 use Rattle.bt_talk.specs.declared.replay.Close.TheVariants.{Passed}
 use Rattle.bt_talk.specs.declared.replay.Replay.{Replay}

@@ -1,6 +1,6 @@
 use Rattle.std.proofs.Common.{◌≡◌, ◌∙◌, ◌-◌, ℕ, Bool, true, is_some, refl, sym, ap, subst}
 use Rattle.std.specs.Prelude.{◌||◌, option_map, unwrap_or}
-use Rattle.bt_told.specs.declared.report.Means.{Means}
+use Rattle.bt_rows.specs.declared.parts.Means.{Means}
 use Rattle.bt_talk.specs.Marks.{AreMarkDeeds}
 use Rattle.bt_talk.specs.Shown.{no_deeds}
 use Rattle.bt_talk.proofs.Shown.{appends_none, deeds_by, deeds_shown}

@@ -1,5 +1,5 @@
 use Rattle.std.proofs.Common.{Option, subst}
-use Rattle.bt_told.specs.declared.said.Said.{Said}
+use Rattle.bt_rows.specs.declared.said.Said.{Said}
 use Rattle.bt_talk.specs.Watching.{IsLast}
 use Rattle.bt_talk.proofs.Cuts.{last_refused, last_item, last_nothing}
 use Rattle.bt_talk.proofs.stage.Judged.last.Goals as goal

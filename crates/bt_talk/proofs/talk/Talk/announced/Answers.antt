@@ -4,5 +4,5 @@ use Rattle.bt_talk.proofs.talk.Talk.announced.Goals as goal
 
 pub returns : goal.returns
 returns c = λ a b t.
-    let d = found c.args.side a b c.args.self.now c.direction.result.now c.direction.ensures t in
+    let d = found c.args.self.now.terms c.args.side a b c.args.self.now.sides c.direction.result.now c.direction.ensures t in
     c.announced.ensures (of_side c.args.side a b).front d.intro

@@ -4,14 +4,20 @@ use Rattle.bt_remarks.specs.Said.{is_same}
 use Rattle.bt_talk.specs.declared.course.Course.{Course}
 use Rattle.bt_talk.specs.Courses.{course_after, course_of}
 use Rattle.bt_talk.specs.Talks.{grown_with, of_side}
-use Rattle.bt_talk.proofs.Marked.{closed_by, grown_by}
+use Rattle.bt_talk.proofs.Marked.{closed_by, grown_by, strays_by}
 use Rattle.bt_talk.proofs.talk.Talk.go_on.Goals as goal
 use Rattle.bt_talk.proofs.talk.Talk.go_on.Goals.{then-not-segment, else-not-segment, then-has_data, else-has_data, then-begins, else-begins}
 
 pub returns-clause-shut : goal.returns-clause-shut
 returns-clause-shut c = λ k.
     let was = course_of k c.args.self.now.courses in
-    ap (λ (x : Course). x.is_closed) (c.take.ensures.after k) ∙ closed_by (is_same c.args.side k) (course_after c.args.segment.now.flags _ c.args.when was) was
+    ap (λ (x : Course). x.is_closed) (c.take.ensures.after k) ∙ closed_by (is_same c.args.side k) (course_after c.args.flags c.args.stray _ c.args.when was) was
+
+pub returns-clause-strays : goal.returns-clause-strays
+returns-clause-strays c = λ k.
+    let was = course_of k c.args.self.now.courses in
+    ap (λ (x : Course). x.strays) (c.take.ensures.after k)
+    ∙ strays_by (is_same c.args.side k) (course_after c.args.flags c.args.stray _ c.args.when was) was
 
 flipped : (x y : Bool) → x ≡ not y → y ≡ not x
 flipped true true e = absurd (cc)
@@ -58,5 +64,5 @@ returns-clause-grown c = λ a b t k.
           let g = w.grows-is in
           let h : nat_lt c.args.length w.length.result ≡ longer = ap (λ (n : ℕ). nat_lt c.args.length n) (w.length.ensures a b t) in cc
     ] in
-    grown_by c.args.segment.now c.args.when c.args.side k c.args.length (length (of_side c.args.side a b).out) c.args.self.now _ _
+    grown_by c.args.segment.now c.args.flags c.args.stray c.args.when c.args.side k c.args.length (length (of_side c.args.side a b).out) c.args.self.now _ _
     (grows ∙ ap (λ (x : Bool). x || longer) (first ∙ ap (λ (x : Bool). x && none) sent)) (c.take.ensures.after k)

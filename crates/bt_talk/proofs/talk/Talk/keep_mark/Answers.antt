@@ -9,12 +9,12 @@ returns-then-is_plain-clause-marked c = λ a b t.
     let self = c.args.self.now in (
       [],
       λ o. elim c.then-is_plain.branch [
-        | then-is_plain-via-then-is_plain w ↦ subst (λ (x : Bool). IsMarkedBy x self.watch.when c.args.side c.args.closed a b self [])
+        | then-is_plain-via-then-is_plain w ↦ subst (λ (x : Bool). IsMarkedBy x self.sides.watch.when c.args.side c.args.closed a b self [])
             (sym w.if-is_plain.true ∙ c.is_plain.ensures) refl
         | then-is_plain-via-else-is_plain+then-not-is_opening w ↦
             absurd (let e : true ≡ false = sym o ∙ sym w.is_opening.ensures ∙ w.if-not-is_opening.true in cc)
       ],
-      sym (append-nil self.marks.items),
+      sym (append-nil self.sides.marks.items),
     )
 
 pub returns-clause-marked : goal.returns-clause-marked
@@ -22,7 +22,7 @@ returns-clause-marked c = λ a b t.
     let self = c.args.self.now in
     let m : Mark = c.mark-mark.result in (
       m ∷ [],
-      λ o. subst (λ (x : Bool). IsMarkedBy x self.watch.when c.args.side c.args.closed a b self (m ∷ [])) (sym c.if-is_plain.false ∙ c.is_plain.ensures)
+      λ o. subst (λ (x : Bool). IsMarkedBy x self.sides.watch.when c.args.side c.args.closed a b self (m ∷ [])) (sym c.if-is_plain.false ∙ c.is_plain.ensures)
           (m, refl, c.mark-mark.ensures a b t),
       c.in_ok-push.ensures.items,
     )

@@ -10,6 +10,6 @@ returns c = λ a b t.
     let self = c.args.self.now in
     let p = of_side c.args.side a b in
     let q = of_side (other c.args.side) a b in
-    let d = found c.args.side a b self c.direction.result.now c.direction.ensures t in
-    subst (λ (o : Bool). IsReceiverNow o self.terms p q c.receiver.result) (opening_of c.args.side a b self c.direction.result.now c.direction.ensures t)
+    let d = found self.terms c.args.side a b self.sides c.direction.result.now c.direction.ensures t in
+    subst (λ (o : Bool). IsReceiverNow o self.terms p q c.receiver.result) (opening_of self.terms c.args.side a b self.sides c.direction.result.now c.direction.ensures t)
     (c.receiver.ensures self.terms p q d)

@@ -15,7 +15,7 @@ pub returns-then-not-is_torrent-clause-deeds : goal.returns-then-not-is_torrent-
 returns-then-not-is_torrent-clause-deeds c = λ o.
     let self = c.args.self.now in (
       no_deeds,
-      appends_none self.watch.rows,
+      appends_none self.sides.watch.rows,
       λ a b t. (
         c.is_torrent.result,
         c.is_torrent.ensures a b t,
@@ -26,14 +26,14 @@ returns-then-not-is_torrent-clause-deeds c = λ o.
 pub returns-clause-deeds : goal.returns-clause-deeds
 returns-clause-deeds c = λ o.
     let self = c.args.self.now in
-    let w = self.watch in
+    let w = self.sides.watch in
     let side = c.args.side in
     let deeds = deeds_by c.args.before c.refusal-now.result c.reach-offset.result c.args.closed in (
       deeds,
       deeds_shown w.rows c.show.new.self.rows w.rows.heading w.when side c.args.before c.refusal-now.result c.reach-offset.result c.args.closed
           c.in_ok-show.ensures.rows,
       λ a b t.
-          let d = found side a b self c.direction.result.now c.direction.ensures t in
+          let d = found self.terms side a b self.sides c.direction.result.now c.direction.ensures t in
           let refused = subst (λ (x : Direction). IsRefusedIn x.stage (of_side side a b) c.refusal-now.result) c.direction.ensures
           (c.refusal-now.ensures self.terms (of_side side a b) (of_side (other side) a b) d) in (
             c.is_torrent.result,

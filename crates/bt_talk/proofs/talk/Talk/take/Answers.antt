@@ -9,10 +9,10 @@ use Rattle.bt_talk.proofs.talk.Talk.take.Goals as goal
 pub returns-in-Ok-clause-all : goal.returns-in-Ok-clause-all
 returns-in-Ok-clause-all c = λ a b t.
     let self = c.args.self.now in
-    let u : Talk = record self { is_lost = true; watch = c.come_to.new.self } in
+    let u : Talk = record self { is_lost = true; sides = record self.sides { watch = c.come_to.new.self } } in
     let v = c.take_next-taken.new.self in
-    let w : Talk = record v { is_lost = false; watch = c.swap_rows-2.new.self } in
-    let watch : c.come_to.new.self ≡ record self.watch { rows = c.args.room.now.rows; when = c.args.when } =
+    let w : Talk = record v { is_lost = false; sides = record v.sides { watch = c.swap_rows-2.new.self } } in
+    let watch : c.come_to.new.self ≡ record self.sides.watch { rows = c.args.room.now.rows; when = c.args.when } =
     c.come_to.ensures ∙ ap (λ (k : Watch). record k { when = c.args.when }) c.swap_rows.ensures.mine in
     let i : Alike self u = with_watch self true c.come_to.new.self (ap (λ (k : Watch). k.matcher) watch) (ap (λ (k : Watch). k.a) watch)
     (ap (λ (k : Watch). k.b) watch) in
@@ -25,9 +25,9 @@ returns-in-Ok-clause-all c = λ a b t.
     let still : is_in_opening self ≡ false → is_in_opening u ≡ false = λ o. sym (opening_alike u self (alike_back self u i)) ∙ o in
     record {
       took = takes_alike c.args.segment.now c.args.when a b u v self w (alike_back self u i) k same same' x.0;
-      settled = λ o. settled_alike c.args.segment.now c.args.when a b self w u v c.args.room.now.rows c.swap_rows-2.new.rows u.watch.rows v.watch.rows
+      settled = λ o. settled_alike c.args.segment.now c.args.when a b self w u v c.args.room.now.rows c.swap_rows-2.new.rows u.sides.watch.rows v.sides.watch.rows
           (alike_back self u i) k same same' (ap (λ (x : Watch). x.rows) watch) (sym c.swap_rows-2.ensures.others) x.0 (x.1 o);
-      shows = λ o. shows_alike _ self u c.args.room.now.rows c.swap_rows-2.new.rows u.watch.rows v.watch.rows i (ap (λ (x : Watch). x.rows) watch)
+      shows = λ o. shows_alike _ self u c.args.room.now.rows c.swap_rows-2.new.rows u.sides.watch.rows v.sides.watch.rows i (ap (λ (x : Watch). x.rows) watch)
           (sym c.swap_rows-2.ensures.others) (x.3 (still o));
       sends = x.2 c.clear.ensures.items;
     }

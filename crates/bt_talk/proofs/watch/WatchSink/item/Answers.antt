@@ -4,7 +4,7 @@ use Rattle.bt_remarks.specs.declared.matcher.Matcher.{Matcher}
 use Rattle.bt_remarks.specs.Matched.{IsMatched}
 use Rattle.bt_remarks.specs.Remarked.{remarks_on}
 use Rattle.bt_remarks.specs.Said.{Told, message_of}
-use Rattle.bt_told.specs.declared.said.Said.{Said}
+use Rattle.bt_rows.specs.declared.said.Said.{Said}
 use Rattle.bt_wire.specs.declared.item.Item.{Item}
 use Rattle.bt_talk.specs.declared.watch.Watch.{Watch}
 use Rattle.bt_talk.specs.Watching.{told_of}

@@ -1,0 +1,10 @@
+pub mod Names
+pub mod Whys
+pub mod Sides
+pub mod Closings
+pub mod Remarked
+pub mod Reports
+pub mod Objects
+pub mod CloseReasons
+pub mod Utp
+pub mod Findings

@@ -1,0 +1,4 @@
+mod Shown
+mod FrontBytes
+mod Pairs
+mod Utf8

@@ -1,0 +1,6 @@
+use Rattle.std.proofs.Common.{IsUtf8, subst, sym}
+use Rattle.bt_rows.proofs.Utf8.{time_utf8}
+use Rattle.bt_rows.proofs.display.TimeDisplay.fmt.Goals as goal
+
+pub as_text-requires : goal.as_text-requires
+as_text-requires g c = subst IsUtf8 (sym c.put_time-end.ensures.text) (time_utf8 _)

@@ -1,0 +1,15 @@
+use Rattle.std.proofs.Common.{append_assoc}
+use Rattle.bt_rows.proofs.members.put_refusal_members.Goals as goal
+
+pub returns-clause-text : goal.returns-clause-text
+returns-clause-text c =
+    rw (
+      c.put_word.ensures.text,
+      c.put-at.ensures.text,
+      c.as_bytes.ensures.value,
+      c.name.ensures.name,
+      c.put_word-at.ensures.text,
+      c.put_number-at.ensures.text,
+      c.put_between-at.ensures.text,
+    )
+    (simp append_assoc)

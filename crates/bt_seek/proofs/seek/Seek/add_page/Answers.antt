@@ -1,0 +1,9 @@
+use Rattle.bt_seek.specs.Names.{names_of}
+use Rattle.bt_seek.specs.Tables.{course_of}
+use Rattle.bt_seek.proofs.More.{told_with_page}
+use Rattle.bt_seek.proofs.seek.Seek.add_page.Goals as goal
+
+pub returns-clause-told : goal.returns-clause-told
+returns-clause-told c =
+    told_with_page (record { host = c.args.host.now; port = c.args.port; target = c.args.target.now }) c.args.self.now (names_of c.self.inside.named)
+    (names_of c.add_page.new.self) (course_of c.self.inside.search.table) c.self.view_is c.in_ok-add_page.ensures

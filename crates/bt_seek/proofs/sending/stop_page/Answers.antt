@@ -1,0 +1,15 @@
+use Rattle.std.proofs.Common.{ℕ, List, refl, subst, sym}
+use Rattle.bt_tracker.specs.declared.announce.Event.TheVariants as event
+use Rattle.bt_seek.specs.Mails.{Stopped}
+use Rattle.bt_seek.specs.Names.{names_of}
+use Rattle.bt_seek.specs.Questions.{IsPageAsked}
+use Rattle.bt_seek.specs.Tables.{course_of}
+use Rattle.bt_seek.proofs.Runs.{told_step}
+use Rattle.bt_seek.proofs.sending.stop_page.Goals as goal
+
+pub returns : goal.returns
+returns g c =
+    let asked = subst (λ (x : List ℕ). IsPageAsked (names_of c.args.named.now) event.Stopped c.args.page x) (sym c.deref.ensures.value)
+    c.in_ok-question.ensures in
+    told_step (g.P.Post.log c.args.post.now) (g.P.Post.log c.stop.new.self) (names_of c.args.named.now) (course_of c.args.search.now.table)
+    (course_of c.args.search.now.table) (Stopped c.args.page c.deref.result.now) c.stop.ensures (c.requires, asked, refl)

@@ -1,0 +1,10 @@
+-- What is known is what the log tells, if it was before.
+use Rattle.bt_seek.specs.Names.{Names}
+use Rattle.bt_seek.specs.Runs.{IsTold}
+use Rattle.bt_seek.specs.Tables.{course_of}
+use Rattle.bt_seek.proofs.sending.take_mail.Given as goal
+
+abbrev pub invariant-loop : goal.invariant-loop
+invariant-loop g l =
+    (names : Names) → IsTold (g.P.Post.log l.fn.post) names (course_of l.fn.search.table)
+    → IsTold (g.P.Post.log l.post) names (course_of l.search.table)

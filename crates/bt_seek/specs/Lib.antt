@@ -1,0 +1,11 @@
+pub mod Addresses
+pub mod Mails
+pub mod Courses
+pub mod Answers
+pub mod Names
+pub mod Questions
+pub mod Replies
+pub mod Tables
+pub mod Runs
+pub mod Laws
+pub mod Nodes

@@ -1,5 +1,0 @@
-use Rattle.std.proofs.Common.{length}
-use Rattle.bt_told.proofs.members.+put_escaped.Given as goal
-
-abbrev pub decreases-put_escaped : goal.decreases-put_escaped
-decreases-put_escaped l = length l.bytes.now

@@ -1,7 +1,0 @@
-use Rattle.std.proofs.Common.{rules}
-use Rattle.bt_told.proofs.Shown.{hand_shown}
-use Rattle.bt_told.proofs.said.hello.Goals as goal
-
-pub returns-clause-fields : goal.returns-clause-fields
-returns-clause-fields c =
-    hand_shown c.args.handshake (λ i. search rules) (λ i. search rules)
