@@ -30,6 +30,8 @@ TRACKER, NODE, PEER = 6969, 6881, 51413
 HASH, INFO = peers.HASH, peers.INFO
 LINK = "magnet:?xt=urn:btih:" + HASH.hex()
 CONNECTION = b"connect!"
+# What a stand-in sends to itself: what came before it has been heard.
+CAUGHT_UP = b"caught up"
 PKTINFO = {socket.AF_INET: (socket.IPPROTO_IP, 8, 8), socket.AF_INET6: (socket.IPPROTO_IPV6, 49, 50)}
 IPV6_FREEBIND = 78
 # The nodes by which the search in the DHT begins if the words name none.
@@ -89,6 +91,7 @@ class Datagrams:
 
     def __init__(self, port, answer, family=socket.AF_INET):
         self.port, self.answer, self.family, self.heard, self.lock = port, answer, family, [], threading.Lock()
+        self.is_caught_up = threading.Event()
         self.socket = socket.socket(family, socket.SOCK_DGRAM)
         level, kind, self.kind = PKTINFO[family]
         if family == socket.AF_INET6:
@@ -107,6 +110,9 @@ class Datagrams:
             data, told, _, sender = self.socket.recvmsg(65536, 256)
             if self.is_closed:
                 return
+            if data == CAUGHT_UP:
+                self.is_caught_up.set()
+                continue
             info = told[0][2]
             to = str(ipaddress.ip_address(info[8:12] if self.family == socket.AF_INET else info[:16]))
             with self.lock:
@@ -125,15 +131,22 @@ class Datagrams:
             other.bind(source)
             other.sendto(datagram, to)
 
+    def tell_itself(self, data):
+        with socket.socket(self.family, socket.SOCK_DGRAM) as last:
+            last.sendto(data, ("::1" if self.family == socket.AF_INET6 else "127.0.0.1", self.port))
+
     def close(self):
         self.is_closed = True
-        with socket.socket(self.family, socket.SOCK_DGRAM) as last:
-            last.sendto(b"", ("::1" if self.family == socket.AF_INET6 else "127.0.0.1", self.port))
+        self.tell_itself(b"")
         self.thread.join(10)
         self.socket.close()
 
     def asked(self):
-        """The addresses that were asked, in order, and what they were asked."""
+        """The addresses that were asked, in order, and what they were asked: all that was sent before this call."""
+        self.is_caught_up.clear()
+        self.tell_itself(CAUGHT_UP)
+        if not self.is_caught_up.wait(30):
+            raise OSError("a stand-in doesn't hear")
         with self.lock:
             return [(to, data) for to, _, data in self.heard]
 

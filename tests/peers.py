@@ -8,6 +8,7 @@ which they are dialled, the words after their addresses, and what is expected: s
 the first address, and the exit status. It was worked out from docs/FETCH.md. tests/clients.py has real clients.
 """
 import base64
+import collections
 import hashlib
 import json
 import os
@@ -491,12 +492,16 @@ def program_of(words):
     return os.path.abspath(words[0]) if words else os.path.join(ROOT, "bt_tool")
 
 
+# The sockets that keep the addresses where nobody listens.
+KEPT = collections.deque(maxlen=400)
+
+
 def nobody():
-    taken = socket.socket()
-    taken.bind(("127.0.0.1", 0))
-    address = "127.0.0.1:%d" % taken.getsockname()[1]
-    taken.close()
-    return address
+    """An address where nobody listens, and which no other socket takes for long."""
+    kept = socket.socket()
+    kept.bind(("127.0.0.1", 0))
+    KEPT.append(kept)
+    return "127.0.0.1:%d" % kept.getsockname()[1]
 
 
 def run(program, info_hash, addresses, words):

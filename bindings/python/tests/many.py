@@ -63,10 +63,12 @@ def served(*servers):
     return stack, [stack.enter_context(server) for server in servers]
 
 
-def nobody():
-    """An address where nobody listens."""
-    with socket.create_server(("127.0.0.1", 0)) as listener:
-        return "127.0.0.1:%d" % listener.getsockname()[1]
+def nobody(case):
+    """An address where nobody listens, and which no other socket takes while the case runs."""
+    kept = socket.socket()
+    case.addCleanup(kept.close)
+    kept.bind(("127.0.0.1", 0))
+    return "127.0.0.1:%d" % kept.getsockname()[1]
 
 
 # The peers that break a rule and don't stay silent.
@@ -75,7 +77,7 @@ LIARS = {name: (kind, text) for name, (kind, text) in FAILS.items() if kind is n
 
 class Winners(unittest.TestCase):
     def test_liars_do_not_stop_it(self):
-        told, closed = [], nobody()
+        told, closed = [], nobody(self)
         stack, addresses = served(*map(Server, LIARS), Server())
         with stack:
             found = bt.fetch(addresses[0], INFO_HASH, peers=[closed, *addresses[1:]], most=50000, at_once=3,
@@ -99,7 +101,7 @@ class Winners(unittest.TestCase):
                     self.assertIn("%s: %s" % (address, why), str(caught.exception))
 
     def test_who_is_not_reached(self):
-        address, host = nobody(), ("no-such-host.invalid", 1)
+        address, host = nobody(self), ("no-such-host.invalid", 1)
         with self.assertRaises(bt.FetchError) as caught:
             bt.fetch(address, INFO_HASH, peers=[host])
         self.assertEqual([(name, type(why)) for name, why in caught.exception.failures],
@@ -119,7 +121,7 @@ class Winners(unittest.TestCase):
     def test_bytes_one_by_one(self):
         for broken in ends.RIGHT:
             with self.subTest(broken), Server(broken) as address:
-                self.assertEqual(bt.fetch(None, INFO_HASH, peers=[nobody(), address]), METADATA)
+                self.assertEqual(bt.fetch(None, INFO_HASH, peers=[nobody(self), address]), METADATA)
 
     def test_what_does_not_fit(self):
         address = "127.0.0.1:1"
@@ -233,7 +235,7 @@ class Turns(unittest.TestCase):
         def failed(name, why):
             raise KeyError(name)
 
-        address = nobody()
+        address = nobody(self)
         with self.assertRaises(KeyError):
             bt.fetch(None, INFO_HASH, peers=[address], failed=failed)
 
