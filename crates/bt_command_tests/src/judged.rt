@@ -244,6 +244,10 @@ enum Step {
     Stands,
     /// How many items the sink was given.
     Gave(u64),
+    /// How many of the next bytes may be any.
+    Frees(usize),
+    /// So many missing bytes are passed over.
+    Passes(usize),
 }
 
 /// Takes a step, and returns whether all is as wanted.
@@ -254,6 +258,8 @@ fn goes(judge: &mut Judge, sink: &mut Kept, step: &Step) -> bool {
         Step::Ends(bep) => judge.ended().bep == *bep,
         Step::Stands => judge.refusal().is_none(),
         Step::Gave(calls) => sink.calls == *calls,
+        Step::Frees(count) => judge.free() == *count,
+        Step::Passes(count) => *count <= judge.free() && judge.pass(*count, sink) == Ok(()),
     }
 }
 
@@ -306,4 +312,39 @@ const A_FAULT: &[Step] = &[
 #[test]
 fn a_fault(rt: HostRuntime) -> Result<(), AllocError> {
     go(&rt, rt.alloc(), Some(2), A_FAULT)
+}
+
+/// The first 12 bytes of `piece` 1 0 with a block of 9,000 bytes.
+const A_PIECE: &[u8] = b"\0\0\x23\x31\x07\0\0\0\x01\0\0\0";
+
+const HOLES: &[Step] = &[
+    Step::Frees(0),
+    Step::Takes(HAND, 68, Ok(())),
+    Step::Takes(A_PIECE, 5, Ok(())),
+    Step::Frees(0),
+    Step::Takes(b"\0abc", 4, Ok(())),
+    Step::Frees(8_997),
+    Step::Passes(5_000),
+    Step::Takes(b"def", 3, Ok(())),
+    Step::Frees(3_994),
+    Step::Passes(0),
+    Step::Gave(1),
+    Step::Passes(3_994),
+    Step::Gave(2),
+    Step::Frees(0),
+    Step::Ends(Ended::Accepted {
+        messages: 1,
+        bytes: 9_081,
+    }),
+    // have 9, which both rule sets refuse
+    Step::Takes(b"\0\0\0\x05\x04\0\0\0\x09", 9, Ok(())),
+    Step::Frees(usize::MAX),
+    Step::Passes(usize::MAX),
+    Step::Gave(2),
+];
+
+/// Missing bytes of a block, and all after a refusal, are passed over.
+#[test]
+fn holes(rt: HostRuntime) -> Result<(), AllocError> {
+    go(&rt, rt.alloc(), None, HOLES)
 }

@@ -1,5 +1,5 @@
 -- What a direction has taken after a call.
-use Rattle.std.proofs.Common.{◌≡◌, ℕ, ◌+◌, ◌-◌, min, ◌<◌, ◌≤◌, ◌%◌, ◌^◌, Bool, true, false, List, [], ◌∷◌, ◌++◌, length}
+use Rattle.std.proofs.Common.{◌≡◌, ℕ, ◌+◌, ◌-◌, min, ◌<◌, ◌≤◌, ◌^◌, Bool, true, false, List, [], ◌∷◌, ◌++◌, length, drop}
 use Rattle.std.proofs.Common.{length-append, append_assoc, append-nil, refl, sym, ap, subst, ◌∙◌, arith, inl, inr}
 use Rattle.std.specs.Prelude.{Option, Some, None, IfSome, is_some, not, ◌&&◌, unwrap_or, ◌⊎◌, if◌then◌else◌, nat_lt}
 use Rattle.std.specs.Bool.{then_some}
@@ -22,14 +22,14 @@ use Rattle.bt_flow.specs.Wide.{next_of, seen}
 use Rattle.bt_flow.specs.Notes.{AddsBothIfRoom, AreNoted, IsNotedFrom, NotesBoth, NotesOne, FillsOne, HasNoRoomFor, is_full, spans_in, spans_noted}
 use Rattle.bt_flow.proofs.Filled.{apart_noted, no_room}
 use Rattle.bt_flow.proofs.Notes.{IsNextOf, captured_more, fills_first, first_if_room, notes_if_room, notes_more, notes_none, noted_more, same_if_room}
-use Rattle.bt_flow.proofs.Streams.{conflicts_none}
+use Rattle.bt_flow.proofs.Streams.{conflicts_none, next_since, taken_since}
 use Rattle.bt_flow.specs.Counts.{counts}
-use Rattle.bt_flow.specs.Streams.{IsStreamOf, StreamTakes, conflicts_with, differing, unless_probe}
+use Rattle.bt_flow.specs.Streams.{IsStreamOf, StreamTakes, conflicts_with, differing, since_hole, unless_probe}
 use Rattle.bt_flow.specs.Views.{IsNear}
 use Rattle.bt_flow.specs.Flows.{IsFlow, has_bytes, AreQuiet, IsBaseOf, IsStreamFor, is_lost_stream, conflicts_in, with_segment, sent_at, FlowTakes, BeginsAt, StreamsOnly}
 use Rattle.bt_flow.specs.Flows.{is_left_out, is_left_out_of, HasHeard, IsHeeded, IsPassedBy}
 use Rattle.bt_flow.specs.Flows.{AreNotedFor, NotesFrom, needs_room, NotesIn, FillsIn, first_held, CountsMore, IsCounted, GivesUp, LacksRoom, FillsLate}
-use Rattle.bt_flow.specs.Flows.{is_captured, IsWithin, IsNotedIfRoom, NotesIfRoom, NotesSomeIn}
+use Rattle.bt_flow.specs.Flows.{is_captured, next_in, IsWithin, IsNotedIfRoom, NotesIfRoom, NotesSomeIn, ResumesFrom}
 
 quiet_more : (heard : List Heard) (e : Heard) → AreQuiet heard → has_bytes e ≡ false → AreQuiet (heard ++ e ∷ [])
 quiet_more [] e q h = (h, tt)
@@ -53,8 +53,13 @@ raised_least (Some m) n = omega arith
 high_more : (heard : List Heard) (e : Heard) → high_of heard ≤ high_of (heard ++ e ∷ [])
 high_more heard e = subst (λ x. high_of heard ≤ x) (sym (greatest-push 0 captured_end heard e)) (raised_least (captured_end e) (high_of heard))
 
-pub within_more : (heard : List Heard) (e : Heard) (segs : List Segment) → IsWithin segs (high_of heard) → IsWithin segs (high_of (heard ++ e ∷ []))
-within_more heard e segs w i c = omega (arith, w i c, high_more heard e)
+pub within_more : (heard : List Heard) (e : Heard) (segs : List Segment) (o o' : Option Stream) → next_in o ≤ next_in o'
+    → IsWithin segs (next_in o) (high_of heard) → IsWithin segs (next_in o') (high_of (heard ++ e ∷ []))
+within_more heard e segs o o' l w i h c = omega (arith, w i (omega (arith, l, h)) c, high_more heard e)
+
+within_same : (heard : List Heard) (segs : List Segment) (o o' : Option Stream) → o' ≡ o → IsWithin segs (next_in o) (high_of heard)
+    → IsWithin segs (next_in o') (high_of heard)
+within_same heard segs o o' e w = subst (λ x. IsWithin segs (next_in x) (high_of heard)) (sym e) w
 
 raised_to : (b : Bool) (m n : ℕ) → b ≡ true → m ≤ raised (then_some b m) n
 raised_to true m n e = omega arith
@@ -72,9 +77,10 @@ either_less : (b c : Bool) (i high : ℕ) → (b ≡ true → i < high) → (c �
 either_less true c i high f g e = f refl
 either_less false c i high f g e = g e
 
-within_one : (g : Given) (at : ℕ) (heard : List Heard) (segs : List Segment) → counts at (length g.payload.now) ≡ true → IsWithin segs (high_of heard)
-    → IsWithin (segs ++ record { place = at; bytes = g.payload.now } ∷ []) (high_of (heard ++ Took (sent_at g at) ∷ []))
-within_one g at heard segs y w i c =
+within_one : (g : Given) (at : ℕ) (heard : List Heard) (segs : List Segment) (o o' : Option Stream) → counts at (length g.payload.now) ≡ true
+    → next_in o ≤ next_in o' → IsWithin segs (next_in o) (high_of heard)
+    → IsWithin (segs ++ record { place = at; bytes = g.payload.now } ∷ []) (next_in o') (high_of (heard ++ Took (sent_at g at) ∷ []))
+within_one g at heard segs o o' y m w i h c =
     let size : ℕ = length g.payload.now in
     let long : nat_lt 0 (length g.payload.now) ≡ true
     = both_are (nat_lt 0 (length g.payload.now)) (not (nat_lt (2 ^ 62) (at + length g.payload.now))) y in
@@ -83,7 +89,7 @@ within_one g at heard segs y w i c =
     (raised_to (nat_lt 0 (length g.payload.now)) (at + length g.payload.now) (high_of heard) long) in
     either_less (in_span (record { from = at; to = at + length g.payload.now }) i) (is_captured segs i) i (high_of (heard ++ Took (sent_at g at) ∷ []))
     (λ e. omega (arith, to, ltb-true i (at + length g.payload.now) (last_is (nat_lt i at) (nat_lt i (at + length g.payload.now)) e)))
-    (λ e. omega (arith, w i e, high_more heard (Took (sent_at g at)))) (captured_more segs at g.payload.now i ∙ c)
+    (λ e. omega (arith, w i (omega (arith, m, h)) e, high_more heard (Took (sent_at g at)))) (captured_more segs at g.payload.now i ∙ c)
 
 -- What has no bytes leaves the stream.
 pub stream_quiet : (heard : List Heard) (e : Heard) (segs : List Segment) (out : List ℕ) (o : Option Stream) → has_bytes e ≡ false
@@ -105,35 +111,45 @@ pub begins_same : (at : ℕ) (flow : Flow) (o : Option Stream) (s : Stream) → 
 begins_same at flow (Some t) s e = refl
 begins_same at flow None s e = absurd (cc)
 
+-- as it was and as it is
+since_same : (F : ℕ → List ℕ → ℕ) (out : List ℕ) (s s' : Stream) → s'.base ≡ s.base → s'.resumed ≡ s.resumed
+    → F s.resumed (since_hole out s) ≡ F s'.resumed (since_hole out s')
+since_same F out s s' b r =
+    ap (λ n. F n (drop (n - s.base) out)) (sym r) ∙ ap (λ n. F s'.resumed (drop (s'.resumed - n) out)) (sym b)
+
 counted_one : (segs : List Segment) (out : List ℕ) (s s' : Stream) (at : ℕ) (bytes : List ℕ) → IsStreamOf segs out s → s.is_lost ≡ false → s'.base ≡ s.base
-    → s'.conflicts ≡ min (2 ^ 64 - 1) (s.conflicts + conflicts_with out s at bytes)
-    → s'.conflicts ≡ min (2 ^ 64 - 1) (s.conflicts + differing (first_known segs s'.base (s'.base + length out)) at bytes (s'.base + length out))
-counted_one segs out s s' at bytes i l b e =
+    → s'.resumed ≡ s.resumed → s'.conflicts ≡ min (2 ^ 64 - 1) (s.conflicts + conflicts_with out s at bytes)
+    → s'.conflicts ≡ min (2 ^ 64 - 1) (s.conflicts + differing (first_held false segs s'.resumed (since_hole out s')) at bytes (s'.base + length out))
+counted_one segs out s s' at bytes i l b r e =
+    let since : List ℕ = since_hole out s in
     e ∙ ap (λ x. min (2 ^ 64 - 1) (s.conflicts + unless_probe at (length bytes) (next_of s.window) x))
-    (conflicts_add_up segs s.base out (next_of s.window) (seen s.window) at bytes (i.taken l)
-    ∙ ap (λ n. conflicts (first_known segs s.base n) at bytes) i.next_is
-    ∙ ap (λ k. conflicts (first_known segs k (k + length out)) at bytes) (sym b))
-    ∙ ap (λ n. min (2 ^ 64 - 1) (s.conflicts + unless_probe at (length bytes) n (conflicts (first_known segs s'.base (s'.base + length out)) at bytes)))
+    (conflicts_add_up segs s.resumed since (next_of s.window) (seen s.window) at bytes
+    (taken_since segs s.base s.resumed out (next_of s.window) (seen s.window) i.resumed i.reached (i.taken l))
+    ∙ ap (λ n. conflicts (first_known segs s.resumed n) at bytes) (next_since segs out s i)
+    ∙ since_same (λ k x. conflicts (first_known segs k (k + length x)) at bytes) out s s' b r)
+    ∙ ap (λ n. min (2 ^ 64 - 1) (s.conflicts + differing (first_held false segs s'.resumed (since_hole out s')) at bytes n))
     (i.next_is ∙ ap (λ k. k + length out) (sym b))
 
 -- A gap is final, and nothing is ahead.
 counted_lost : (segs : List Segment) (out : List ℕ) (s s' : Stream) (at : ℕ) (bytes : List ℕ) → IsStreamOf segs out s → s.is_lost ≡ true → s'.base ≡ s.base
-    → s'.conflicts ≡ min (2 ^ 64 - 1) (s.conflicts + conflicts_with out s at bytes)
-    → s'.conflicts ≡ min (2 ^ 64 - 1) (s.conflicts + differing (kept s'.base out) at bytes (s'.base + length out))
-counted_lost segs out s s' at bytes i l b e =
+    → s'.resumed ≡ s.resumed → s'.conflicts ≡ min (2 ^ 64 - 1) (s.conflicts + conflicts_with out s at bytes)
+    → s'.conflicts ≡ min (2 ^ 64 - 1) (s.conflicts + differing (kept s'.resumed (since_hole out s')) at bytes (s'.base + length out))
+counted_lost segs out s s' at bytes i l b r e =
     let z : conflicts (held (next_of s.window) (seen s.window)) at bytes ≡ 0 = conflicts_none (next_of s.window) (seen s.window) at bytes (i.none l) in
-    let f : conflicts (kept s.base out) at bytes ≡ conflicts (kept s'.base out) at bytes = ap (λ k. conflicts (kept k out) at bytes) (sym b) in
-    let w : conflicts (kept s.base out) at bytes + conflicts (held (next_of s.window) (seen s.window)) at bytes ≡ conflicts (kept s'.base out) at bytes
+    let f : conflicts (kept s.resumed (since_hole out s)) at bytes ≡ conflicts (kept s'.resumed (since_hole out s')) at bytes
+    = since_same (λ k x. conflicts (kept k x) at bytes) out s s' b r in
+    let w : conflicts (kept s.resumed (since_hole out s)) at bytes + conflicts (held (next_of s.window) (seen s.window)) at bytes
+    ≡ conflicts (kept s'.resumed (since_hole out s')) at bytes
     = omega (arith, z, f) in
     e ∙ ap (λ x. min (2 ^ 64 - 1) (s.conflicts + unless_probe at (length bytes) (next_of s.window) x)) w
-    ∙ ap (λ n. min (2 ^ 64 - 1) (s.conflicts + unless_probe at (length bytes) n (conflicts (kept s'.base out) at bytes)))
+    ∙ ap (λ n. min (2 ^ 64 - 1) (s.conflicts + unless_probe at (length bytes) n (conflicts (kept s'.resumed (since_hole out s')) at bytes)))
     (i.next_is ∙ ap (λ k. k + length out) (sym b))
 
 counted_more : (lost : Bool) (segs : List Segment) (out : List ℕ) (s s' : Stream) (at : ℕ) (bytes : List ℕ) → IsStreamOf segs out s → s.is_lost ≡ lost
-    → s'.base ≡ s.base → s'.conflicts ≡ min (2 ^ 64 - 1) (s.conflicts + conflicts_with out s at bytes)
-    → s'.conflicts ≡ min (2 ^ 64 - 1) (s.conflicts + differing (first_held lost segs s'.base out) at bytes (s'.base + length out))
-counted_more false segs out s s' at bytes i l b e = counted_one segs out s s' at bytes i l b e
-counted_more true segs out s s' at bytes i l b e = counted_lost segs out s s' at bytes i l b e
+    → s'.base ≡ s.base → s'.resumed ≡ s.resumed → s'.conflicts ≡ min (2 ^ 64 - 1) (s.conflicts + conflicts_with out s at bytes)
+    → s'.conflicts ≡ min (2 ^ 64 - 1) (s.conflicts + differing (first_held lost segs s'.resumed (since_hole out s')) at bytes (s'.base + length out))
+counted_more false segs out s s' at bytes i l b r e = counted_one segs out s s' at bytes i l b r e
+counted_more true segs out s s' at bytes i l b r e = counted_lost segs out s s' at bytes i l b r e
 
 same_noted : (segs : List Segment) (o o' : Option Stream) (n n' : Option Noted) → o' ≡ o → n' ≡ n → AreNotedFor segs o n → AreNotedFor segs o' n'
 same_noted segs o o' n n' s m a = subst (λ x. AreNotedFor segs o' x) (sym m) (subst (λ x. AreNotedFor segs x n) (sym s) a)
@@ -197,6 +213,15 @@ late_same heard out o at bytes (Some s') n e = (
   λ c. absurd (let z : true ≡ false = sym c ∙ n in cc),
 )
 
+some_same : (s s' : Stream) → Some s' ≡ Some s → s' ≡ s
+some_same s s' e = cc
+
+resumes_same : (o o' : Option Stream) → o' ≡ o → ResumesFrom o o'
+resumes_same None None e = refl
+resumes_same (Some s) None e = sym e
+resumes_same None (Some s') e = absurd (cc)
+resumes_same (Some s) (Some s') e = ap (λ x. x.resumed) (some_same s s' e)
+
 -- one that isn't counted
 pub takes_quiet : (g : Given) (flow : Flow) (given : List ℕ) (flow' : Flow) (at : ℕ) → flow'.stream ≡ flow.stream → flow'.noted ≡ flow.noted
     → HearsMore flow.half (Took (sent_at g at)) flow'.half
@@ -217,10 +242,12 @@ takes_quiet g flow given flow' at s m h y n = record {
           half = h heard f.half;
           stream = subst (λ x. IsStreamFor (heard ++ Took (sent_at g at) ∷ []) x (out ++ []) flow'.stream) e more;
           noted = subst (λ x. AreNotedFor x flow'.stream flow'.noted) e (same_noted segs flow.stream flow'.stream flow.noted flow'.noted s m f.noted);
-          within = subst (λ x. IsWithin x (high_of (heard ++ Took (sent_at g at) ∷ []))) e (within_more heard (Took (sent_at g at)) segs f.within);
+          within = subst (λ x. IsWithin x (next_in flow'.stream) (high_of (heard ++ Took (sent_at g at) ∷ []))) e
+              (within_more heard (Took (sent_at g at)) segs flow.stream flow'.stream (omega (arith, ap next_in s)) f.within);
         },
         record {
           heeded = y heard f.half;
+          resumed = resumes_same flow.stream flow'.stream s;
           counted = uncounted segs out flow.stream at g.payload.now flow'.stream n s;
           late = late_same (heard ++ Took (sent_at g at) ∷ []) out flow.stream at g.payload.now flow'.stream n s;
           fills = fills_same (is_lost_stream flow.stream) segs (out ++ []) flow'.stream at g.payload.now flow.noted flow'.noted n m;
@@ -303,6 +330,10 @@ past_of : (heard : List Heard) (at size next : ℕ) (lost : Bool) → is_left_ou
 past_of heard at size next lost k l p =
     not_left lost (nat_lt (next + 15728640) (at + size)) (is_past_filling heard next) k l (lt-ltb (next + 15728640) (at + size) p)
 
+-- A stream that begins is compared from its base on.
+begun_resumed : (s : Stream) → IsStreamOf [] [] s → s.resumed ≡ s.base
+begun_resumed s i = omega (arith, i.next_is, i.resumed, i.reached)
+
 record TakesBytes (at : ℕ) (bytes : List ℕ) (sent : Sent) (half : Half) (o o1 : Option Stream) (more : List ℕ) (o' : Option Stream)
     (n n' : Option Noted) : Type 0 where
   none : is_lost_stream o ≡ true → (more ≡ []) × (is_lost_stream o' ≡ true)
@@ -315,6 +346,8 @@ record TakesBytes (at : ℕ) (bytes : List ℕ) (sent : Sent) (half : Half) (o o
       → is_left_out_of now at (length bytes) o1 ≡ false → GivesUp now out o at bytes o'
   fills : (heard : List Heard) (segs : List Segment) (out : List ℕ) → IsStreamFor heard segs out o → AreNotedFor segs o n
       → FillsLate (is_lost_stream o) segs (out ++ more) o' at bytes n n'
+  resumed : ResumesFrom o o'
+  grows : (heard : List Heard) (segs : List Segment) (out : List ℕ) → IsStreamFor heard segs out o → next_in o ≤ next_in o'
 
 takes_bytes : (at : ℕ) (bytes : List ℕ) (sent : Sent) (flow : Flow) (o o1 : Option Stream) (more : List ℕ) (o2 : Option Stream)
     (n n' : Option Noted) (from : ℕ)
@@ -339,8 +372,12 @@ takes_bytes at bytes sent flow (Some s) (Some s1) more (Some s2) n n' from u y p
       (subst (λ x. IsStreamOf segs out x) (sym b) i.1) (subst (λ (x : Stream). AreNoted x.is_lost segs x.base (next_of x.window) n) (sym b) a);
   counted = λ heard segs out i. (
       let i1 : IsStreamOf segs out s1 = subst (λ x. IsStreamOf segs out x) (sym b) i.1 in
-      counted_more s1.is_lost segs out s1 s2 at bytes i1 refl t.base (t.counted segs out i1)
-      ∙ ap (λ x. min (2 ^ 64 - 1) (x.conflicts + differing (first_held x.is_lost segs s2.base out) at bytes (s2.base + length out))) b);
+      counted_more s1.is_lost segs out s1 s2 at bytes i1 refl t.base t.resumed (t.counted segs out i1)
+      ∙ ap (λ x. min (2 ^ 64 - 1) (x.conflicts + differing (first_held x.is_lost segs s2.resumed (since_hole out s2)) at bytes (s2.base + length out))) b);
+  resumed = t.resumed ∙ ap (λ x. x.resumed) b;
+  grows = λ heard segs out i. (
+      let i1 : IsStreamOf segs out s1 = subst (λ x. IsStreamOf segs out x) (sym b) i.1 in
+      omega (arith, t.base, i1.next_is, (t.taken segs out i1).next_is, length-append out more, ap (λ (x : Stream). next_of x.window) b));
   fills = λ heard segs out i a. subst (λ (x : Stream). FillsLate x.is_lost segs (out ++ more) (Some s2) at bytes n n') b
       (fills_after at bytes s1 more s2 n n' from u t
       (subst (λ (x : Stream). NotesFrom x.is_lost at (at + length bytes) (Some s2) n from) (sym b) f) w z q segs out
@@ -384,8 +421,10 @@ takes_bytes at bytes sent flow None (Some s1) more (Some s2) n n' from u y p b t
       (noted_none s1.is_lost segs s1.base (next_of s1.window) n i.1 a);
   counted = λ heard segs out i. (
       let i1 : IsStreamOf segs out s1 = subst (λ x. IsStreamOf segs x s1) (sym i.2) (subst (λ x. IsStreamOf x [] s1) (sym i.1) b.0) in
-      counted_more false segs out s1 s2 at bytes i1 b.1 t.base (t.counted segs out i1)
-      ∙ ap (λ x. min (2 ^ 64 - 1) (x + differing (first_held false segs s2.base out) at bytes (s2.base + length out))) b.2);
+      counted_more false segs out s1 s2 at bytes i1 b.1 t.base t.resumed (t.counted segs out i1)
+      ∙ ap (λ x. min (2 ^ 64 - 1) (x + differing (first_held false segs s2.resumed (since_hole out s2)) at bytes (s2.base + length out))) b.2);
+  resumed = t.resumed ∙ begun_resumed s1 b.0 ∙ sym t.base;
+  grows = λ heard segs out i. omega arith;
   fills = λ heard segs out i a. subst (λ x. FillsLate x segs (out ++ more) (Some s2) at bytes n n') b.1
       (fills_after at bytes s1 more s2 n n' from u t
       (subst (λ x. NotesFrom x at (at + length bytes) (Some s2) n from) (sym b.1) f) w z q segs out
@@ -441,10 +480,13 @@ takes_counted g flow given more flow0 flow1 flow2 flow3 at from u v p w z q m1 m
               } ∷ []) o flow3.noted) (sym v)
                   (r.noted heard segs out (subst (λ o. IsStreamFor heard segs out o) (sym s) i.stream)
                   (same_noted segs flow.stream flow0.stream flow.noted flow2.noted s (m1 ∙ m0) i.noted)));
-              within = subst (λ x. IsWithin x (high_of (heard ++ Took (sent_at g at) ∷ []))) k (within_one g at heard segs y i.within);
+              within = subst (λ x. IsWithin x (next_in flow3.stream) (high_of (heard ++ Took (sent_at g at) ∷ []))) k
+                  (within_one g at heard segs flow.stream flow3.stream y
+                  (omega (arith, r.grows heard segs out (subst (λ o. IsStreamFor heard segs out o) (sym s) i.stream), ap next_in s, ap next_in v)) i.within);
             },
             record {
               heeded = d heard i.half;
+              resumed = subst (λ o. ResumesFrom flow.stream o) (sym v) (subst (λ o. ResumesFrom o flow2.stream) s r.resumed);
               counted = counted segs out flow.stream at g.payload.now flow3.stream y
                   (subst (λ o. CountsMore segs out flow.stream at g.payload.now o) (sym v)
                   (subst (λ o. CountsMore segs out o at g.payload.now flow2.stream) s
@@ -496,6 +538,18 @@ left_conflicts flow at (Some s) None b = absurd b
 left_conflicts flow at None None b = absurd b
 left_conflicts flow at None (Some s1) b = b.2
 
+left_resumed : (flow : Flow) (at : ℕ) (o o1 : Option Stream) → BeginsAt at flow o o1 → ResumesFrom o o1
+left_resumed flow at (Some s) (Some s1) b = ap (λ (x : Stream). x.resumed) b
+left_resumed flow at (Some s) None b = absurd b
+left_resumed flow at None None b = absurd b
+left_resumed flow at None (Some s1) b = begun_resumed s1 b.0
+
+left_next : (flow : Flow) (at : ℕ) (o o1 : Option Stream) → BeginsAt at flow o o1 → next_in o ≤ next_in o1
+left_next flow at (Some s) (Some s1) b = omega (arith, ap (λ (x : Stream). next_of x.window) b)
+left_next flow at (Some s) None b = absurd b
+left_next flow at None None b = absurd b
+left_next flow at None (Some s1) b = omega arith
+
 left_lost : (flow : Flow) (at : ℕ) (o o1 : Option Stream) → BeginsAt at flow o o1 → is_lost_stream o ≡ true → is_lost_stream o1 ≡ true
 left_lost flow at (Some s) (Some s1) b l = ap (λ (x : Stream). x.is_lost) b ∙ l
 left_lost flow at (Some s) None b l = absurd b
@@ -523,13 +577,15 @@ takes_left g flow given flow0 flow1 at s m e h d left y b = record {
           stream = left_stream g flow0 at flow0.half heard segs out flow0.stream flow1.stream y refl now b old;
           noted = subst (λ n. AreNotedFor segs flow1.stream n) (sym m)
               (left_noted flow0 at heard segs out flow0.stream flow1.stream flow.noted b old (subst (λ o. AreNotedFor segs o flow.noted) (sym s) i.noted));
-          within = within_more heard (Took (sent_at g at)) segs i.within;
+          within = within_more heard (Took (sent_at g at)) segs flow.stream flow1.stream
+              (omega (arith, left_next flow0 at flow0.stream flow1.stream b, ap next_in s)) i.within;
         },
         d heard i.half,
         refl,
         record {
           counts = y;
           is = sym (left (heard ++ Took (sent_at g at) ∷ []) half);
+          resumed = subst (λ o. ResumesFrom o flow1.stream) s (left_resumed flow0 at flow0.stream flow1.stream b);
           conflicts = left_conflicts flow0 at flow0.stream flow1.stream b ∙ ap conflicts_in s;
           noted = m;
         },
@@ -550,7 +606,7 @@ hears_one number opens flow flow' (Some at) s m h y r k heard segs out f =
         half = h heard f.half;
         stream = subst (λ o. IsStreamFor (heard ++ e ∷ []) segs out o) (sym s) (stream_quiet heard e segs out flow.stream refl f.stream);
         noted = same_noted segs flow.stream flow'.stream flow.noted flow'.noted s m f.noted;
-        within = within_more heard e segs f.within;
+        within = within_more heard e segs flow.stream flow'.stream (omega (arith, ap next_in s)) f.within;
       },
       y heard f.half,
     )
@@ -560,7 +616,7 @@ hears_one number opens flow flow' None s m h y r k heard segs out f = inr (
     half = subst (λ x. IsHalf heard x) (sym (k refl)) f.half;
     stream = subst (λ o. IsStreamFor heard segs out o) (sym s) f.stream;
     noted = same_noted segs flow.stream flow'.stream flow.noted flow'.noted s m f.noted;
-    within = f.within;
+    within = within_same heard segs flow.stream flow'.stream s f.within;
   },
 )
 
@@ -578,7 +634,7 @@ takes_refused g flow given flow' s m h r = record {
       half = subst (λ x. IsHalf heard x) (sym h) f.half;
       stream = subst (λ o. IsStreamFor heard segs out o) (sym s) f.stream;
       noted = same_noted segs flow.stream flow'.stream flow.noted flow'.noted s m f.noted;
-      within = f.within;
+      within = within_same heard segs flow.stream flow'.stream s f.within;
     },
     s,
     m,

@@ -8,3 +8,4 @@ pub mod WideProofs
 pub mod WideCalls
 pub mod Gaps
 pub mod Told
+pub mod Holes

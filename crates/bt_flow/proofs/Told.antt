@@ -12,7 +12,7 @@ use Rattle.bt_flow.specs.declared.stream.Stream.{Stream}
 use Rattle.bt_flow.specs.declared.noted.Noted.{Noted}
 use Rattle.bt_flow.specs.Wide.{next_of}
 use Rattle.bt_flow.specs.Notes.{spans_noted, is_full}
-use Rattle.bt_flow.specs.Flows.{IsBaseNow, IsPlaceNow, IsStreamFor, AreNotedFor, is_captured, is_lost_stream}
+use Rattle.bt_flow.specs.Flows.{IsBaseNow, IsPlaceNow, IsStreamFor, AreNotedFor, is_captured, is_lost_stream, next_in}
 use Rattle.bt_flow.specs.Counts.{gap_from, from_base}
 use Rattle.bt_flow.proofs.Filled.{covered_in, one_reaches}
 
@@ -48,6 +48,13 @@ only_from heard segs out None n next p f a i h c = absurd (let z : true ≡ fals
 only_from heard segs out (Some s) n next p f a i h c =
     let e : next ≡ s.base + length out = ap (λ o. unwrap_or o 0) p in
     a.only i (omega (arith, e, f.1.next_is, h)) c
+
+pub next_at : (heard : List Heard) (segs : List Segment) (out : List ℕ) (o : Option Stream) (next : ℕ) → IsPlaceNow heard out o (Some next)
+    → IsStreamFor heard segs out o → next_in o ≤ next
+next_at heard segs out None next p f = omega arith
+next_at heard segs out (Some s) next p f =
+    let e : next ≡ s.base + length out = ap (λ o. unwrap_or o 0) p in
+    omega (arith, e, f.1.next_is)
 
 -- The next place isn't noted.
 pub next_missing : (heard : List Heard) (segs : List Segment) (out : List ℕ) (o : Option Stream) (n : Option Noted) (next : ℕ)

@@ -1,5 +1,6 @@
 -- A window with bytes that wait far after the next one.
-use Rattle.std.proofs.Common.{◌≡◌, ◌≢◌, ℕ, zero, suc, ◌+◌, ◌-◌, ◌<◌, ◌≤◌, List, [], ◌∷◌, ◌++◌, length, slice_get, get_or, length-append, append_assoc, refl, sym, ap, subst, ◌∙◌, arith, Option, inl, inr}
+use Rattle.std.proofs.Common.{◌≡◌, ◌≢◌, ℕ, zero, suc, ◌+◌, ◌-◌, ◌<◌, ◌≤◌, List, [], ◌∷◌, ◌++◌, length, replicate, slice_get, get_or, length-append, append_assoc, refl, sym, ap, subst, ◌∙◌, arith, Option, inl, inr}
+use Rattle.std.proofs.lemmas.List.{length-replicate}
 use Rattle.std.specs.Prelude.{Some, None}
 use Rattle.std.proofs.lemmas.Bool.{cases_lt, cases_order}
 use Rattle.std.proofs.lemmas.Option.{slice_get-get_or}
@@ -12,7 +13,7 @@ use Rattle.std.specs.Prelude.{Bool, true, false, unwrap_or, if◌then◌else◌}
 use Rattle.bt_tcp.specs.History.{held, differs, conflicts}
 use Rattle.bt_tcp.proofs.HistoryProofs.{held_before, held_after}
 use Rattle.bt_flow.specs.Memory as ring
-use Rattle.bt_flow.specs.Views.{IsNear, TakesIn, HandsSome, HandsOut, AppendsAfter}
+use Rattle.bt_flow.specs.Views.{IsNear, TakesIn, HandsSome, HandsOut, PassesHole, AppendsAfter}
 use Rattle.bt_flow.specs.Wide.{either_of, AppendsAll, TakesAll}
 use Rattle.bt_flow.specs.declared.window.Window.{Window}
 
@@ -395,3 +396,35 @@ none_after at bytes w more n1 near1 t = (moves at bytes (ring.next_of w) (ring.s
 pub appended_after : (at : ℕ) (bytes : List ℕ) (next : ℕ) (ahead : ℕ → Option ℕ) (later : List ℕ) (next' : ℕ) (ahead' : ℕ → Option ℕ) (later' : List ℕ)
     → AppendsAll at bytes next ahead later next' ahead' later' → AppendsAfter [] later later' (λ more. TakesIn at bytes next ahead more next' ahead')
 appended_after at bytes next ahead later next' ahead' later' a = record { rest = a.more; is = a.is; more = a.taken }
+
+-- Neither has a byte.
+pub either_none : (a b : Option ℕ) → or_else a b ≡ None → (a ≡ None) × (b ≡ None)
+either_none None b e = (refl, e)
+either_none (Some x) b e = absurd (cc)
+
+-- Places were passed in the ring, and after that what is ready was handed out.
+pub hole_passed : (count : ℕ) (w : Window) (far : ℕ → Option ℕ) (later : List ℕ) (n1 : ℕ) (near1 : ℕ → Option ℕ) (later1 : List ℕ) (n2 : ℕ)
+    (a2 : ℕ → Option ℕ) (later2 : List ℕ) → ((k : ℕ) → k < count → either_of (ring.seen w) far (ring.next_of w) k ≡ None)
+    → PassesHole count (ring.next_of w) (ring.seen w) later n1 near1 later1 → HandsOut n1 (either_of near1 far n1) later1 n2 a2 later2
+    → PassesHole count (ring.next_of w) (either_of (ring.seen w) far (ring.next_of w)) later n2 a2 later2
+hole_passed count w far later n1 near1 later1 n2 a2 later2 none p o = record {
+  more = p.more ++ o.some.more;
+  is = then_appended later p.more o.some.more later1 later2 p.is o.some.is;
+  taken = λ fill e. (
+      let n : ℕ = ring.next_of w in
+      let t = p.taken fill e in
+      let apart : (i : ℕ) → n ≤ i → i < n + length fill → far i ≡ None = λ i a b. (
+      let k : ℕ = i - n in
+      let at : n + k ≡ i = omega (arith, a) in
+      ap far (sym at) ∙ (either_none (ring.seen w k) (far (n + k)) (none k (omega (arith, a, b, e)))).1) in
+      subst (λ x. TakesIn n fill n (either_of (ring.seen w) far n) x n2 a2) (append_assoc fill p.more o.some.more)
+      (takes_then n fill (record { place = n; bytes = fill }) n (ring.seen w) far (fill ++ p.more) n1 near1 later1 n2 a2 later2
+      (merges_apart n fill far apart) t.near (moves n fill n (ring.seen w) (fill ++ p.more) n1 near1 (ring.capacity_of w) (window_none w) t) o));
+}
+
+-- After places were passed, no byte is at the ring's next place.
+pub none_passed : (count : ℕ) (w : Window) (later : List ℕ) (n1 : ℕ) (near1 : ℕ → Option ℕ) (later1 : List ℕ)
+    → PassesHole count (ring.next_of w) (ring.seen w) later n1 near1 later1 → near1 0 ≡ None
+none_passed count w later n1 near1 later1 p =
+    let fill : List ℕ = replicate count 0 in
+    none_after (ring.next_of w) fill w (fill ++ p.more) n1 near1 (p.taken fill (length-replicate count 0))

@@ -7,12 +7,12 @@ use Rattle.std.proofs.lemmas.Bool.{cases_lt}
 use Rattle.bt_tcp.specs.declared.rings.Put.{Put}
 use Rattle.bt_tcp.specs.declared.rings.Put.TheVariants.{Taken, Full}
 use Rattle.bt_tcp.specs.Segments.{Segment, IsStream, byte_in, or_else}
-use Rattle.bt_tcp.specs.Windows.{IsTaken, IsPut, IsPutOf, TakesOneMore, GoesOn, HandsOutMore, EndsStream}
+use Rattle.bt_tcp.specs.Windows.{IsTaken, IsPut, IsPutOf, TakesAny, TakesOneMore, GoesOn, HandsOutMore, EndsStream}
 use Rattle.bt_tcp.proofs.Bytes.{byte_in-at, byte_in-before}
 use Rattle.bt_tcp.proofs.RingProofs.{known-past, ring-none}
 use Rattle.bt_tcp.proofs.Taken.{taken_on}
 use Rattle.bt_flow.specs.Memory.{capacity_of, seen}
-use Rattle.bt_flow.specs.Views.{IsNear, Places, HandsSome, HandsOut, TakesIn}
+use Rattle.bt_flow.specs.Views.{IsNear, Places, HandsSome, HandsOut, PassesHole, TakesIn}
 use Rattle.bt_flow.specs.declared.window.Window.{Window}
 
 -- No byte is kept past 15 MiB.
@@ -138,3 +138,23 @@ takes_in_same at bytes n a more n1 a1 n2 a2 e f t =
           let both = t.taken segs base out h in
           (goes_same n1 a1 n2 a2 e f (segs ++ s ∷ []) base (out ++ more) both.0, both.1));
     }
+
+-- Places were passed, and after them comes what is ready then.
+pub passes_in : (count n : ℕ) (a : ℕ → Option ℕ) (n1 : ℕ) (a1 : ℕ → Option ℕ) (later : List ℕ) (n2 : ℕ) (a2 : ℕ → Option ℕ) (later' : List ℕ)
+    (n3 : ℕ) (a3 : ℕ → Option ℕ) → n1 ≡ n + count → TakesAny count n a n1 a1 → HandsOut n1 a1 later n2 a2 later' → n3 ≡ n2
+    → ((k : ℕ) → a3 k ≡ a2 k) → PassesHole count n a later n3 a3 later'
+passes_in count n a n1 a1 later n2 a2 later' n3 a3 next t o e f = record {
+  more = o.some.more;
+  is = o.some.is;
+  taken = λ fill len. (
+      let s : Segment = record { place = n; bytes = fill } in
+      takes_in_same n fill n a (fill ++ o.some.more) n2 a2 n3 a3 e f (record {
+        next_is = omega (arith, next, len, o.some.next_is, length-append fill o.some.more);
+        near = λ _ m. omega (arith, m);
+        taken = λ segs base out h. (
+            let h1 = t segs base out fill len h in (
+              subst (λ x. IsTaken (segs ++ s ∷ []) base x n2 a2) (append_assoc out fill o.some.more) (o.some.taken (segs ++ s ∷ []) base (out ++ fill) h1),
+              subst (λ x. IsStream (segs ++ s ∷ []) base x) (append_assoc out fill o.some.more) (o.stream (segs ++ s ∷ []) base (out ++ fill) h1),
+            ));
+      }));
+}

@@ -7,17 +7,17 @@ use Rattle.bt_tcp.specs.declared.covered.Span.{Span}
 use Rattle.bt_tcp.specs.Covered.{AreApart, AreGaps, IsAlone, in_span, is_covered, no_gaps}
 use Rattle.bt_tcp.specs.declared.covered.Gap.{Gap}
 use Rattle.bt_tcp.specs.declared.covered.Gaps.{Gaps}
-use Rattle.bt_tcp.specs.Heard.{Heard, Sent, Took, Acked, opening_of, high_of, fin_of, acked_of, sent_of, IsStart, IsAfterSyn}
+use Rattle.bt_tcp.specs.Heard.{Heard, Sent, Took, Acked, opening_of, high_of, fin_of, acked_of, has_ack, sent_of, IsStart, IsAfterSyn}
 use Rattle.bt_tcp.specs.Halves.{IsHalf}
 use Rattle.bt_tcp.specs.Acceptable.{IsPassed, IsUnsent, is_passed, is_past_filling, is_unsent}
 use Rattle.bt_flow.specs.declared.stream.Stream.{Stream}
 use Rattle.bt_flow.specs.declared.noted.Noted.{Noted}
 use Rattle.bt_flow.specs.Notes.{AddsSome, AreNoted, IsNotedFrom, NotesOne, FillsOne, ReachBase, spans_noted, is_full}
-use Rattle.bt_flow.specs.Wide.{next_of, capacity_of}
+use Rattle.bt_flow.specs.Wide.{next_of, seen, capacity_of}
 use Rattle.bt_flow.specs.declared.flow.Flow.{Flow}
 use Rattle.bt_flow.specs.declared.flow.Given.{Given}
 use Rattle.bt_flow.specs.Counts.{counts, is_closed_at, from_base}
-use Rattle.bt_flow.specs.Streams.{IsStreamOf, StreamTakes, differing}
+use Rattle.bt_flow.specs.Streams.{IsStreamOf, StreamPasses, StreamTakes, differing, since_hole}
 use Rattle.bt_flow.specs.Views.{AppendsAfter, IsNear}
 
 abbrev pub has_bytes : Heard → Bool
@@ -46,9 +46,14 @@ IsStreamFor heard segs out (Some s) = IsBaseOf heard s.base × IsStreamOf segs o
 abbrev pub is_captured : List Segment → ℕ → Bool
 is_captured segs i = is_some (byte_at segs i)
 
--- Captured places are before this one.
-abbrev pub IsWithin : List Segment → ℕ → Type 0
-IsWithin segs high = (i : ℕ) → is_captured segs i ≡ true → i < high
+-- Captured places from one on are before another.
+abbrev pub IsWithin : List Segment → ℕ → ℕ → Type 0
+IsWithin segs next high = (i : ℕ) → next ≤ i → is_captured segs i ≡ true → i < high
+
+-- the next place, 0 before the first captured byte
+abbrev pub next_in : Option Stream → ℕ
+next_in None = 0
+next_in (Some s) = next_of s.window
 
 -- Before the first captured byte nothing is noted.
 abbrev pub AreNotedFor : List Segment → Option Stream → Option Noted → Type 0
@@ -56,12 +61,13 @@ AreNotedFor segs None o = o ≡ None
 AreNotedFor segs (Some s) o = AreNoted s.is_lost segs s.base (next_of s.window) o
 
 -- This was heard, these segments were taken, and these bytes were handed out.
+-- A hole that was passed counts as a segment with any bytes, which were handed out.
 pub record IsFlow (heard : List Heard) (segs : List Segment) (out : List ℕ) (flow : Flow) : Type 0 where
   pub half : IsHalf heard flow.half
   pub stream : IsStreamFor heard segs out flow.stream
   pub noted : AreNotedFor segs flow.stream flow.noted
-  -- No captured place is past the greatest that was heard of.
-  pub within : IsWithin segs (high_of heard)
+  -- No captured place from the next one on is past the greatest that was heard of.
+  pub within : IsWithin segs (next_in flow.stream) (high_of heard)
 
 abbrev pub is_lost_stream : Option Stream → Bool
 is_lost_stream None = false
@@ -93,11 +99,18 @@ abbrev pub first_held : Bool → List Segment → ℕ → List ℕ → ℕ → O
 first_held false segs base out = first_known segs base (base + length out)
 first_held true segs base out = kept base out
 
--- Those bytes of a segment are counted that differ from the first captured ones. A keep-alive has none.
+-- Those bytes of a segment are counted that differ from the first captured ones after the last hole that was passed. A keep-alive has none.
 abbrev pub CountsMore : List Segment → List ℕ → Option Stream → ℕ → List ℕ → Option Stream → Type 0
 CountsMore segs out o at bytes None = ⊥
 CountsMore segs out o at bytes (Some s') =
-    s'.conflicts ≡ min (2 ^ 64 - 1) (conflicts_in o + differing (first_held (is_lost_stream o) segs s'.base out) at bytes (s'.base + length out))
+    s'.conflicts ≡ min (2 ^ 64 - 1) (conflicts_in o + differing (first_held (is_lost_stream o) segs s'.resumed (since_hole out s'))
+    at bytes (s'.base + length out))
+
+-- A segment passes no hole: bytes are compared from the same place on, and in a stream that begins from its base on.
+abbrev pub ResumesFrom : Option Stream → Option Stream → Type 0
+ResumesFrom o None = o ≡ None
+ResumesFrom None (Some s') = s'.resumed ≡ s'.base
+ResumesFrom (Some s) (Some s') = s'.resumed ≡ s.resumed
 
 -- Bytes that don't count leave the stream as it is. Of others those are counted that differ.
 abbrev pub IsCounted : List Segment → List ℕ → Option Stream → ℕ → List ℕ → Option Stream → Type 0
@@ -193,12 +206,14 @@ IsHeeded heard g at = is_passed heard g.syn g.fin (length g.payload.now) g.lengt
 pub record IsLeftOut (heard : List Heard) (g : Given) (at : ℕ) (flow flow' : Flow) : Type 0 where
   pub counts : counts at (length g.payload.now) ≡ true
   pub is : is_left_out_of heard at (length g.payload.now) flow'.stream ≡ true
+  pub resumed : ResumesFrom flow.stream flow'.stream
   pub conflicts : conflicts_in flow'.stream ≡ conflicts_in flow.stream
   pub noted : flow'.noted ≡ flow.noted
 
 -- The segment was taken at its place.
 pub record IsTakenAt (g : Given) (heard : List Heard) (segs : List Segment) (out : List ℕ) (flow : Flow) (more : List ℕ) (flow' : Flow) (at : ℕ) : Type 0 where
   pub heeded : IsHeeded heard g at
+  pub resumed : ResumesFrom flow.stream flow'.stream
   pub counted : IsCounted segs out flow.stream at g.payload.now flow'.stream
   pub late : GivesUp (heard ++ Took (sent_at g at) ∷ []) out flow.stream at g.payload.now flow'.stream
   pub fills : FillsLate (is_lost_stream flow.stream) segs (out ++ more) flow'.stream at g.payload.now flow.noted flow'.noted
@@ -228,6 +243,52 @@ pub record FlowTakes (g : Given) (flow : Flow) (given : List ℕ) (flow' : Flow)
 -- The bytes that a segment makes ready are `fresh` and what was appended: with them after `given`, it is as above.
 abbrev pub FlowTakesNext : Given → Flow → List ℕ → List ℕ → Flow → List ℕ → Type 0
 FlowTakesNext g flow fresh later flow' later' = AppendsAfter fresh later later' (λ more. (given : List ℕ) → FlowTakes g flow given flow' (given ++ more))
+
+-- ---- a hole
+
+-- So many places from one on have no captured byte, at most those before `end`, and as many as can be.
+pub record IsHoleTo (segs : List Segment) (next «end» hole : ℕ) : Type 0 where
+  pub within : hole ≤ «end» - next
+  pub missing : (k : ℕ) → k < hole → is_captured segs (next + k) ≡ false
+  pub ends : hole < «end» - next → is_captured segs (next + hole) ≡ true
+
+abbrev pub IsHoleBy : Bool → (ℕ → ℕ) → List Segment → ℕ → ℕ → Type 0
+IsHoleBy true end_from segs next hole = hole ≡ 0
+IsHoleBy false end_from segs next hole = IsHoleTo segs next (end_from next) hole
+
+-- Before the first captured byte and after a final gap no hole may be passed. `end_from` says up to where it may be, from the next place on.
+abbrev pub IsHoleIn : (ℕ → ℕ) → List Segment → List ℕ → Option Stream → ℕ → Type 0
+IsHoleIn end_from segs out None hole = hole ≡ 0
+IsHoleIn end_from segs out (Some s) hole = IsHoleBy s.is_lost end_from segs (s.base + length out) hole
+
+-- where what is known to be sent ends, or what was acknowledged, if that is given and ends before
+abbrev pub sent_within : Option ℕ → List Heard → ℕ → ℕ
+sent_within None heard next = sent_of heard next
+sent_within (Some acked) heard next = min acked (sent_of heard next)
+
+-- No segment fills a place any more that the other side acknowledged (RFC 9293 3.4).
+abbrev pub past_filling : List Heard → ℕ → ℕ
+past_filling heard next = if has_ack heard then min (acked_of heard) (sent_of heard next) else 0
+
+-- Bytes are compared from the place after the hole on.
+abbrev pub HasResumed : Option Stream → ℕ → Option Stream → Type 0
+HasResumed (Some s) count (Some s') = (s'.base ≡ s.base) × (s'.resumed ≡ next_of s.window + count)
+HasResumed _ count _ = ⊥
+
+-- At most n bytes of the hole were passed, whether or not a segment may still fill it, and what is ready then was appended.
+pub record FlowPasses (n : ℕ) (flow : Flow) (given : List ℕ) (count : ℕ) (flow' : Flow) (given' : List ℕ) : Type 0 where
+  pub more : List ℕ
+  pub is : given' ≡ given ++ more
+  pub counts : (heard : List Heard) (segs : List Segment) (out : List ℕ) → IsFlow heard segs out flow
+      → (hole : ℕ) × IsHoleIn (sent_of heard) segs out flow.stream hole × (count ≡ min n hole)
+  -- Whatever the passed bytes are, it is as if a segment had brought them. But later segments are only compared with bytes after them.
+  pub passed : (heard : List Heard) (segs : List Segment) (out fill : List ℕ) → 0 < count → length fill ≡ count → IsFlow heard segs out flow
+      → IsFlow heard (segs ++ record { place = next_in flow.stream; bytes = fill } ∷ []) (out ++ (fill ++ more)) flow'
+  pub resumed : 0 < count → HasResumed flow.stream count flow'.stream
+  pub none : count ≡ 0 → (flow' ≡ flow) × (more ≡ [])
+  pub lost : is_lost_stream flow'.stream ≡ is_lost_stream flow.stream
+  pub noted : flow'.noted ≡ flow.noted
+  pub conflicts : conflicts_in flow'.stream ≡ conflicts_in flow.stream
 
 -- ---- what is told of it
 
@@ -331,3 +392,12 @@ NotesSomeIn at «end» (Some s) o o' = NotesIfRoom s.base (next_of s.window) (re
 abbrev pub FillsIn : ℕ → ℕ → Option Stream → Option Noted → Option Noted → Type 0
 FillsIn at «end» None o o' = o' ≡ o
 FillsIn at «end» (Some s) o o' = FillsOne s.base (next_of s.window) (record { from = at; to = «end» }) o o'
+
+-- No byte is at these places.
+abbrev pub MaySkip : ℕ → Option Stream → Type 0
+MaySkip count None = ⊥
+MaySkip count (Some s) = (s.is_lost ≡ false) × ((k : ℕ) → k < count → seen s.window k ≡ None) × (next_of s.window + count < 2 ^ 64)
+
+abbrev pub Skips : ℕ → Option Stream → List ℕ → Option Stream → List ℕ → Type 0
+Skips count (Some s) given (Some s') given' = StreamPasses count s given s' given'
+Skips count _ given _ given' = ⊥

@@ -35,6 +35,12 @@ pub record TakesIn (at : ℕ) (bytes : List ℕ) (next : ℕ) (ahead : ℕ → O
   pub taken : (segs : List Segment) (base : ℕ) (out : List ℕ) → IsTaken segs base out next ahead
       → IsTaken (segs ++ record { place = at; bytes = bytes } ∷ []) base (out ++ more) next' ahead' × IsStream (segs ++ record { place = at; bytes = bytes } ∷ []) base (out ++ more)
 
+-- Places were passed, and what is ready then was appended. Whatever their bytes are, it is as if a segment had brought them.
+pub record PassesHole (count next : ℕ) (ahead : ℕ → Option ℕ) (given : List ℕ) (next' : ℕ) (ahead' : ℕ → Option ℕ) (given' : List ℕ) : Type 0 where
+  pub more : List ℕ
+  pub is : given' ≡ given ++ more
+  pub taken : (fill : List ℕ) → length fill ≡ count → TakesIn next fill next ahead (fill ++ more) next' ahead'
+
 -- The bytes that are ready are `fresh` and what was appended.
 pub record AppendsAfter (fresh later later' : List ℕ) (IsMore : List ℕ → Type 0) : Type 0 where
   pub rest : List ℕ

@@ -56,6 +56,17 @@ impl Far {
         self.pages.touches(at, len)
     }
 
+    /// Counts the places without a byte from one on, at most `most`.
+    pub fn count_missing(&self, at: u64, most: usize) -> usize
+        ensures most { result ≤ most }
+        ensures none { (i : ℕ) → at ≤ i → i < at + result → byte_of self.now.pages i ≡ None }
+        ensures ends { result < most → IsSome (byte_of self.now.pages (at + result)) }
+    {
+        let known = self.end.saturating_sub(at).min(most as u64) as usize;
+        let count = self.pages.count_missing(at, known);
+        if count < known { count } else { most }
+    }
+
     /// Drops all of them.
     pub fn clear(&mut self)
         ensures { (i : ℕ) → byte_of self.new.pages i ≡ None }

@@ -78,9 +78,9 @@ fn offsets(gaps: Gaps, base: u64) -> Gaps
 }
 
 impl Flow {
-    ghost use Rattle.bt_tcp.specs.Heard.{Heard, opening_of};
+    ghost use Rattle.bt_tcp.specs.Heard.{Heard, opening_of, sent_of};
     ghost use Rattle.bt_tcp.specs.Segments.{Segment};
-    ghost use Rattle.bt_flow.specs.Flows.{IsFlow, FlowTakes, FlowTakesNext, HasHeard, IsPassedBy, is_left_out_of, IsLost, Begins, StreamOnly, IsBaseNow, IsPlaceNow, HasHole, IsClosed, conflicts_in, held_in, high_in, is_lost_stream, NotesFrom, NotesIn, NotesSomeIn, FillsIn, AreGapsOf, gaps_end};
+    ghost use Rattle.bt_flow.specs.Flows.{IsFlow, FlowTakes, FlowTakesNext, HasHeard, IsPassedBy, is_left_out_of, IsLost, Begins, StreamOnly, IsBaseNow, IsPlaceNow, HasHole, IsClosed, conflicts_in, held_in, high_in, is_lost_stream, NotesFrom, NotesIn, NotesSomeIn, FillsIn, AreGapsOf, FlowPasses, IsHoleIn, MaySkip, Skips, gaps_end, past_filling, sent_within};
     ghost use Rattle.bt_flow.specs.Views.{AppendsAfter};
     ghost use Rattle.bt_flow.specs.Notes.{spans_noted};
     ghost use Rattle.bt_tcp.specs.Covered.{is_covered, AreGaps, IsFirstFrom, sent_end};
@@ -267,6 +267,87 @@ impl Flow {
         Ok(())
     }
 
+    /// Counts the missing bytes from the next place on, up to the first one that is there.
+    ///
+    /// They are known to be sent, and are before `acked`, if that is given.
+    fn hole_to(&self, acked: Option<u64>) -> usize
+        ensures hole { (heard : List Heard) → (segs : List Segment) → (out : List ℕ) → IsFlow heard segs out self.now
+            → IsHoleIn (sent_within acked heard) segs out self.now.stream result }
+        ensures may { 0 < result → MaySkip result self.now.stream }
+    {
+        match &self.stream {
+            Some(stream) => {
+                if stream.is_lost() {
+                    return 0;
+                }
+                let next = stream.next();
+                let sent = self.half.sent(next);
+                let end = acked.unwrap_or(sent).min(sent);
+                stream.count_missing(end.saturating_sub(next) as usize)
+            }
+            None => 0,
+        }
+    }
+
+    /// Returns the length of the hole at the next place, if no segment fills it any more.
+    ///
+    /// Its bytes were sent and acknowledged (RFC 9293 3.4), but not captured. It ends at the first byte that is there. It is 0 if no
+    /// acknowledgement was captured, and after [`Flow::is_lost`].
+    pub fn hole(&self) -> usize
+        ensures { (heard : List Heard) → (segs : List Segment) → (out : List ℕ) → IsFlow heard segs out self.now
+            → IsHoleIn (past_filling heard) segs out self.now.stream result }
+    {
+        let acked = self.half.acked();
+        if self.half.is_past_filling(acked) {
+            return 0; // no acknowledgement was captured
+        }
+        self.hole_to(Some(acked))
+    }
+
+    /// Returns the length of the hole at the next place, if the connection is over.
+    ///
+    /// Its bytes are known to be sent, but weren't captured. It is 0 after [`Flow::is_lost`].
+    pub fn last_hole(&self) -> usize
+        ensures { (heard : List Heard) → (segs : List Segment) → (out : List ℕ) → IsFlow heard segs out self.now
+            → IsHoleIn (sent_of heard) segs out self.now.stream result }
+    {
+        self.hole_to(None)
+    }
+
+    /// Passes places whose bytes aren't there, and appends what is ready then.
+    fn skip(&mut self, count: usize, later: &mut Vec<u8>) -> Result<(), AllocError>
+        requires { MaySkip count self.old.stream }
+        ensures half { self.new.half ≡ self.old.half }
+        ensures noted { self.new.noted ≡ self.old.noted }
+        ensures skipped { OnOk result (Skips count self.old.stream later.old.items self.new.stream later.new.items) }
+    {
+        match &mut self.stream {
+            Some(stream) => stream.pass(count, later),
+            None => unreachable!(),
+        }
+    }
+
+    /// Passes at most `n` bytes of the hole at the next place, and returns how many.
+    ///
+    /// If all of the hole is passed, the bytes that are ready after it are appended to `later`. A passed byte that comes later is
+    /// late, and no conflict.
+    ///
+    /// The hole is that of [`Flow::last_hole`]. While the connection goes on, pass no more than [`Flow::hole`].
+    ///
+    /// # Errors
+    /// `AllocError` when out of memory. Nothing is promised of the direction then.
+    #[cold]
+    pub fn pass(&mut self, n: usize, later: &mut Vec<u8>) -> Result<usize, AllocError>
+        ensures { IfOk result (λ count. FlowPasses n self.old later.old.items count self.new later.new.items) }
+    {
+        let count = n.min(self.hole_to(None));
+        if count == 0 {
+            return Ok(0);
+        }
+        self.skip(count, later)?;
+        Ok(count)
+    }
+
     /// Takes an acknowledgement by the other side. `opens` says whether it came with that side's SYN.
     ///
     /// One of what can't have been sent yet is passed over (RFC 9293 3.10.7.4).
@@ -289,7 +370,7 @@ impl Flow {
         }
     }
 
-    /// Returns how many bytes were handed out.
+    /// Returns how many bytes were handed out or passed.
     pub fn next(&self) -> u64
         ensures { (heard : List Heard) → (segs : List Segment) → (out : List ℕ) → IsFlow heard segs out self.now → result ≡ length out }
     {
@@ -331,7 +412,7 @@ impl Flow {
         }
     }
 
-    /// Returns the runs of bytes that were sent but not captured, with offsets from the base.
+    /// Returns the runs of bytes that were sent but not captured, with offsets from the base. Passed ones aren't among them.
     ///
     /// Once there were 1,024 spans of captured bytes past the next one, some that were captured may not be noted. These count as
     /// not captured. So do bytes that are left out, and those of a gap that is final, if they come later.
@@ -349,6 +430,8 @@ impl Flow {
     }
 
     /// Returns how many captured bytes differed from those that came first, as far as these were still in memory.
+    ///
+    /// Bytes before the end of a passed hole aren't compared any more.
     pub fn conflicts(&self) -> u64
         ensures { result ≡ conflicts_in self.now.stream }
     {

@@ -1,5 +1,5 @@
 //! Bytes at places that may be far from one another.
-ghost use Rattle.std.specs.Prelude.{◌≡◌, ◌≢◌, ℕ, ◌+◌, ◌*◌, ◌/◌, ◌%◌, ◌<◌, ◌≤◌, ◌^◌, length, true, false, None, OnOk};
+ghost use Rattle.std.specs.Prelude.{◌≡◌, ◌≢◌, ℕ, ◌+◌, ◌*◌, ◌/◌, ◌%◌, ◌<◌, ◌≤◌, ◌^◌, length, true, false, None, IsSome, OnOk};
 ghost use Rattle.bt_tcp.specs.Segments.{or_else, byte_in};
 ghost use Rattle.std.specs.BTreeMap.{get};
 ghost use Rattle.std.specs.Ordering.{nat_cmp};
@@ -101,6 +101,46 @@ impl Pages {
             }
         }
         false
+    }
+
+    /// Returns how many places from one on are before the first page.
+    fn before_first(&self, at: u64) -> u64
+        ensures { (i : ℕ) → at ≤ i → i < at + result → byte_of self.now i ≡ None }
+    {
+        match self.pages.first_key_value() {
+            Some((number, _)) => number.saturating_mul(PAGE).saturating_sub(at),
+            None => u64::MAX,
+        }
+    }
+
+    /// Returns how far to step from a place without a byte, past none.
+    fn step(&self, place: u64) -> usize
+        requires { byte_of self.now place ≡ None }
+        ensures some { 0 < result }
+        ensures none { (i : ℕ) → place ≤ i → i < place + result → byte_of self.now i ≡ None }
+    {
+        if self.pages.contains_key(&(place / PAGE)) {
+            return 1;
+        }
+        (PAGE - place % PAGE) as usize
+    }
+
+    /// Counts the places without a byte from one on, at most `most`.
+    pub fn count_missing(&self, at: u64, most: usize) -> usize
+        requires { at + most < 2 ^ 64 }
+        ensures most { result ≤ most }
+        ensures none { (i : ℕ) → at ≤ i → i < at + result → byte_of self.now i ≡ None }
+        ensures ends { result < most → IsSome (byte_of self.now (at + result)) }
+    {
+        let mut count = self.before_first(at).min(most as u64) as usize;
+        while count < most {
+            let place = at + count as u64;
+            if self.get(place).is_some() {
+                return count;
+            }
+            count += self.step(place).min(most - count);
+        }
+        most
     }
 
     /// Takes a page out. If there is none, it is a new one.

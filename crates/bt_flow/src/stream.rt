@@ -1,5 +1,5 @@
 //! A stream from its base on, with the memory that it owns.
-ghost use Rattle.std.specs.Prelude.{◌≡◌, ℕ, ◌+◌, ◌-◌, ◌<◌, ◌≤◌, ◌^◌, List, [], ◌++◌, length, true, false, min, IfOk, OnOk, OnErr};
+ghost use Rattle.std.specs.Prelude.{◌≡◌, ℕ, ◌+◌, ◌-◌, ◌<◌, ◌≤◌, ◌^◌, List, [], ◌++◌, length, true, false, min, None, IsSome, IfOk, OnOk, OnErr};
 ghost use Rattle.bt_tcp.specs.History.{IsHistory};
 
 use crate::wide::WideWindow;
@@ -22,6 +22,8 @@ fn remember(history: &mut Vec<u8>, end: u64, first: &[u8], rest: &[u8]) -> Resul
 #[derive(Drop)]
 pub struct Stream {
     base: u64,
+    /// The place after the last hole that was passed, or the base. Bytes before it aren't compared.
+    resumed: u64,
     window: WideWindow,
     history: Vec<u8>,
     conflicts: u64,
@@ -29,8 +31,8 @@ pub struct Stream {
 }
 
 impl Stream {
-    ghost use Rattle.bt_flow.specs.Wide.{next_of, capacity_of};
-    ghost use Rattle.bt_flow.specs.Streams.{IsStreamOf, Advances, StreamTakes, conflicts_with, is_probe};
+    ghost use Rattle.bt_flow.specs.Wide.{next_of, seen, capacity_of};
+    ghost use Rattle.bt_flow.specs.Streams.{IsStreamOf, Advances, StreamPasses, StreamTakes, conflicts_since, is_probe};
     ghost use Rattle.bt_flow.specs.Views.{AppendsAfter};
 
     /// Returns a stream that begins at a place.
@@ -39,6 +41,7 @@ impl Stream {
     /// `AllocError` when out of memory.
     pub fn new(alloc: Global, base: u64) -> Result<Stream, AllocError>
         ensures base { IfOk result (λ s. s.base ≡ base) }
+        ensures resumed { IfOk result (λ s. s.resumed ≡ base) }
         ensures taken { IfOk result (λ s. IsStreamOf [] [] s) }
         ensures conflicts { IfOk result (λ s. s.conflicts ≡ 0) }
         ensures open { IfOk result (λ s. s.is_lost ≡ false) }
@@ -46,6 +49,7 @@ impl Stream {
         let window = WideWindow::new(alloc, base)?;
         Ok(Stream {
             base,
+            resumed: base,
             window,
             history: Vec::new(alloc),
             conflicts: 0,
@@ -106,8 +110,8 @@ impl Stream {
     /// Counts the bytes of a segment that differ from those that came first. A keep-alive has none.
     fn count_conflicts(&self, at: u64, part: &[u8]) -> u64
         requires { at + length part.now < 2 ^ 63 }
-        ensures { (out : List ℕ) → next_of self.now.window ≡ self.now.base + length out → IsHistory self.now.history.items out
-            → result ≡ min (2 ^ 64 - 1) (conflicts_with out self.now at part.now) }
+        ensures { (since : List ℕ) → next_of self.now.window ≡ self.now.resumed + length since → IsHistory self.now.history.items since
+            → result ≡ min (2 ^ 64 - 1) (conflicts_since since self.now at part.now) }
     {
         if self.is_probe(at, part.len()) {
             return 0;
@@ -117,7 +121,7 @@ impl Stream {
         if at >= next {
             return ahead as u64;
         }
-        let before = history::count_conflicts(&self.history, self.base, next, at, part);
+        let before = history::count_conflicts(&self.history, self.resumed, next, at, part);
         before.saturating_add(ahead) as u64
     }
 
@@ -135,7 +139,7 @@ impl Stream {
         let before = later.len();
         match self.window.take(at, part, later)? {
             Some(fresh) => {
-                let end = self.window.next().saturating_sub(self.base);
+                let end = self.window.next().saturating_sub(self.resumed);
                 remember(&mut self.history, end, fresh, &later[before..])?;
                 Ok(fresh)
             }
@@ -175,5 +179,35 @@ impl Stream {
                 Err(error)
             }
         }
+    }
+
+    /// Counts the places without a byte from the next one on, at most `most`.
+    pub fn count_missing(&self, most: usize) -> usize
+        ensures most { result ≤ most }
+        ensures none { (k : ℕ) → k < result → seen self.now.window k ≡ None }
+        ensures ends { result < most → IsSome (seen self.now.window result) }
+    {
+        self.window.count_missing(most)
+    }
+
+    /// Passes places whose bytes haven't come, and appends what is ready then.
+    ///
+    /// Later segments are only compared with bytes after these places.
+    ///
+    /// # Errors
+    /// `AllocError` when out of memory.
+    #[cold]
+    pub fn pass(&mut self, count: usize, later: &mut Vec<u8>) -> Result<(), AllocError>
+        requires none { (k : ℕ) → k < count → seen self.old.window k ≡ None }
+        requires end { next_of self.old.window + count < 2 ^ 64 }
+        requires open { self.old.is_lost ≡ false }
+        ensures { OnOk result (StreamPasses count self.old later.old.items self.new later.new.items) }
+    {
+        let before = later.len();
+        let next = self.window.next();
+        self.resumed = next + count as u64;
+        self.window.pass(count, later)?;
+        history::remember(&mut self.history, 0, &later[before..])?;
+        Ok(())
     }
 }

@@ -4,7 +4,7 @@ ghost use Rattle.bt_tcp.specs.History.{conflicts, held, differs};
 ghost use Rattle.bt_tcp.specs.Windows.{IsTaken};
 ghost use Rattle.bt_flow.specs.Memory as ring;
 ghost use Rattle.bt_flow.specs.Pages.{byte_of};
-ghost use Rattle.bt_flow.specs.Views.{Takes, HandsOut};
+ghost use Rattle.bt_flow.specs.Views.{Takes, HandsOut, PassesHole};
 
 use crate::far::Far;
 use crate::window::{MOST, Window};
@@ -131,6 +131,16 @@ impl WideWindow {
         self.window.count_conflicts(at, part)
     }
 
+    /// Counts the places without a byte from the next one on, at most `most`.
+    pub fn count_missing(&self, most: usize) -> usize
+        ensures most { result ≤ most }
+        ensures none { (k : ℕ) → k < result → seen self.now k ≡ None }
+        ensures ends { result < most → IsSome (seen self.now result) }
+    {
+        let near = self.window.count_missing(most);
+        self.far.count_missing(self.window.next(), near)
+    }
+
     /// Tells whether a segment after the next place needs a ring that is longer, and longer than `NEAR` places.
     fn needs_more(&self, at: u64, len: usize) -> bool
         requires { at + len < 2 ^ 64 }
@@ -220,6 +230,22 @@ impl WideWindow {
         }
         let next = self.window.next();
         self.far.forget(next);
+        Ok(())
+    }
+
+    /// Passes places whose bytes haven't come, and appends what is ready then.
+    ///
+    /// # Errors
+    /// `AllocError` when out of memory.
+    #[cold]
+    pub fn pass(&mut self, count: usize, later: &mut Vec<u8>) -> Result<(), AllocError>
+        requires none { (k : ℕ) → k < count → seen self.old k ≡ None }
+        requires end { next_of self.old + count < 2 ^ 64 }
+        ensures passed { OnOk result (PassesHole count (next_of self.old) (seen self.old) later.old.items (next_of self.new) (seen self.new) later.new.items) }
+        ensures held { OnOk result (KeepsLittle self.new.window) }
+    {
+        self.window.pass(count, later)?;
+        self.drain(later)?;
         Ok(())
     }
 

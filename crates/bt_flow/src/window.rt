@@ -4,7 +4,7 @@ ghost use Rattle.bt_tcp.specs.Bits.{places};
 ghost use Rattle.bt_tcp.specs.Cells.{is_known};
 ghost use Rattle.bt_tcp.specs.Rings.{ahead, IsSound};
 ghost use Rattle.bt_tcp.specs.History.{conflicts, held};
-ghost use Rattle.bt_flow.specs.Views.{Places, HandsOut, Takes};
+ghost use Rattle.bt_flow.specs.Views.{Places, HandsOut, PassesHole, Takes};
 
 use bt_tcp::{Put, Ring};
 use std::alloc::{AllocError, Global};
@@ -100,6 +100,15 @@ impl Window {
             .count_conflicts_ahead(&self.known, &self.ahead, at, part)
     }
 
+    /// Counts the places without a byte from the next one on, at most `most`.
+    pub fn count_missing(&self, most: usize) -> usize
+        ensures most { result ≤ most }
+        ensures none { (k : ℕ) → k < result → seen self.now k ≡ None }
+        ensures ends { result < most → IsSome (seen self.now result) }
+    {
+        self.ring.count_missing(&self.known, &self.ahead, most)
+    }
+
     /// Drops the bytes ahead, and their memory.
     #[cold]
     pub fn close(&mut self)
@@ -170,6 +179,25 @@ impl Window {
         if self.ahead.len() > KEPT && self.ring.is_empty() {
             self.close();
         }
+    }
+
+    /// Passes places whose bytes haven't come, and appends what is ready then.
+    ///
+    /// If no byte is ahead after that, it has memory for at most 65,536 places.
+    ///
+    /// # Errors
+    /// `AllocError` when out of memory.
+    #[cold]
+    pub fn pass(&mut self, count: usize, later: &mut Vec<u8>) -> Result<(), AllocError>
+        requires none { (k : ℕ) → k < count → seen self.old k ≡ None }
+        requires end { next_of self.old + count < 2 ^ 64 }
+        ensures passed { OnOk result (PassesHole count (next_of self.old) (seen self.old) later.old.items (next_of self.new) (seen self.new) later.new.items) }
+        ensures held { OnOk result (self.new.ring.end ≤ next_of self.new → capacity_of self.new ≤ 65536) }
+    {
+        self.ring.skip(&self.known, &self.ahead, count);
+        self.drain(later)?;
+        self.release();
+        Ok(())
     }
 
     /// Takes a segment, and returns those of its bytes that come next. What follows them from the memory is appended to `later`.

@@ -60,7 +60,7 @@ pub read_verdict : (own : Own) (b : List ℕ) (xs : List (ℕ × Item)) (f : Fee
     → (later : List ℕ) (v : Outcome) → Comes f.stage (f.held ++ later) v → IsVerdict own (b ++ later) (with_items xs v)
 read_verdict own b xs f le h later v k = spells_comes (stage.Handshake own) xs b f.stage f.held (omega (arith, le)) h later v k
 
-goes_on : (own : Own) (b : List ℕ) (xs : List (ℕ × Item)) (f g : FeedState) (piece : List ℕ) (ys : List (ℕ × Item)) → own.limit ≤ 1048576
+pub goes_on : (own : Own) (b : List ℕ) (xs : List (ℕ × Item)) (f g : FeedState) (piece : List ℕ) (ys : List (ℕ × Item)) → own.limit ≤ 1048576
     → limit_of g.stage ≤ 1048576 → HasRead own b xs f → IsFed f piece ys g → is_closed g.stage g.held ≡ false
     → IsJudged own (b ++ piece) (xs ++ ys) (reading_state g None)
 goes_on own b xs f g piece ys le limit h m waits =

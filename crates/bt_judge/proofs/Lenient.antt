@@ -168,7 +168,7 @@ strictly c o s msg r lt h (whole e all p) =
 -- ---- the longest list by a context's rules is the longest by the lenient ones, where no fault follows it
 
 -- after the first message, those that follow are the longest
-after_first : (c : Context) (o : Order) (s : ℕ) (b y : List ℕ) (msg : Message) (ms : List Message) → IsSaid c o s msg → b ≡ spell c msg ++ y
+pub after_first : (c : Context) (o : Order) (s : ℕ) (b y : List ℕ) (msg : Message) (ms : List Message) → IsSaid c o s msg → b ≡ spell c msg ++ y
     → ((ns : List Message) (u : List ℕ) → Begins c o s b ns u → length ns ≤ suc (length ms))
     → (ns : List Message) (u : List ℕ) → Begins c (order_after o msg) (s + length (spell c msg)) y ns u → length ns ≤ length ms
 after_first c o s b y msg ms h parts longest ns u k =
@@ -179,7 +179,7 @@ after_first c o s b y msg ms h parts longest ns u k =
     ) in
     omega (arith, longest (msg ∷ ns) u all)
 
-one_more : (c : Context) (o : Order) (s : ℕ) (b r : List ℕ) (msg : Message) → IsSaid c o s msg → b ≡ spell c msg ++ r → Begins c o s b (msg ∷ []) r
+pub one_more : (c : Context) (o : Order) (s : ℕ) (b r : List ℕ) (msg : Message) → IsSaid c o s msg → b ≡ spell c msg ++ r → Begins c o s b (msg ∷ []) r
 one_more c o s b r msg h parts = (spell c msg ++ [], parts ∙ ap (λ (z : List ℕ). z ++ r) (sym (append-nil (spell c msg))), (h, ([], refl, refl)))
 
 longest_too : (c : Context) (o : Order) (s e : ℕ) (b t : List ℕ) (ms : List Message) → c.limit < 2 ^ 32 → Begins c o s b ms t

@@ -1,2 +1,4 @@
 pub mod Readings
 pub mod Judges
+pub mod Holes
+pub mod Laws

@@ -1,10 +1,11 @@
 //! A stream that is judged by both rule sets of its receiver at once.
-ghost use Rattle.std.specs.Prelude.{◌≡◌, ◌<◌, ◌≤◌, ◌++◌, ℕ, List, [], length, IfSome, MatchResult, IfOk};
+ghost use Rattle.std.specs.Prelude.{◌≡◌, ◌<◌, ◌≤◌, ◌++◌, ℕ, List, [], length, replicate, IfSome, MatchResult, IfOk};
 ghost use Rattle.bt_ext.specs.declared.ids.Rules.TheVariants.{Free};
 ghost use Rattle.bt_wire.specs.declared.context.Own.{Own};
 ghost use Rattle.bt_wire.specs.declared.item.Item.{Item};
 ghost use Rattle.bt_feed.specs.Pumps.{Took};
 ghost use Rattle.bt_judge.specs.Readings.{BeginsWith, IsStanding};
+ghost use Rattle.bt_judge.specs.Holes.{free_of, MayBeAnyByBoth};
 ghost use Rattle.bt_judge.specs.Judges.{under as by_rules, IsStopped, HasFailed};
 
 use crate::fault::JudgeFault;
@@ -127,6 +128,54 @@ impl Judge {
             },
             None => self.take_both(bytes, sink),
         }
+    }
+
+    /// Returns how many of the next bytes may be any bytes.
+    ///
+    /// Whatever they are, the items are the same by both rule sets, except the bytes of a block, and so are the refusals. If the first
+    /// 13 bytes of a `piece` have come, it is what the piece lacks; once both rule sets refuse the stream, it is `usize::MAX`, and
+    /// else 0.
+    pub fn free(&self) -> usize
+        ensures exact { result ≡ free_of self.now }
+        ensures any { (own : Own) (b : List ℕ) (xs ys : List (ℕ × Item)) → AreJudged own b xs ys self.now → MayBeAnyByBoth own b result }
+    {
+        match &self.free {
+            Some(free) => free.free(),
+            None => self.bep.free(),
+        }
+    }
+
+    /// Takes `n` zeros, with which nothing is completed or refused.
+    fn fill(&mut self, n: usize)
+        requires { n < free_of self.old }
+        ensures { (own : Own) (b : List ℕ) (xs ys : List (ℕ × Item)) → AreJudged own b xs ys self.old → AreJudged own (b ++ replicate n 0) xs ys self.new }
+    {
+        match &mut self.free {
+            Some(free) => free.fill(n),
+            None => self.bep.fill(n),
+        }
+    }
+
+    /// Passes over `n` missing bytes of the stream, at most as many as [`Judge::free`] returns.
+    ///
+    /// It has the effect of [`Judge::take`] for `n` zeros: if they complete a piece, its block has zeros for them.
+    ///
+    /// # Errors
+    /// Those of [`Judge::take`].
+    pub fn pass<S: Sink>(&mut self, n: usize, sink: &mut S) -> Result<(), JudgeFault>
+        requires { n ≤ free_of self.old }
+        ensures judged { (own : Own) (b : List ℕ) (xs ys : List (ℕ × Item)) → AreJudged own b xs ys self.old
+            → (more : List (ℕ × Item))
+            × MatchResult result (λ _. Took S.takes sink.old more sink.new
+            × ((strict : List (ℕ × Item)) × AreJudged own (b ++ replicate n 0) (xs ++ more) (ys ++ strict) self.new))
+            (λ e. IsStopped S.takes S.misses e sink.old more sink.new × BeginsWith (by_rules Free own) (b ++ replicate n 0) (xs ++ more)) }
+        ensures failed { HasFailed result (S.failed sink.old) (S.failed sink.new) }
+    {
+        if n == 0 {
+            return Ok(());
+        }
+        self.fill(n - 1);
+        self.take(&[0], sink)
     }
 
     /// Returns the verdicts of the stream, if it ends here.

@@ -6,7 +6,9 @@
 
 mod fault;
 mod judge;
+pub mod laws;
 mod reading;
+mod zeros;
 
 pub use fault::JudgeFault;
 pub use judge::{Judge, Unreads, Verdicts};

@@ -1,5 +1,5 @@
 //! A stream that is read by one rule set, and its verdict.
-ghost use Rattle.std.specs.Prelude.{◌≡◌, ◌<◌, ◌≤◌, ◌+◌, ◌++◌, ℕ, List, [], length, take, None, MatchResult, IfOk, OnOk, OnErr};
+ghost use Rattle.std.specs.Prelude.{◌≡◌, ◌<◌, ◌≤◌, ◌+◌, ◌++◌, ℕ, List, [], length, replicate, take, None, MatchResult, IfOk, OnOk, OnErr};
 ghost use Rattle.bt_ext.specs.declared.ids.Rules.TheVariants.{Free};
 ghost use Rattle.bt_wire.specs.declared.context.Own.{Own};
 ghost use Rattle.bt_wire.specs.declared.item.Item.{Item};
@@ -7,10 +7,12 @@ ghost use Rattle.bt_feed.specs.declared.stage.Stage.{Stage};
 ghost use Rattle.bt_feed.specs.Pumps.{Took, IsMissed, IsFed};
 ghost use Rattle.bt_feed.specs.Stages.{start_of, limit_of};
 ghost use Rattle.bt_io.specs.Counts.{Grew};
+ghost use Rattle.bt_judge.specs.Holes.{free_after, MayBeAny};
 ghost use Rattle.bt_judge.specs.Judges.{IsStopped, HasFailed};
 ghost use Rattle.bt_judge.specs.Readings.{IsJudged, IsJudgedTo, Begins, BeginsWith, IsTold, IsStanding, IsUnread, IsPieceTaken};
 
 use crate::fault::JudgeFault;
+use crate::zeros::{lacks, push_zeros};
 use bt_ext::Rules;
 use bt_feed::{Feed, Finish, PumpError, Sink, SinkFault, pump_piece};
 use bt_text::ended::Ended;
@@ -211,6 +213,35 @@ impl Reading {
             }
             _ => held.len(),
         }
+    }
+
+    /// Returns how many of the next bytes may be any bytes.
+    ///
+    /// Whatever they are, the items are the same, except the bytes of a block, and so is the refusal. If the first 13 bytes of a
+    /// `piece` have come, it is what the piece lacks; after a refusal it is `usize::MAX`, and else 0.
+    pub fn free(&self) -> usize
+        ensures exact { result ≡ free_after self.now }
+        ensures any { (own : Own) (b : List ℕ) (xs : List (ℕ × Item)) → IsJudged own b xs self.now → MayBeAny own b result }
+    {
+        if self.refused.is_some() {
+            return usize::MAX;
+        }
+        if self.feed.number() == 0 {
+            return 0;
+        }
+        lacks(self.feed.buffered())
+    }
+
+    /// Takes `n` zeros, with which nothing is completed or refused.
+    pub(crate) fn fill(&mut self, n: usize)
+        requires { n < free_after self.old }
+        ensures judged { (own : Own) (b : List ℕ) (xs : List (ℕ × Item)) → IsJudged own b xs self.old → IsJudged own (b ++ replicate n 0) xs self.new }
+        ensures kept { self.new.refused ≡ self.old.refused }
+    {
+        if self.refused.is_some() {
+            return;
+        }
+        push_zeros(&mut self.feed, n);
     }
 
     /// Returns the refusal of the stream that no further byte undoes, if there is one.

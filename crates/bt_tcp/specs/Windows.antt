@@ -23,6 +23,12 @@ pub record IsReady (next : ℕ) (ahead : ℕ → Option ℕ) (ready : List ℕ) 
   pub held : (k : ℕ) → k < length ready → ahead k ≡ slice_get ready k
   pub rest : (k : ℕ) → ahead' k ≡ ahead (length ready + k)
 
+-- Places were passed whose bytes hadn't come.
+pub record IsSkipped (count next : ℕ) (ahead : ℕ → Option ℕ) (next' : ℕ) (ahead' : ℕ → Option ℕ) : Type 0 where
+  pub next_is : next' ≡ next + count
+  pub none : (k : ℕ) → k < count → ahead k ≡ None
+  pub rest : (k : ℕ) → ahead' k ≡ ahead (count + k)
+
 -- What became of a segment: all bytes before `from` were handed out before. A window is full only if the segment ends past its capacity.
 abbrev pub IsPutOf : ℕ → ℕ → List ℕ → ℕ → (ℕ → Option ℕ) → Put → ℕ → (ℕ → Option ℕ) → Type 0
 IsPutOf capacity at bytes next ahead (Taken from len) next' ahead' =
@@ -35,6 +41,12 @@ TakesOneMore at bytes next ahead (Taken from len) next' ahead' =
     (segs : List Segment) (base : ℕ) (out : List ℕ) → IsTaken segs base out next ahead
     → IsTaken (segs ++ record { place = at; bytes = bytes } ∷ []) base (out ++ take len (drop from bytes)) next' ahead'
 TakesOneMore at bytes next ahead Full next' ahead' = Unit {0}
+
+-- Places were passed: whatever their bytes are, it is as if a segment had brought them, and they had been handed out.
+abbrev pub TakesAny : ℕ → ℕ → (ℕ → Option ℕ) → ℕ → (ℕ → Option ℕ) → Type 0
+TakesAny count next ahead next' ahead' =
+    (segs : List Segment) (base : ℕ) (out fill : List ℕ) → length fill ≡ count → IsTaken segs base out next ahead
+    → IsTaken (segs ++ record { place = next; bytes = fill } ∷ []) base (out ++ fill) next' ahead'
 
 -- These bytes were handed out after those before.
 abbrev pub HandsOutMore : ℕ → (ℕ → Option ℕ) → List ℕ → ℕ → (ℕ → Option ℕ) → Type 0

@@ -1,10 +1,10 @@
 //! The reassembly window as a ring over the caller's memory.
-ghost use Rattle.std.specs.Prelude.{◌≡◌, ℕ, ◌+◌, ◌-◌, ◌<◌, ◌≤◌, ◌^◌, max, true, false, List, [], length, slice_index_or, None, OnOk, OnErr, nat_le};
+ghost use Rattle.std.specs.Prelude.{◌≡◌, ℕ, ◌+◌, ◌-◌, ◌<◌, ◌≤◌, ◌^◌, max, true, false, List, [], length, slice_index_or, None, IsSome, OnOk, OnErr, nat_le};
 ghost use Rattle.bt_tcp.specs.Bits.{places, flag};
 ghost use Rattle.bt_tcp.specs.Segments.{Segment, or_else, byte_in};
 ghost use Rattle.bt_tcp.specs.Cells.{slot_of, is_known, ring, IsRing, IsWritten};
 ghost use Rattle.bt_tcp.specs.Rings.{ahead, IsSound};
-ghost use Rattle.bt_tcp.specs.Windows.{IsTaken, IsPutOf, IsReady, TakesOneMore, HandsOutMore, EndsStream, GoesOn};
+ghost use Rattle.bt_tcp.specs.Windows.{IsTaken, IsPutOf, IsReady, IsSkipped, TakesOneMore, TakesAny, HandsOutMore, EndsStream, GoesOn};
 ghost use Rattle.bt_tcp.specs.History.{differs, conflicts, held};
 
 use crate::bits;
@@ -58,16 +58,15 @@ fn count_unknown(known: &[u8], capacity: usize, head: usize, most: usize) -> usi
     ensures unknown { (k : ℕ) → k < result → is_known known.now head k ≡ false }
     ensures ends { result < most → is_known known.now head result ≡ true }
 {
-    if most <= capacity && is_free(known, capacity, head, 0, most) {
-        return most;
+    let fitting = most.min(capacity - head);
+    let count = bits::end(known, head, head + fitting, false) - head;
+    if count < fitting {
+        return count;
     }
-    for k in 0..capacity {
-        if k >= most {
-            return most;
-        }
-        if bits::get(known, slot(capacity, head, k)) {
-            return k;
-        }
+    let rest = (most - fitting).min(head);
+    let more = bits::end(known, 0, rest, false);
+    if more < rest {
+        return fitting + more;
     }
     most
 }
@@ -228,11 +227,37 @@ impl Ring {
         requires over { (k : ℕ) → self.now.end ≤ self.now.next + k → is_known known.now self.now.head k ≡ false }
         ensures most { result ≤ most }
         ensures unknown { (k : ℕ) → k < result → is_known known.now self.now.head k ≡ false }
+        ensures ends { result < most → is_known known.now self.now.head result ≡ true }
     {
         if self.is_empty() {
             return most;
         }
         count_unknown(known, capacity, self.head, most)
+    }
+
+    /// Counts the places whose bytes haven't come from the next one on, at most `most`.
+    pub fn count_missing(&self, known: &[u8], bytes: &[u8], most: usize) -> usize
+        requires { IsSound self.now known.now bytes.now }
+        ensures most { result ≤ most }
+        ensures none { (k : ℕ) → k < result → ahead self.now known.now bytes.now k ≡ None }
+        ensures ends { result < most → IsSome (ahead self.now known.now bytes.now result) }
+    {
+        self.count_fresh(known, bytes.len(), most)
+    }
+
+    /// Passes `n` places whose bytes haven't come. Nothing is handed out for them.
+    ///
+    /// Call `ready` then, until it gives nothing. If a byte of theirs comes later, it is passed over.
+    pub fn skip(&mut self, known: &[u8], bytes: &[u8], n: usize)
+        requires sound { IsSound self.old known.now bytes.now }
+        requires none { (k : ℕ) → k < n → ahead self.old known.now bytes.now k ≡ None }
+        requires end { self.old.next + n < 2 ^ 64 }
+        ensures sound { IsSound self.new known.now bytes.now }
+        ensures skipped { IsSkipped n self.old.next (ahead self.old known.now bytes.now) self.new.next (ahead self.new known.now bytes.now) }
+        ensures taken { TakesAny n self.old.next (ahead self.old known.now bytes.now) self.new.next (ahead self.new known.now bytes.now) }
+    {
+        self.head = advanced(known, bytes.len(), self.head, n);
+        self.next += n as u64;
     }
 
     /// Takes a segment, and says which of its bytes are ready now.

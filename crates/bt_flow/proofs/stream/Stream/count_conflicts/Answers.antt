@@ -1,6 +1,5 @@
-use Rattle.std.proofs.Common.{◌≡◌, ℕ, ◌+◌, ◌≤◌, ◌-◌, ◌^◌, ◌∙◌, Bool, true, false, min, sym, ap, length, arith, if◌then◌else◌}
-use Rattle.bt_tcp.specs.History.{conflicts, kept, held}
-use Rattle.bt_flow.specs.Wide.{next_of, seen}
+use Rattle.std.proofs.Common.{◌≡◌, ℕ, ◌+◌, ◌≤◌, ◌-◌, ◌^◌, ◌∙◌, Bool, true, false, min, sym, length, arith, if◌then◌else◌}
+use Rattle.bt_tcp.specs.History.{conflicts, kept}
 use Rattle.bt_flow.proofs.Streams.{conflicts_past}
 use Rattle.bt_flow.proofs.stream.Stream.count_conflicts.Goals as goal
 
@@ -18,6 +17,6 @@ returns-then-is_probe c = λ out n h. none _ c.is_probe.result _ c.is_probe.ensu
 
 pub returns-then-at-next : goal.returns-then-at-next
 returns-then-at-next c = λ out n h.
-    let p : c.args.self.now.base + length out ≤ c.args.at = omega (arith, n) in
-    let z : conflicts (kept c.args.self.now.base out) c.args.at c.args.part.now ≡ 0 = conflicts_past c.args.self.now.base out c.args.at c.args.part.now p in
+    let p : c.args.self.now.resumed + length out ≤ c.args.at = omega (arith, n) in
+    let z : conflicts (kept c.args.self.now.resumed out) c.args.at c.args.part.now ≡ 0 = conflicts_past c.args.self.now.resumed out c.args.at c.args.part.now p in
     told _ c.is_probe.result _ _ 0 c.is_probe.ensures c.if-is_probe.false (omega (arith, z, c.count_conflicts-ahead.ensures))

@@ -1,17 +1,9 @@
-use Rattle.std.proofs.Common.{◌≡◌, ℕ, ◌+◌, ◌-◌, List, [], ◌++◌, length, length-append, append-nil, take, drop, refl, sym, ap, ◌∙◌, arith, subst}
-use Rattle.std.proofs.lemmas.Grind.{common_steps}
+use Rattle.std.proofs.Common.{◌≡◌, ◌-◌, [], ◌++◌, length, length-append, append-nil, take, drop, refl, sym, ap, ◌∙◌, arith, subst}
 use Rattle.bt_tcp.specs.History.{IsHistory}
 use Rattle.bt_flow.specs.Wide.{next_of, seen}
 use Rattle.bt_flow.specs.Views.{Takes}
-use Rattle.bt_flow.proofs.Streams.{advance, advance_lost}
+use Rattle.bt_flow.proofs.Streams.{advance, advance_lost, newest}
 use Rattle.bt_flow.proofs.stream.Stream.go_on.Goals as goal
-
--- what was appended
-newest : (xs given rest : List ℕ) (n : ℕ) → xs ≡ given ++ rest → n ≡ length given → take (length xs - n) (drop n xs) ≡ rest
-newest xs given rest n e l =
-    let m : length xs ≡ length given + length rest = ap length e ∙ length-append given rest in
-    let k : length xs - n ≡ length rest = omega (arith, l, m) in
-    grind (arith, common_steps)
 
 pub returns-in_ok-remember-in-Some : goal.returns-in_ok-remember-in-Some
 returns-in_ok-remember-in-Some c =
@@ -24,7 +16,7 @@ returns-in_ok-remember-in-Some c =
     record {
       rest = t.rest;
       is = t.is;
-      more = advance c.args.at c.args.part.now c.args.self.now (fresh ++ t.rest) _ refl refl c.requires.open c.requires.open t.more
+      more = advance c.args.at c.args.part.now c.args.self.now (fresh ++ t.rest) _ refl refl refl c.requires.open c.requires.open t.more
           (λ out n h. subst (λ r. IsHistory c.remember.new.history.items (out ++ (fresh ++ r))) rest
           (c.in_ok-remember-in-Some.ensures out (omega (
             arith,
@@ -44,5 +36,5 @@ returns-in-None c =
     record {
       rest = [];
       is = t.2 ∙ sym (append-nil c.args.later.now.items);
-      more = advance_lost c.args.at c.args.part.now c.args.self.now _ refl refl refl (c.close.ensures.next ∙ t.1) refl c.close.ensures.none t.0;
+      more = advance_lost c.args.at c.args.part.now c.args.self.now _ refl refl refl refl (c.close.ensures.next ∙ t.1) refl c.close.ensures.none t.0;
     }
