@@ -150,7 +150,7 @@ def row_of(found):
 def utp_line(source, target, packets, at_least=False, closed=()):
     count = "at least %d" % packets if at_least else packets
     said = "".join("; %s closed: %d%s" % (it["by"], it["reason"], " (%s)" % it["name"] if "name" in it else "") for it in closed)
-    return "uTP  %s > %s  %s packets, not read: this is BitTorrent over UDP (BEP 29)%s\n" % (source, target, count, said)
+    return "uTP  %s > %s  %s packets of BitTorrent over UDP (BEP 29), read from a SYN on%s\n" % (source, target, count, said)
 
 
 def lines_of(line):

@@ -910,7 +910,7 @@ def utp():
     said = [((A, B), utp_packet(4, 7)), ((B, A), utp_packet(2, 7)), ((A, B), utp_packet(0, 8, FETCHING[:68])),
             ((A, B), b"d1:ad2:id20:" + bytes(20) + b"e1:q4:pinge"), ((A, B), utp_packet(2, 900))]
     return pcap((1, [(k, udp(*one)) for k, one in enumerate(said)])), \
-        "uTP  10.0.0.1:51413 > 10.0.0.2:6881  3 packets, not read: this is BitTorrent over UDP (BEP 29)\n"
+        "uTP  10.0.0.1:51413 > 10.0.0.2:6881  3 packets of BitTorrent over UDP (BEP 29), read from a SYN on\n"
 
 
 def utp_closes():
@@ -924,7 +924,7 @@ def utp_closes():
             ((A, B), utp_packet(0, 8)), ((A, B), utp_packet(4, 7, b"x")), ((A, B), utp_packet(1, 8, b"", [reason(266)]))]
     found = [(k, udp(*one)) for k, one in enumerate(said)]
     return pcap((1, found[:-1] + [(found[-1][0], found[-1][1][:-1])])), \
-        "uTP  10.0.0.1:51413 > 10.0.0.2:6881  5 packets, not read: this is BitTorrent over UDP (BEP 29); " \
+        "uTP  10.0.0.1:51413 > 10.0.0.2:6881  5 packets of BitTorrent over UDP (BEP 29), read from a SYN on; " \
         "10.0.0.1:51413 closed: 265 (invalid have message); 10.0.0.2:6881 closed: 271 (invalid request message)\n"
 
 

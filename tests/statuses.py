@@ -13,6 +13,7 @@ import hashlib
 import lzma
 import os
 import re
+import struct
 import subprocess
 import sys
 import tempfile
@@ -628,6 +629,16 @@ REPORT_38 = (b'{"connection":0,"a":"10.0.0.1:51413","b":"10.0.0.2:6881","bittorr
 BAD_RECORD = bytes(8) + 8 * b"\xff"
 BAD_LENGTH = b"fault: capture: a record of a pcap file has an impossible length\n"
 CUT_IN_PACKET = b"capture: ends inside a packet, which is left out\n"
+NONE_FOUND = b"no BitTorrent connection in %d packets; %d of them aren't TCP\n"
+# Frames of Ethernet of two types that aren't read, and one with the first fragment of a packet of IPv4.
+ARP, LLDP = bytes(12) + b"\x08\x06" + bytes(28), bytes(12) + b"\x88\xcc" + bytes(20)
+FRAGMENT = bytes(12) + b"\x08\x00" + bytes.fromhex("4500 0024 0001 2000 4006 0000 0a000001 0a000002") + bytes(16)
+
+
+def frames(link, packets):
+    """A pcap file of packets with this link type."""
+    file = struct.pack("<IHHIIII", 0xA1B2C3D4, 2, 4, 0, 0, 65535, link)
+    return file + b"".join(struct.pack("<IIII", 0, 0, len(packet), len(packet)) + packet for packet in packets)
 
 
 def torrent(members):
@@ -713,14 +724,18 @@ FILES = [
     ("link none", {}, TWO, b"", NO_SUCH, 3),
     ("capture none", {}, b"", b"", NO_SUCH, 3),
     ("capture a/b", {"a": REFUSED}, b"", b"", b"a/b: fault: read: Not a directory (os error 20)\n", 3),
-    ("capture a", {"a": REFUSED[:10]}, b"", b"", CUT_IN_PACKET + b"no BitTorrent connection in 0 packets; 0 of them aren't TCP\n", 3),
-    ("capture -", {}, REFUSED[:24], b"", b"no BitTorrent connection in 0 packets; 0 of them aren't TCP\n", 3),
+    ("capture a", {"a": REFUSED[:10]}, b"", b"", CUT_IN_PACKET + NONE_FOUND % (0, 0), 3),
+    ("capture -", {}, REFUSED[:24], b"", NONE_FOUND % (0, 0), 3),
+    ("capture a", {"a": frames(147, [b"abc"] * 80)}, b"", b"", NONE_FOUND % (80, 0) + b"link type 147 is not read: 80 of the packets\n", 3),
+    ("capture a", {"a": frames(1, [ARP, LLDP, FRAGMENT, ARP, b"abc", FRAGMENT, ARP])}, b"", b"", NONE_FOUND % (7, 1)
+     + b"type 0x806 of Ethernet is not read: 3 of the packets\nother types of Ethernet are not read: 1 of the packets\n"
+     b"fragments are not read: 2 of the packets\n", 3),
     ("capture", {}, REFUSED[:900], TEXT, CUT_IN_PACKET, 0),
     ("capture a", {"a": REFUSED}, b"", TEXT, b"", 0),
     ("capture --pieces 38 a", {"a": REFUSED}, b"", TEXT, b"", 1),
     ("capture --pieces=39", {}, REFUSED, TEXT, b"", 0),
     ("capture --json --pieces 38 a", {"a": REFUSED}, b"", REPORT_38, b"", 1),
-    ("capture --json", {}, REFUSED[:24], b"", b"no BitTorrent connection in 0 packets; 0 of them aren't TCP\n", 3),
+    ("capture --json", {}, REFUSED[:24], b"", NONE_FOUND % (0, 0), 3),
     ("capture a", {"a": HAND}, b"", b"", NO_CAPTURE, 3),
     # compressed captures
     ("capture a", {"a": gzip.compress(REFUSED)}, b"", b"", NO_CAPTURE + by("gzip", "gunzip"), 3),
@@ -771,7 +786,7 @@ FILES = [
     ("capture --pieces 38 --peer 10.0.0.1:6881 a", {"a": REFUSED}, b"", b"", b"", 0),
     ("capture --pieces 38 --peer ::ffff:10.0.0.1 a", {"a": REFUSED}, b"", b"", b"", 0),
     ("capture --pieces 38 --peer 10.0.0.3 --strict-status a", {"a": REFUSED}, b"", b"", b"", 0),
-    ("capture --peer 10.0.0.1", {}, REFUSED[:24], b"", b"no BitTorrent connection in 0 packets; 0 of them aren't TCP\n", 3),
+    ("capture --peer 10.0.0.1", {}, REFUSED[:24], b"", NONE_FOUND % (0, 0), 3),
     ("capture --limit 10 a", {"a": REFUSED}, b"", TEXT, b"", 0),
     ("capture --limit 4 a", {"a": REFUSED}, b"", TEXT, b"", 1),
     # the other direction: its reserved bits

@@ -15,6 +15,7 @@ import random
 import struct
 import subprocess
 import sys
+import tempfile
 
 sys.dont_write_bytecode = True
 sys.path.insert(0, os.path.dirname(os.path.abspath(__file__)))
@@ -225,8 +226,8 @@ def programs(program):
     yield "its verdict", "bep  refused message=3 at=285 UnknownId" in ran[1], True
     yield "its close", "B closed first, by FIN, at 0.000634 s" in ran[1], True
     ran = subprocess.run([program, "capture", os.path.join(CAPTURES, "refused.pcap")], capture_output=True, timeout=60)
-    yield "the line on uTP", ran.stdout.decode(), ("uTP  10.7.0.2:7000 > 10.7.0.1:6881  11 packets, not read: this is BitTorrent over UDP (BEP 29); "
-                                                  "10.7.0.1:6881 closed: 262 (invalid message id)\n")
+    yield "the line on uTP", ran.stdout.decode().splitlines()[-1], ("uTP  10.7.0.2:7000 > 10.7.0.1:6881  11 packets of BitTorrent over UDP (BEP 29), read from a SYN on; "
+                                                  "10.7.0.1:6881 closed: 262 (invalid message id)")
     for name, ends in (("two", 2), ("ipv6", 1), ("lossy", 1)):
         script, ran = captured(program, os.path.join(CAPTURES, name + ".pcap"))
         sent = datagrams(name)
@@ -239,6 +240,80 @@ def programs(program):
             script = subprocess.run([SCRIPT, "-"], stdin=given, capture_output=True, timeout=60)
         ran = subprocess.run([program, "capture", "-", "--stream", "0-B"], input=script.stdout, capture_output=True, timeout=60)
         yield name + " --stream", ran.stdout == sent["B"], True
+
+
+# ---- the program on uTP itself, beside the script
+
+def file_of(sent):
+    """A pcap file of these datagrams in IP, a microsecond apart."""
+    out = [struct.pack("<IHHIIII", 0xA1B2C3D4, 2, 4, 0, 0, 65535, 101)]
+    for k, ((host, port), (other, service), (payload, lost)) in enumerate(sent):
+        size = 8 + len(payload) + lost
+        datagram = struct.pack(">HHHH", port, service, size, 0) + payload
+        if len(host) == 4:
+            head = struct.pack(">BBHHHBBH", 0x45, 0, 20 + size, 0, 0, 64, 17, 0) + host + other
+        else:
+            head = struct.pack(">IHBB", 6 << 28, size, 17, 64) + host + other
+        out.append(struct.pack("<IIII", 1, k, len(head) + len(datagram), len(head) + size) + head + datagram)
+    return b"".join(out)
+
+
+def shown(program, file, *words):
+    """The status of the program, and its lines on connections. Ports of the script's own are those of the capture again."""
+    ran = subprocess.run([program, "capture", "-", "--show", *words], input=file, capture_output=True, timeout=60)
+    return ran.returncode, [line for line in ran.stdout.decode().replace(" over uTP", "").splitlines() if not line.startswith("uTP  ")]
+
+
+def both(program, sent):
+    """What the program reads of these packets, and of what the script writes of them."""
+    file = file_of(sent)
+    script = subprocess.run([SCRIPT, "-"], input=file, capture_output=True, timeout=60)
+    status, lines = shown(program, script.stdout)
+    for it in turned(sent)[1].all:
+        own, true = (utp.end_text((it.a[0], port)) for port in (it.port, it.a[1]))
+        lines = [line.replace(own, true) if line.startswith("connection ") else line for line in lines]
+    return shown(program, file), (status, lines)
+
+
+def alike(program):
+    """the program reads connections of uTP as the script turns them into TCP: whole, with packets left out, and disturbed"""
+    for name in ("two", "ipv6", "lossy", "refused"):
+        sent = datagrams(name)
+        found, wanted = both(program, sent)
+        yield name, found, wanted
+        yield name + " has reports", len([line for line in found[1] if line.startswith("connection ")]), len(utp_ids(name))
+        drawn = random.Random(name)
+        wrong = []
+        for k in range(60):
+            far, loss = drawn.choice((0, 2, 12)), drawn.choice((0, 0.03))
+            moved = sorted((at + drawn.uniform(0, far), it) for at, it in enumerate(sent) if drawn.random() >= loss)
+            again = [it for _, it in moved for _ in range(1 + (drawn.random() < 0.05))]
+            found, wanted = both(program, again[drawn.choice((0, 0, 0, 9)):])
+            wrong += [(k, found, wanted)] if found != wanted else []
+        yield name + " disturbed", wrong[:1], []
+
+
+def peak(program, sent):
+    """The status of the program on these packets, and whether it took no more than 300 MB."""
+    with tempfile.TemporaryFile() as given:
+        given.write(file_of(sent))
+        given.seek(0)
+        with subprocess.Popen([program, "capture", "-"], stdin=given, stdout=subprocess.DEVNULL, stderr=subprocess.DEVNULL) as ran:
+            _, status, used = os.wait4(ran.pid, 0)
+            ran.returncode = os.waitstatus_to_exitcode(status)
+    return ran.returncode, used.ru_maxrss < 300_000
+
+
+def crowds(program):
+    """captures that are made to take memory: 60 MB past gaps in 3,000 connections, 70,000 SYNs, one SYN after another with one id"""
+    def host(k):
+        return struct.pack(">I", 0x0a010000 + k), 6881
+    holes = [it for k in range(3_000) for it in [(host(k), B, packet(SYN, ID, 7, 0)), (B, host(k), packet(STATE, ID, 50, 7)),
+             *((B, host(k), packet(DATA, ID, 51 + j, 7, bytes(1_000))) for j in range(20))]]
+    yield "holes", peak(program, holes), (3, True)
+    yield "SYNs", peak(program, [(host(k), B, packet(SYN, ID, 7, 0)) for k in range(70_000)]), (3, True)
+    again = [it for k in range(20_000) for it in [from_a(SYN, k, 0), from_b(STATE, 50, k), from_b(DATA, 52, k, bytes(1_000))]]
+    yield "SYNs with one id", peak(program, again), (3, True)
 
 
 def utp_ids(name):
@@ -267,7 +342,8 @@ def files(program):
 def main(words):
     program = os.path.abspath(words[0]) if words else os.path.join(ROOT, "bt_tool")
     checks = failed = 0
-    for case in (rows, closes, ports, bounds, whole, shortened, disturbed, lambda: programs(program), lambda: files(program)):
+    of_program = [lambda it=it: it(program) for it in (programs, alike, crowds, files)]
+    for case in (rows, closes, ports, bounds, whole, shortened, disturbed, *of_program):
         for name, found, wanted in case():
             checks += 1
             if found != wanted:

@@ -173,7 +173,7 @@ def as_told(page, listed, is_shown=False):
             lines += side_lines(k, side, closes, told)
         lines += [*closing_lines(it), *remark_lines(page)]
     for it in listed["facts"]["utp"]:
-        lines.append("uTP  %s > %s  %d packets, not read: this is BitTorrent over UDP (BEP 29)" % (*it["ends"],
+        lines.append("uTP  %s > %s  %d packets of BitTorrent over UDP (BEP 29), read from a SYN on" % (*it["ends"],
             it["packets"]))
     return "\n".join(lines) + ("\n" if lines else "")
 
@@ -183,7 +183,7 @@ def softened(wanted, found):
     of another protocol, why uTP closed."""
     wanted = re.sub(r"had sent \d+ bytes, last( read)?", "had sent * bytes, last", wanted)
     wanted = re.sub(r"(no BitTorrent handshake).*", r"\1", wanted)
-    wanted = re.sub(r"(\(BEP 29\));.*", r"\1", wanted)
+    wanted = re.sub(r"(\(BEP 29\), read from a SYN on);.*", r"\1", wanted)
     lines, other = wanted.splitlines(), found.splitlines()
     lines = [re.sub(r"^(  [AB]) .*", r"\1 *", line) if k < len(other) and re.fullmatch(r"  [AB] \*", other[k]) else line for k,
         line in enumerate(lines)]

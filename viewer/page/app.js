@@ -107,7 +107,8 @@ export class App {
     this.total = 0;
     for (const id of ['#why', '#kinds', '#summary', '#overview', '#count']) $(id).replaceChildren();
     const utp = utpPackets(facts);
-    const what = utp ? ` ${plural(utp, 'packet is', 'packets are')} uTP, BitTorrent over UDP, which isn't read.` : '';
+    const what = utp ? ` ${plural(utp, 'packet is', 'packets are')} uTP, BitTorrent over UDP, which this page doesn't read. `
+      + 'The command does: bt_tool capture FILE.' : '';
     const had = facts.packets ? `The capture has ${plural(facts.packets, 'packet')}; ${grouped(facts.skipped)} of them aren't TCP.${what}`
       : `The file begins as a capture, and has no whole packet${facts.isCut ? ': it ends inside the first one' : ''}.`;
     $('#ends').replaceChildren(h('div.end.missing', h('b', 'No BitTorrent connection over TCP'),

@@ -71,7 +71,7 @@ function utpOf({ utp }) {
   return h('details.others', { open: true }, h('summary', 'uTP, which is not read'),
     utp.slice(0, OTHERS_SHOWN).map((/** @type {any} */ it) =>
       h('div.other', h('span', it.ends.join(' > ')), h('span.dim', plural(it.packets, 'packet')))),
-    h('p.dim', 'This is uTP (BEP 29): BitTorrent over UDP. Switch uTP off in one of the clients and capture again.'));
+    h('p.dim', 'This is uTP (BEP 29): BitTorrent over UDP. The command reads it: bt_tool capture FILE.'));
 }
 
 /** @param {HTMLElement} root @param {any} listed @param {number} selected @param {(id: number) => void} onPick */

@@ -20,10 +20,13 @@ pub mod Outcomes
 pub mod Shown
 pub mod Sending
 pub mod Skipping
+pub mod Tallying
 mod Each
 mod Rowing
 mod Seeing
 mod Parting
+mod Arriving
+mod Linked
 mod Steps
 mod Order
 mod Silent

@@ -20,12 +20,16 @@ use Rattle.bt_utp.specs.Flows.{flows}
 use Rattle.bt_utp.specs.States.{AreCounted}
 use Rattle.bt_capture.specs.declared.connections.Connections.{Connections}
 use Rattle.bt_capture.specs.declared.ending.CaptureEnd.{CaptureEnd}
-use Rattle.bt_capture.specs.declared.ending.CaptureFault.{CaptureFault}
-use Rattle.bt_capture.specs.declared.ending.CaptureFault.TheVariants.{Write, Memory, Turns}
+use Rattle.bt_text.specs.declared.ended.ToolFault.{ToolFault}
+use Rattle.bt_text.specs.declared.ended.ToolFault.TheVariants as tool
 use Rattle.bt_capture.specs.declared.ending.Form.{Form}
 use Rattle.bt_capture.specs.declared.pair.Pair.{Pair}
 use Rattle.bt_capture.specs.declared.run.Run.{Run}
-use Rattle.bt_capture.specs.Arrivals.{arrivals, clock_of, first_time}
+use Rattle.bt_utp.specs.Channels.{no_connections}
+use Rattle.bt_utp.specs.Turnings.{AreLinked}
+use Rattle.bt_utp.specs.declared.links.Links.{Links}
+use Rattle.bt_capture.specs.Arrivals.{Arrival, HaveCome, MayHaveCome, clock_of, first_time}
+use Rattle.bt_capture.proofs.Arriving.{come_nothing, have_come}
 use Rattle.bt_capture.specs.FlowTexts.{datagrams, flow_texts}
 use Rattle.bt_capture.specs.Following.{Asked, IsRowing, IsShare, asked_of}
 use Rattle.bt_capture.specs.Following.{AreInOrder, Coming, During, IsTimely, numbers}
@@ -35,8 +39,9 @@ use Rattle.bt_capture.specs.Forms.{absent_from, is_stream, wanted_by}
 use Rattle.bt_capture.specs.Readings.{Reading, IsReading, Advances, GoesOn, Hands, IsFaulty, Waits, nothing_read, shown, with_bytes}
 use Rattle.bt_capture.specs.Tables.{Held, same_pair}
 use Rattle.bt_capture.specs.Tellings.{Tells, IsStopped, IsEmpty, AreTexts}
+use Rattle.bt_capture.specs.Unread.{unread_packets}
 use Rattle.bt_capture.specs.Runs.{Origin, HasRead, IsTelling, IsTellingIn, IsLeftIn, IsEndOf, AreOver, AreAllOver, AreToldSoFar, ArePartlyWritten, Adds}
-use Rattle.bt_capture.specs.Runs.{asked_in, since_first}
+use Rattle.bt_capture.specs.Runs.{ComeTo, asked_in, since_first}
 use Rattle.bt_capture.specs.Runs.{AreLines, AreRowsTold, IsToldIn, IsToldTo, IsOnlyStream, IsStreamTold, StreamsSoFar, utp_lines}
 use Rattle.bt_capture.proofs.Each.{each_numbered}
 use Rattle.bt_capture.proofs.Going.{fresh, goes_both}
@@ -151,36 +156,43 @@ told_read o left left' now es run r r' reads i = record {
   read = reads i.packets i.read;
   asked = i.asked;
   time = i.time;
+  came = i.came;
+  come = i.come;
   follows = i.follows;
   utp = i.utp;
   skipped = i.skipped;
+  unread = i.unread;
 }
 
 pub flushed : {ph : Phase} (o : Origin) (left : Option (List ℕ)) (now after : TargetSeen) (es : List (Pair × Held)) (old new : Run) (r : Reading)
     → new.connections.terms ≡ old.connections.terms → new.connections.teller.form ≡ old.connections.teller.form → new.start ≡ old.start
-    → new.connections.lost ≡ old.connections.lost → new.connections.begun ≡ old.connections.begun → new.utp ≡ old.utp → new.skipped ≡ old.skipped
+    → new.connections.lost ≡ old.connections.lost → new.connections.begun ≡ old.connections.begun → new.utp ≡ old.utp → new.links ≡ old.links → new.skipped ≡ old.skipped
+    → new.unread ≡ old.unread
     → IsEmpty new.connections.teller
     → ((reports : List Report) (written : List ℕ) → Tells o.target now old.connections.teller reports written
     → Tells o.target after new.connections.teller reports (written ++ old.connections.teller.text.items))
     → IsTellingIn ph o left now es old r → IsTellingIn ph o left after es new r
-flushed o left now after es old new r terms form begin lost count utp skipped empty tells i = record {
+flushed o left now after es old new r terms form begin lost count utp links skipped unread empty tells i = record {
   packets = i.packets;
   read = i.read;
   asked = asked_by old.connections new.connections terms form ∙ i.asked;
   time = begin ∙ i.time;
-  follows = follows_flushed (since_first o.target i.packets) now after (arrivals i.packets) es old.connections new.connections terms lost count form empty
+  came = i.came;
+  come = subst (λ (l : Links). ComeTo i.packets i.came l) (sym links) i.come;
+  follows = follows_flushed (since_first o.target i.packets) now after i.came es old.connections new.connections terms lost count form empty
       tells i.follows;
   utp = subst (AreCounted (datagrams i.packets)) (sym utp) i.utp;
   skipped = skipped ∙ i.skipped;
+  unread = unread ∙ i.unread;
 }
 
 finished_by : (o : Origin) (packets : List Captured) (fs : List Finished) (run : Connections) → asked_of run ≡ asked_in o
     → All (IsFinished run.terms (unwrap_or (first_time packets) 0)) fs → All (IsFinished o.terms (unwrap_or (first_time packets) 0)) fs
 finished_by o packets fs run asked i = subst (λ (a : Asked). All (IsFinished a.terms (unwrap_or (first_time packets) 0)) fs) asked i
 
-over_by : (o : Origin) (now : TargetSeen) (packets : List Captured) (run : Connections) → asked_of run ≡ asked_in o
-    → (s : Stops (since_first o.target packets) now (clock_of packets) (arrivals packets) run) → AreOver o packets s.fs
-over_by o now packets run asked s = record { finished = finished_by o packets s.fs run asked s.known.finished; shared = s.shared; timely = s.timely }
+over_by : (o : Origin) (now : TargetSeen) (packets : List Captured) (came : List Arrival) (run : Connections) → asked_of run ≡ asked_in o
+    → (s : Stops (since_first o.target packets) now (clock_of packets) came run) → AreOver o packets came s.fs
+over_by o now packets came run asked s = record { finished = finished_by o packets s.fs run asked s.known.finished; shared = s.shared; timely = s.timely }
 
 -- What is told of a stream, by what was asked for.
 streams_by : (o : Origin) (packets : List Captured) (fs : List Finished) (es : List (Pair × Held)) (run : Connections) (written : List ℕ)
@@ -189,11 +201,11 @@ streams_by : (o : Origin) (packets : List Captured) (fs : List Finished) (es : L
 streams_by o packets fs es run written asked i =
     subst (λ (a : Asked). IsStreaming a.form (told_by written run) a.terms (unwrap_or (first_time packets) 0) run.begun fs es) asked i
 
-so_far_by : (o : Origin) (packets : List Captured) (fs : List Finished) (run : Connections) (written : List ℕ) → asked_of run ≡ asked_in o
-    → IsStreamSoFar run.teller.form (told_by written run) run.terms (unwrap_or (first_time packets) 0) (arrivals packets) fs
-    → StreamsSoFar o packets fs (told_by written run)
-so_far_by o packets fs run written asked i =
-    subst (λ (a : Asked). IsStreamSoFar a.form (told_by written run) a.terms (unwrap_or (first_time packets) 0) (arrivals packets) fs) asked i
+so_far_by : (o : Origin) (packets : List Captured) (came : List Arrival) (fs : List Finished) (run : Connections) (written : List ℕ) → asked_of run ≡ asked_in o
+    → IsStreamSoFar run.teller.form (told_by written run) run.terms (unwrap_or (first_time packets) 0) came fs
+    → StreamsSoFar o packets came fs (told_by written run)
+so_far_by o packets came fs run written asked i =
+    subst (λ (a : Asked). IsStreamSoFar a.form (told_by written run) a.terms (unwrap_or (first_time packets) 0) came fs) asked i
 
 -- no lines follow the reports yet
 no_lines : (o : Origin) (now : TargetSeen) (text : List ℕ) → AppendsPrefix o.target.held now.held text → AppendsPrefix o.target.held now.held (text ++ [])
@@ -201,13 +213,13 @@ no_lines o now text front = subst (AppendsPrefix o.target.held now.held) (sym (a
 
 -- the parts that are told, by what was asked for
 told_so_far : {ph : Phase} (o : Origin) (left : Option (List ℕ)) (now : TargetSeen) (es : List (Pair × Held)) (run : Run) (r : Reading)
-    → (i : IsTellingIn ph o left now es run r) → AreToldSoFar ph o i.packets i.follows.fs (told_by i.follows.written run.connections)
+    → (i : IsTellingIn ph o left now es run r) → AreToldSoFar ph o i.packets i.came i.follows.fs (told_by i.follows.written run.connections)
 told_so_far o left now es run r i =
     let f = i.follows in
     let all = run.connections in
     let text = told_by f.written all in
     let from = unwrap_or (first_time i.packets) 0 in
-    let came = arrivals i.packets in
+    let came = i.came in
     let rows = subst (λ (a : Asked). IsRowing a.form f.packet f.parts text a.terms from all.begun came f.fs es) i.asked f.rows in
     let streams = streams_by o i.packets f.fs es all f.written i.asked f.streams in
     record {
@@ -230,10 +242,10 @@ told_so_far o left now es run r i =
       times = f.times;
     }
 
-no_lines_in : (ph : Phase) (o : Origin) (packets : List Captured) (fs : List Finished) → AreLines ph o packets fs []
-no_lines_in During o packets fs = refl
-no_lines_in (Coming p x) o packets fs = refl
-no_lines_in AtEnd o packets fs = inl refl
+no_lines_in : (ph : Phase) (o : Origin) (packets : List Captured) (came : List Arrival) (fs : List Finished) → AreLines ph o packets came fs []
+no_lines_in During o packets came fs = refl
+no_lines_in (Coming p x) o packets came fs = refl
+no_lines_in AtEnd o packets came fs = inl refl
 
 pub left_by : {ph : Phase} (o : Origin) (left : Option (List ℕ)) (now after : TargetSeen) (es : List (Pair × Held)) (run : Run) (r : Reading)
     → ((reports : List Report) (written : List ℕ) → Tells o.target now run.connections.teller reports written
@@ -246,6 +258,8 @@ left_by {ph} o left now after es run r stopped i =
     record {
       packets = i.packets;
       read = i.read;
+      came = i.came;
+      come = have_come i.packets i.came run.links i.come;
       fs = fs;
       over = record {
         finished = finished_by o i.packets fs run.connections i.asked i.follows.known.finished;
@@ -255,25 +269,28 @@ left_by {ph} o left now after es run r stopped i =
       text = text;
       texts_are = is.texts_are;
       lines = [];
-      are_lines = no_lines_in ph o i.packets fs;
+      are_lines = no_lines_in ph o i.packets i.came fs;
       front = no_lines o after text is.front;
       failed = is.failed;
       told = told_so_far o left now es run r i;
     }
 
-pub given_up : (o : Origin) (left : Option (List ℕ)) (now : TargetSeen) (packets : List Captured) (run : Connections) (r : Reading) → HasRead o left packets r
-    → asked_of run ≡ asked_in o → Stops (since_first o.target packets) now (clock_of packets) (arrivals packets) run → ArePartlyWritten o left now r
-given_up o left now packets run r read asked s =
+pub given_up : (o : Origin) (left : Option (List ℕ)) (now : TargetSeen) (packets : List Captured) (came : List Arrival) (run : Connections) (r : Reading)
+    → HasRead o left packets r → MayHaveCome packets came → asked_of run ≡ asked_in o
+    → Stops (since_first o.target packets) now (clock_of packets) came run → ArePartlyWritten o left now r
+given_up o left now packets came run r read come asked s =
     let t = s.known.tells in
     let text = told_by s.written run in
     record {
       packets = packets;
       read = read;
+      came = came;
+      come = come;
       fs = s.fs;
-      over = over_by o now packets run asked s;
+      over = over_by o now packets came run asked s;
       text = text;
       texts_are = subst (λ (a : Asked). AreTexts a.form (reports_of s.fs) text) asked t.whole;
-      stream = so_far_by o packets s.fs run s.written asked s.so_far;
+      stream = so_far_by o packets came s.fs run s.written asked s.so_far;
       front = (s.written, run.teller.text.items, refl, t.held);
       calm = t.calm;
     }
@@ -281,19 +298,28 @@ given_up o left now packets run r read asked s =
 pub partly : {ph : Phase} (o : Origin) (left : Option (List ℕ)) (now : TargetSeen) (es : List (Pair × Held)) (run : Run) (r : Reading)
     → IsTellingIn ph o left now es run r → ArePartlyWritten o left now r
 partly o left now es run r i =
-    given_up o left now i.packets run.connections r i.read i.asked
-    (stops_of (since_first o.target i.packets) now (arrivals i.packets) es run.connections i.follows)
+    given_up o left now i.packets i.came run.connections r i.read (inl (have_come i.packets i.came run.links i.come)) i.asked
+    (stops_of (since_first o.target i.packets) now i.came es run.connections i.follows)
 
 -- All turns of reading were taken.
 pub turned : {ph : Phase} (o : Origin) (left : Option (List ℕ)) (now : TargetSeen) (es : List (Pair × Held)) (run : Run) (r : Reading)
-    → IsTellingIn ph o left now es run r → 2 ^ 64 - 1 ≤ r.bytes + r.packets → IsToldIn ph Turns o left now r
+    → IsTellingIn ph o left now es run r → 2 ^ 64 - 1 ≤ r.bytes + r.packets → IsToldIn ph tool.Turns o left now r
 unfolding partly given_up
 turned o left now es run r i le = (partly o left now es run r i, counts_all o left i.packets r i.read le)
+
+nothing_came : HaveCome [] []
+nothing_came = record {
+  taken = [];
+  are = (refl, refl);
+  turned = record { all = λ n lt. absurd (let no : n < 0 = lt in omega (arith, no)); none = λ n le. refl };
+}
 
 nothing_written : (o : Origin) → ArePartlyWritten o o.source.left o.target nothing_read
 nothing_written o = record {
   packets = [];
   read = read_nothing o;
+  came = [];
+  come = inl nothing_came;
   fs = [];
   over = record { finished = All-nil (IsFinished o.terms 0); shared = λ k. ([], refl); timely = All-nil (IsTimely (clock_of [])) };
   text = [];
@@ -311,7 +337,7 @@ nothing_written o = record {
   calm = refl;
 }
 
-pub nothing_told : (o : Origin) → IsToldTo Memory o o.source o.target
+pub nothing_told : (o : Origin) → IsToldTo tool.Memory o o.source o.target
 nothing_told o = inl (nothing_read, nothing_written o)
 
 -- ---- the end
@@ -328,21 +354,21 @@ texts_written o left now run r empty i =
     (subst (λ l. AreTexts run.connections.teller.form reports l) (all_told i.follows.written run.connections empty) i.follows.known.tells.whole)
 
 all_shared : (o : Origin) (left : Option (List ℕ)) (now : TargetSeen) (run : Run) (r : Reading) → (i : IsTellingIn AtEnd o left now [] run r) → (k : Pair)
-    → IsShared k (arrivals i.packets) i.follows.fs []
-all_shared o left now run r i k = let s = i.follows.shared k in subst (IsShared k (arrivals i.packets) i.follows.fs) s.is s.share
+    → IsShared k i.came i.follows.fs []
+all_shared o left now run r i k = let s = i.follows.shared k in subst (IsShared k i.came i.follows.fs) s.is s.share
 
 pub begun_all : (begun n : ℕ) → begun ≡ min (n + 0) (2 ^ 64 - 1) → begun ≡ min n (2 ^ 64 - 1)
 begun_all begun n e = omega (arith, e)
 
 pub all_over : (o : Origin) (left : Option (List ℕ)) (now : TargetSeen) (run : Run) (r : Reading) → (i : IsTellingIn AtEnd o left now [] run r)
-    → AreAllOver o i.packets i.follows.fs
+    → AreAllOver o i.packets i.came i.follows.fs
 all_over o left now run r i = record {
   finished = finished_by o i.packets i.follows.fs run.connections i.asked i.follows.known.finished;
   numbered = numbered_end run.connections.begun i.follows.fs i.follows.begun i.follows.streams.numbered;
   shared = λ k. all_shared o left now run r i k;
-  parted = λ k. parted_all (arrivals i.packets) i.follows.fs k (all_shared o left now run r i k) i.follows.parting;
+  parted = λ k. parted_all i.came i.follows.fs k (all_shared o left now run r i k) i.follows.parting;
   place = i.follows.order.place;
-  order = subst (λ n. AreInOrder i.follows.order.place (arrivals i.packets) n i.follows.fs)
+  order = subst (λ n. AreInOrder i.follows.order.place i.came n i.follows.fs)
       (begun_all run.connections.begun (length i.follows.fs) i.follows.begun) i.follows.order.order;
   last = i.follows.last;
   timely = i.follows.timely;
@@ -367,7 +393,7 @@ rows_told o left now run r empty i =
     let f = i.follows in
     let all = run.connections in
     let R : Asked → List ℕ → Type 0 = λ a l.
-    IsRowing a.form f.packet f.parts l a.terms (unwrap_or (first_time i.packets) 0) all.begun (arrivals i.packets) f.fs [] in
+    IsRowing a.form f.packet f.parts l a.terms (unwrap_or (first_time i.packets) 0) all.begun i.came f.fs [] in
     let rows = subst (λ a. R a f.written) i.asked (subst (λ l. R (asked_of all) l) (all_told f.written all empty) f.rows) in
     record {
       parts = f.parts;
@@ -397,6 +423,8 @@ part_written o left before now run r empty i p failed =
     record {
       packets = i.packets;
       read = i.read;
+      came = i.came;
+      come = have_come i.packets i.came run.links i.come;
       fs = i.follows.fs;
       over = record {
         finished = finished_by o i.packets i.follows.fs run.connections i.asked known.finished;
@@ -414,15 +442,17 @@ part_written o left before now run r empty i p failed =
         Appends-trans o.target.held before.held now.held written q.0 known.tells.held q.3,
       );
       failed = subst (λ (n : ℕ). Grew n now.failed) known.tells.calm failed;
-      told = subst (λ l. AreToldSoFar AtEnd o i.packets i.follows.fs l) (all_told written run.connections empty) (told_so_far o left before [] run r i);
+      told = subst (λ l. AreToldSoFar AtEnd o i.packets i.came i.follows.fs l) (all_told written run.connections empty) (told_so_far o left before [] run r i);
     }
 
-pub not_added : (T : Type 0) (f : CaptureFault) (o : Origin) (left : Option (List ℕ)) (before now : TargetSeen) (run : Run) (r : Reading)
+pub not_added : (T : Type 0) (f : ToolFault) (o : Origin) (left : Option (List ℕ)) (before now : TargetSeen) (run : Run) (r : Reading)
     → IsEmpty run.connections.teller → (i : IsTellingIn AtEnd o left before [] run r) → Adds {T = T} (utp_lines run.connections.teller.form i.packets) before now (Err f)
     → IsToldIn AtEnd f o left now r
-not_added T Write o left before now run r empty i a = part_written o left before now run r empty i a.0 a.1
-not_added T Memory o left before now run r empty i a = subst (λ x. ArePartlyWritten o left x r) (sym a) (partly o left before [] run r i)
-not_added T Turns o left before now run r empty i a = absurd a
+not_added T tool.Read o left before now run r empty i a = absurd a
+not_added T tool.Write o left before now run r empty i a = part_written o left before now run r empty i a.0 a.1
+not_added T tool.Memory o left before now run r empty i a = subst (λ x. ArePartlyWritten o left x r) (sym a) (partly o left before [] run r i)
+not_added T tool.Net o left before now run r empty i a = absurd a
+not_added T tool.Turns o left before now run r empty i a = absurd a
 
 -- Those that are left are taken out of the table.
 pub told_rest : (o : Origin) (left : Option (List ℕ)) (now : TargetSeen) (old : Run) (new : Connections) (es : List (Pair × Held)) (r : Reading)
@@ -437,26 +467,33 @@ told_rest o left now old new es r all up same i =
       read = i.read;
       asked = i.asked;
       time = i.time;
-      follows = follows_same start now (arrivals i.packets) es old.connections mid refl refl refl refl
-          (follows_end start now (arrivals i.packets) es old.connections up
-          (follows_moved start now (arrivals i.packets) table es old.connections all i.follows));
+      came = i.came;
+      come = i.come;
+      follows = follows_same start now i.came es old.connections mid refl refl refl refl
+          (follows_end start now i.came es old.connections up
+          (follows_moved start now i.came table es old.connections all i.follows));
       utp = i.utp;
       skipped = i.skipped;
+      unread = i.unread;
     })
 
 -- ---- the begin
 
 pub begins : (o : Origin) (run : Run) (r : Reading) → asked_of run.connections ≡ asked_in o → run.start ≡ None
-    → Follows (since_first o.target []) o.target (clock_of []) [] run.connections.table run.connections → AreCounted [] run.utp → run.skipped ≡ 0
+    → Follows (since_first o.target []) o.target (clock_of []) [] run.connections.table run.connections → AreCounted [] run.utp → AreLinked no_connections [] run.links
+    → run.skipped ≡ 0 → run.unread ≡ unread_packets []
     → r ≡ nothing_read → IsTelling o o.source.left o.target run.connections.table run r
-begins o run r asked begin follows utp skipped same = record {
+begins o run r asked begin follows utp linked skipped unread same = record {
   packets = [];
   read = subst (HasRead o o.source.left []) (sym same) (read_nothing o);
   asked = asked;
   time = begin;
+  came = [];
+  come = come_nothing run.links linked;
   follows = follows;
   utp = utp;
   skipped = skipped;
+  unread = unread;
 }
 
 -- ---- connections that have begun

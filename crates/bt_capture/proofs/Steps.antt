@@ -1,20 +1,19 @@
 -- The first packet, and connections that are taken out, moved and given up.
 use Rattle.bt_talk.specs.declared.terms.Terms.{Terms}
-use Rattle.std.proofs.Common.{◌≡◌, ◌∙◌, ℕ, ◌+◌, ◌-◌, ◌^◌, min, Bool, true, false, List, [], ◌∷◌, ◌++◌, length, append-nil, append_assoc}
+use Rattle.std.proofs.Common.{◌≡◌, ◌∙◌, ℕ, ◌+◌, ◌-◌, ◌^◌, min, Bool, true, false, List, [], ◌∷◌, ◌++◌, length}
 use Rattle.std.proofs.Common.{◌≤◌, Some, unwrap_or, refl, sym, ap, subst, arith, inl, inr}
 use Rattle.std.specs.List.{All, list_any}
 use Rattle.std.specs.List.Sorted.{IsPermutation}
 use Rattle.std.specs.Map.{lookup, remove_entry}
 use Rattle.std.proofs.lemmas.Bool.{cases_Bool}
 use Rattle.std.proofs.lemmas.List.{length-append}
-use Rattle.std.proofs.lemmas.List.Elements.{All-append, All-cons, All-head, All-nil, All-tail}
+use Rattle.std.proofs.lemmas.List.Elements.{All-cons, All-head, All-nil, All-tail}
 use Rattle.std.proofs.lemmas.List.Sorted.{length_permutation}
 use Rattle.bt_io.specs.Seen.{TargetSeen}
 use Rattle.bt_pcap.specs.Formats.{Captured}
 use Rattle.bt_talk.specs.declared.closing.When.{When}
-use Rattle.bt_capture.specs.Arrivals.{AreEarlier, Arrival, Clock, IsEarlier, arrivals, arrivals_in, arrivals_of, arrivals_after, clock_after, clock_of}
+use Rattle.bt_capture.specs.Arrivals.{AreEarlier, Arrival, Clock, IsEarlier, clock_after, clock_of}
 use Rattle.bt_capture.specs.Arrivals.{first_time, has_data, pair_of}
-use Rattle.bt_capture.specs.Sights.{Seen, SawSegment, SawUtp, SawOther, seen_in}
 use Rattle.bt_capture.specs.Following.{Cause, IsRowing, Rows, Since}
 use Rattle.bt_capture.specs.Following.{Finished, Fate, Reported, Silent, Lost, IsFinished, IsFate, IsShared}
 use Rattle.bt_capture.specs.Following.{IsStreaming, Follows, Stops, Holds, Shares, Streams}
@@ -72,11 +71,9 @@ all_any terms from from' (f ∷ fs) none i =
 shares_none : (k : Pair) (fs : List Finished) (rest : List Arrival) → IsShared k [] fs rest → taken_between k fs ≡ []
 shares_none k fs rest e = (parts_none (taken_between k fs) rest (sym e)).0
 
--- The time of the first packet isn't known before it comes; but no segment was taken then.
-pub started : {clock : Clock} (target now : TargetSeen) (packets : List Captured) (p : Captured) (run : Connections)
-    → Follows (since_first target packets) now clock (arrivals packets) run.table run
-    → Follows (since_first target (packets ++ p ∷ [])) now clock (arrivals packets) run.table run
-started target now [] p run i =
+started_none : {clock : Clock} (target now : TargetSeen) (p : Captured) (run : Connections) → Follows (since_first target []) now clock [] run.table run
+    → Follows (since_first target (p ∷ [])) now clock [] run.table run
+started_none target now p run i =
     let none = none_taken i.fs (λ k. shares_none k i.fs (i.shared k).taken (i.shared k).share) in
     let form = run.teller.form in
     let told = told_by i.written run in
@@ -98,30 +95,22 @@ started target now [] p run i =
       packet = i.packet;
       times = i.times;
     }
-started target now (q ∷ qs) p run i = i
+
+-- The time of the first packet isn't known before it comes; but no segment was taken then.
+pub started : {clock : Clock} (target now : TargetSeen) (packets : List Captured) (p : Captured) (came : List Arrival) (run : Connections)
+    → (packets ≡ [] → came ≡ []) → Follows (since_first target packets) now clock came run.table run
+    → Follows (since_first target (packets ++ p ∷ [])) now clock came run.table run
+started {clock} target now [] p came run none i =
+    let e = none refl in
+    let P : List Arrival → Type 0 = λ l. Follows (since_first target []) now clock l run.table run in
+    let Q : List Arrival → Type 0 = λ l. Follows (since_first target (p ∷ [])) now clock l run.table run in
+    subst Q (sym e) (started_none target now p run (subst P e i))
+started target now (q ∷ qs) p came run none i = i
 
 -- the time of the first packet, after another one
 pub first_more : (packets : List Captured) (p : Captured) → first_time (packets ++ p ∷ []) ≡ Some (unwrap_or (first_time packets) p.nanos)
 first_more [] p = refl
 first_more (q ∷ qs) p = refl
-
-after_more : (n : ℕ) (packets : List Captured) (p : Captured)
-    → arrivals_after n (packets ++ p ∷ []) ≡ arrivals_after n packets ++ arrivals_of (min (n + length packets + 1) (2 ^ 64 - 1)) p
-after_more n [] p =
-    let same : n + 1 ≡ n + length {A = Captured} [] + 1 = omega arith in
-    append-nil (arrivals_of (min (n + 1) (2 ^ 64 - 1)) p) ∙ ap (λ m. arrivals_of (min m (2 ^ 64 - 1)) p) same
-after_more n (q ∷ qs) p =
-    let first = arrivals_of (min (n + 1) (2 ^ 64 - 1)) q in
-    let same : (n + 1) + length qs + 1 ≡ n + length (q ∷ qs) + 1 = omega arith in
-    ap (λ l. first ++ l) (after_more (n + 1) qs p)
-    ∙ sym (append_assoc first (arrivals_after (n + 1) qs) (arrivals_of (min ((n + 1) + length qs + 1) (2 ^ 64 - 1)) p))
-    ∙ ap (λ m. (first ++ arrivals_after (n + 1) qs) ++ arrivals_of (min m (2 ^ 64 - 1)) p) same
-
-pub arrivals_more : (packets : List Captured) (p : Captured) (number : ℕ) → number ≡ min (length packets + 1) (2 ^ 64 - 1)
-    → arrivals (packets ++ p ∷ []) ≡ arrivals packets ++ arrivals_of number p
-arrivals_more packets p number e =
-    let same : min (0 + length packets + 1) (2 ^ 64 - 1) ≡ number = omega (arith, e) in
-    after_more 0 packets p ∙ ap (λ m. arrivals packets ++ arrivals_of m p) same
 
 -- ---- the packets' numbers
 
@@ -161,31 +150,6 @@ number_of packets p number e = let n = length-append packets (p ∷ []) in omega
 -- The next packet has a number that isn't less than that of the last one.
 pub number_up : (packets : List Captured) (number : ℕ) → number ≡ min (length packets + 1) (2 ^ 64 - 1) → (clock_of packets).number ≤ number
 number_up packets number e = omega (arith, e)
-
-within_in : (number nanos most : ℕ) (s : Seen) → number ≤ most → All (λ x. x.when.packet ≤ most) (arrivals_in number nanos s)
-within_in number nanos most (SawSegment s) le =
-    let P : Arrival → Type 0 = λ x. x.when.packet ≤ most in
-    All-cons P (record { segment = s; when = record { nanos = nanos; packet = number } }) [] le (All-nil P)
-within_in number nanos most (SawUtp u) le = All-nil (λ (x : Arrival). x.when.packet ≤ most)
-within_in number nanos most SawOther le = All-nil (λ (x : Arrival). x.when.packet ≤ most)
-
-within_after : (n : ℕ) (packets : List Captured) (most : ℕ) → min (n + length packets) (2 ^ 64 - 1) ≤ most
-    → All (λ x. x.when.packet ≤ most) (arrivals_after n packets)
-within_after n [] most le = All-nil (λ (x : Arrival). x.when.packet ≤ most)
-within_after n (p ∷ ps) most le =
-    let number = min (n + 1) (2 ^ 64 - 1) in
-    All-append (λ (x : Arrival). x.when.packet ≤ most) (arrivals_of number p) (arrivals_after (n + 1) ps)
-    (within_in number p.nanos most (seen_in p.link p.bytes p.original) (omega (arith, le))) (within_after (n + 1) ps most (omega (arith, le)))
-
--- No segment comes after the last packet.
-pub all_within : (packets : List Captured) (p : Captured) (number : ℕ) → number ≡ min (length packets + 1) (2 ^ 64 - 1)
-    → All (λ x. x.when.packet ≤ number) (arrivals (packets ++ p ∷ []))
-all_within packets p number e = within_after 0 (packets ++ p ∷ []) number (omega (arith, e, length-append packets (p ∷ [])))
-
--- None came after the next packet.
-pub all_until : (packets : List Captured) (number : ℕ) → number ≡ min (length packets + 1) (2 ^ 64 - 1)
-    → All (λ x. x.when.packet ≤ number) (arrivals packets)
-all_until packets number e = within_after 0 packets number (omega (arith, e))
 
 -- Time goes on.
 pub follows_later : (start : Since) (now : TargetSeen) (clock later : Clock) (more : List When) (came : List Arrival) (es : List (Pair × Held)) (run : Connections)

@@ -30,7 +30,7 @@ flow_texts json fs = flat_map (flow_text json) fs
 abbrev pub datagrams_in : Seen → List UtpPacket
 datagrams_in (SawSegment s) = []
 datagrams_in (SawUtp d) = d ∷ []
-datagrams_in SawOther = []
+datagrams_in (SawOther w) = []
 
 -- the packets of uTP that packets carry, in order
 abbrev pub datagrams : List Captured → List UtpPacket

@@ -1,5 +1,5 @@
 -- What a hash function is fed of the key of a connection: few whole words, so that it is fast.
-use Rattle.std.specs.Prelude.{ℕ, ◌+◌, ◌*◌, ◌^◌, ◌++◌, List}
+use Rattle.std.specs.Prelude.{ℕ, ◌+◌, ◌*◌, ◌^◌, ◌++◌, List, [], Option, Some, None}
 use Rattle.std.specs.Int.{from_be_bytes, w32, w128}
 use Rattle.std.specs.Hash as fed
 use Rattle.bt_packet.specs.declared.address.Host.{Host}
@@ -24,5 +24,10 @@ ends_fed a b (V4 low) (V4 high) = fed.u128 (word_of a.port low * 2 ^ 64 + word_o
 ends_fed a b (V4 low) (V6 high) = address_fed a ++ address_fed b
 ends_fed a b (V6 low) h = address_fed a ++ address_fed b
 
+-- TCP has no number.
+abbrev pub link_fed : Option ℕ → List (List ℕ)
+link_fed None = []
+link_fed (Some number) = fed.u64 number
+
 abbrev pub pair_fed : Pair → List (List ℕ)
-pair_fed p = ends_fed p.low p.high p.low.host p.high.host
+pair_fed p = link_fed p.link ++ ends_fed p.low p.high p.low.host p.high.host

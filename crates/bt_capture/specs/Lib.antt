@@ -18,4 +18,5 @@ pub mod Shown
 pub mod Sights
 pub mod Tables
 pub mod Tellings
+pub mod Unread
 pub mod Walks

@@ -1,6 +1,6 @@
 //! A connection of a capture, with its number.
 ghost use Rattle.bt_talk.specs.declared.terms.Terms.{Terms};
-ghost use Rattle.std.specs.Prelude.{false, not, ◌&&◌, ◌≡◌, ◌<◌, ◌^◌, ◌++◌, ◌∷◌, List, [], Option, Some, ℕ};
+ghost use Rattle.std.specs.Prelude.{false, not, ◌&&◌, ◌≡◌, ◌<◌, ◌^◌, ◌++◌, ◌∷◌, List, [], Option, None, Some, ℕ};
 ghost use Rattle.bt_talk.specs.declared.closing.When.{When};
 ghost use Rattle.bt_talk.specs.declared.rows.Heading.{Heading};
 ghost use Rattle.bt_capture.specs.Arrivals.{Arrival, arrived, has_data};
@@ -43,7 +43,7 @@ fn size_with(talk: &Talk) -> u32 {
 
 /// Tells whether a segment has a byte of its sender's stream.
 fn has_payload(segment: &Segment) -> bool
-    ensures { (when : When) → result ≡ has_data (arrived segment.now when) }
+    ensures { (when : When) → result ≡ has_data (arrived None segment.now when) }
 {
     !segment.flags.rst && !segment.payload.is_empty()
 }
@@ -51,9 +51,9 @@ fn has_payload(segment: &Segment) -> bool
 impl Connection {
     /// Begins a connection; nothing of it was taken yet.
     pub fn new(alloc: Global, number: u64, first: &Segment, terms: Terms) -> Connection
-        ensures open { (when : When) → IsOpen terms [] (arrived first.now when ∷ []) result }
-        ensures sent { (when : When) (side : Side) → HasSent side [] terms [] (arrived first.now when ∷ []) result }
-        ensures shown { (when : When) (h : Heading) → HasShown h [] terms [] (arrived first.now when ∷ []) result }
+        ensures open { (link : Option ℕ) (when : When) → IsOpen terms [] (arrived link first.now when ∷ []) result }
+        ensures sent { (link : Option ℕ) (when : When) (side : Side) → HasSent side [] terms [] (arrived link first.now when ∷ []) result }
+        ensures shown { (link : Option ℕ) (when : When) (h : Heading) → HasShown h [] terms [] (arrived link first.now when ∷ []) result }
         ensures there { is_lost result.talk ≡ false }
         ensures number { result.number ≡ number }
     {
@@ -70,15 +70,15 @@ impl Connection {
     /// If memory runs out the connection is lost. The room had no rows before; then it has those of the segment, and the bytes of the
     /// wanted side's stream that come with it.
     pub fn take(&mut self, segment: &Segment, when: When, room: &mut Room)
-        ensures takes { (terms : Terms) (taken : List Arrival) → let a = arrived segment.now when in IsOpen terms taken (a ∷ []) self.old
+        ensures takes { (link : Option ℕ) (terms : Terms) (taken : List Arrival) → let a = arrived link segment.now when in IsOpen terms taken (a ∷ []) self.old
             → IsOpen terms (taken ++ a ∷ []) [] self.new }
-        ensures rows { (terms : Terms) (taken : List Arrival) → IsOpen terms taken (arrived segment.now when ∷ []) self.old
+        ensures rows { (link : Option ℕ) (terms : Terms) (taken : List Arrival) → IsOpen terms taken (arrived link segment.now when ∷ []) self.old
             → (rows_in room.old).text.items ≡ [] → HasRows (showing_in room.old) room.new }
         ensures shows { (a b : Past) → IsTalk a b self.old.talk → is_lost self.new.talk ≡ false → (rows_in room.old).text.items ≡ []
             → AreOfSegment (rows_in room.old).heading segment.now when a b self.old.talk self.new.talk (rows_in room.new) }
-        ensures sent { (terms : Terms) (taken : List Arrival) (side : Side) (sent : List ℕ) → let a = arrived segment.now when in wanted_in room.old ≡ Some side
+        ensures sent { (link : Option ℕ) (terms : Terms) (taken : List Arrival) (side : Side) (sent : List ℕ) → let a = arrived link segment.now when in wanted_in room.old ≡ Some side
             → HasSent side sent terms taken (a ∷ []) self.old → HasSent side (sent ++ sent_in room.new) terms (taken ++ a ∷ []) [] self.new }
-        ensures shown { (terms : Terms) (taken : List Arrival) (before : List Shown) → let a = arrived segment.now when in (rows_in room.old).text.items ≡ []
+        ensures shown { (link : Option ℕ) (terms : Terms) (taken : List Arrival) (before : List Shown) → let a = arrived link segment.now when in (rows_in room.old).text.items ≡ []
             → HasShown (rows_in room.old).heading before terms taken (a ∷ []) self.old
             → (rows : List Shown) × ((rows_in room.new).text.items ≡ shown_texts (showing_in room.old) rows)
             × ShowsOn (rows_in room.old).heading before rows terms taken a self.old self.new }

@@ -1,5 +1,5 @@
 //! The connections of a capture, and the reports of those that are over.
-ghost use Rattle.std.specs.Prelude.{◌≡◌, ◌∷◌, ◌++◌, [], ◌+◌, ◌<◌, ◌≤◌, ℕ, List, length, false, true, None, Some, IfOk, OnOk, OnErr};
+ghost use Rattle.std.specs.Prelude.{◌≡◌, ◌∷◌, ◌++◌, [], ◌+◌, ◌<◌, ◌≤◌, ℕ, List, Option, length, false, true, None, Some, IfOk, OnOk, OnErr};
 ghost use Rattle.std.specs.Map.{lookup};
 ghost use Rattle.std.specs.List.{All, Contains};
 ghost use Rattle.std.specs.List.Sorted.{IsNonDecreasing, IsPermutation};
@@ -50,8 +50,8 @@ const SILENT: usize = 8_192;
 /// It does if this one ended and four seconds without a segment have passed, or if it is another SYN. If memory ran out with this one
 /// its state isn't known: each SYN without ACK does then, and nothing else.
 fn begins_another(talk: &Talk, segment: &Segment, when: When) -> bool
-    ensures there { is_lost talk.now ≡ false → (a b : Past) → IsTalk a b talk.now → Begins result (arrived segment.now when) a b talk.now }
-    ensures lost { is_lost talk.now ≡ true → result ≡ is_opener (arrived segment.now when) }
+    ensures there { (link : Option ℕ) → is_lost talk.now ≡ false → (a b : Past) → IsTalk a b talk.now → Begins result (arrived link segment.now when) a b talk.now }
+    ensures lost { is_lost talk.now ≡ true → result ≡ is_opener (arrived None segment.now when) }
 {
     if talk.is_lost() {
         return segment.flags.syn && !segment.flags.ack;
@@ -320,11 +320,11 @@ impl Connections {
 
     /// Begins the connection of a segment.
     fn begin(&mut self, segment: &Segment) -> Result<Box<Connection>, AllocError>
-        ensures finds { (start : Since) (now : TargetSeen) (clock : Clock) (came : List Arrival) (when : When) (p : Pair) (es : List (Pair × Held))
-            → lookup (same_pair p) es ≡ None → let x = arrived segment.now when in FollowsIn (Coming p x) start now clock came es self.old
+        ensures finds { (link : Option ℕ) (start : Since) (now : TargetSeen) (clock : Clock) (came : List Arrival) (when : When) (p : Pair) (es : List (Pair × Held))
+            → lookup (same_pair p) es ≡ None → let x = arrived link segment.now when in FollowsIn (Coming p x) start now clock came es self.old
             → Finds start now clock came x p es self.new result }
         ensures number { IfOk result (λ c. c.value.number ≡ self.old.begun) }
-        ensures sent { IfOk result (λ c. (when : When) (side : Side) → HasSent side [] self.old.terms [] (arrived segment.now when ∷ []) c.value) }
+        ensures sent { IfOk result (λ c. (link : Option ℕ) (when : When) (side : Side) → HasSent side [] self.old.terms [] (arrived link segment.now when ∷ []) c.value) }
         ensures table { self.new.table ≡ self.old.table }
         ensures bytes { self.new.bytes ≡ self.old.bytes }
         ensures asked { asked_of self.new ≡ asked_of self.old }
@@ -347,10 +347,10 @@ impl Connections {
         when: When,
         from: u64,
     ) -> Result<Box<Connection>, AllocError>
-        ensures finds { (start now : TargetSeen) (clock : Clock) (came : List Arrival) (p : Pair) (es : List (Pair × Held))
+        ensures finds { (link : Option ℕ) (start now : TargetSeen) (clock : Clock) (came : List Arrival) (p : Pair) (es : List (Pair × Held))
             → lookup (same_pair p) es ≡ None → AreEarlier clock when.packet → when.packet ≡ clock.number
             → Follows (since start from) now clock came ((p, connection) ∷ es) self.old
-            → Finds (since start from) now clock came (arrived segment.now when) p es self.new result }
+            → Finds (since start from) now clock came (arrived link segment.now when) p es self.new result }
         ensures table { self.new.table ≡ self.old.table }
         ensures bytes { self.new.bytes ≡ self.old.bytes }
         ensures asked { asked_of self.new ≡ asked_of self.old }
@@ -370,8 +370,8 @@ impl Connections {
         when: When,
         from: u64,
     ) -> Result<Box<Connection>, AllocError>
-        ensures finds { (start now : TargetSeen) (clock : Clock) (came : List Arrival) → AreEarlier clock when.packet → when.packet ≡ clock.number
-            → Follows (since start from) now clock came self.old.table self.old → Finds (since start from) now clock came (arrived segment.now when) pair self.new.table self.new result }
+        ensures finds { (link : Option ℕ) (start now : TargetSeen) (clock : Clock) (came : List Arrival) → AreEarlier clock when.packet → when.packet ≡ clock.number
+            → Follows (since start from) now clock came self.old.table self.old → Finds (since start from) now clock came (arrived link segment.now when) pair self.new.table self.new result }
         ensures absent { lookup (same_pair pair) self.new.table ≡ None }
         ensures bounded { IsBounded self.old → IsBounded self.new }
         ensures asked { asked_of self.new ≡ asked_of self.old }
@@ -397,27 +397,27 @@ impl Connections {
         when: When,
         from: u64,
     ) -> Result<(), AllocError>
-        ensures takes { (terms : Terms) (taken : List Arrival) → let a = arrived segment.now when in IsOpen terms taken (a ∷ []) connection.old
+        ensures takes { (link : Option ℕ) (terms : Terms) (taken : List Arrival) → let a = arrived link segment.now when in IsOpen terms taken (a ∷ []) connection.old
             → IsOpen terms (taken ++ a ∷ []) [] connection.new }
-        ensures tells { (terms : Terms) (taken : List Arrival) → IsOpen terms taken (arrived segment.now when ∷ []) connection.old
+        ensures tells { (link : Option ℕ) (terms : Terms) (taken : List Arrival) → IsOpen terms taken (arrived link segment.now when ∷ []) connection.old
             → TellsOn self.old.teller self.new.teller }
         ensures text { OnOk result (self.new.teller.text.items ≡ (self.old.teller.text.items ++ (rows_in self.new.room).text.items)
             ++ handed self.old.teller.form connection.new.number self.new.room) }
-        ensures told { OnOk result ((terms : Terms) (taken : List Arrival) → IsOpen terms taken (arrived segment.now when ∷ []) connection.old
+        ensures told { OnOk result ((link : Option ℕ) (terms : Terms) (taken : List Arrival) → IsOpen terms taken (arrived link segment.now when ∷ []) connection.old
             → is_stream self.old.teller.form ≡ true
             → self.new.teller.text.items ≡ self.old.teller.text.items ++ handed self.old.teller.form connection.new.number self.new.room) }
-        ensures kept { OnErr result ((terms : Terms) (taken : List Arrival) → IsOpen terms taken (arrived segment.now when ∷ []) connection.old
+        ensures kept { OnErr result ((link : Option ℕ) (terms : Terms) (taken : List Arrival) → IsOpen terms taken (arrived link segment.now when ∷ []) connection.old
             → is_stream self.old.teller.form ≡ true → self.new.teller.text.items ≡ self.old.teller.text.items) }
         ensures shows { (a b : Past) → IsTalk a b connection.old.talk → is_lost connection.new.talk ≡ false
             → AreOfSegment (heading_by (showing_by self.old.teller.form) connection.old.number from) segment.now when a b
             connection.old.talk connection.new.talk (rows_in self.new.room) }
-        ensures shown { OnOk result ((terms : Terms) (taken : List Arrival) (before : List Shown) → let a = arrived segment.now when in
+        ensures shown { OnOk result ((link : Option ℕ) (terms : Terms) (taken : List Arrival) (before : List Shown) → let a = arrived link segment.now when in
             let h = heading_of self.old.teller.form connection.old.number from in HasShown h before terms taken (a ∷ []) connection.old
             → (rows : List Shown) × ShowsOn h before rows terms taken a connection.old connection.new
             × (self.new.teller.text.items ≡ self.old.teller.text.items ++ (shown_texts (showing_by self.old.teller.form) rows
             ++ handed self.old.teller.form connection.new.number self.new.room))) }
         ensures number { connection.new.number ≡ connection.old.number }
-        ensures sent { (terms : Terms) (taken : List Arrival) (side : Side) (sent : List ℕ) → let a = arrived segment.now when in
+        ensures sent { (link : Option ℕ) (terms : Terms) (taken : List Arrival) (side : Side) (sent : List ℕ) → let a = arrived link segment.now when in
             wanted_by self.old.teller.form connection.old.number ≡ Some side → HasSent side sent terms taken (a ∷ []) connection.old
             → HasSent side (sent ++ handed self.old.teller.form connection.new.number self.new.room) terms (taken ++ a ∷ []) [] connection.new }
         ensures form { self.new.teller.form ≡ self.old.teller.form }
@@ -473,20 +473,21 @@ impl Connections {
         }
     }
 
-    /// Takes a segment.
+    /// Takes a segment of TCP, or of the connection of uTP with the number `link`.
     pub fn take_segment(
         &mut self,
         segment: &Segment,
+        link: Option<u64>,
         when: When,
         from: u64,
     ) -> Result<(), AllocError>
         ensures goes { (start now : TargetSeen) (clock : Clock) (came : List Arrival) → AreEarlier clock when.packet → when.packet ≡ clock.number
             → All (λ x. x.when.packet ≤ when.packet) came → Follows (since start from) now clock came self.old.table self.old
-            → Goes (since start from) now (with_packet when clock) (came ++ arrived segment.now when ∷ []) self.new.table self.new result }
+            → Goes (since start from) now (with_packet when clock) (came ++ arrived link segment.now when ∷ []) self.new.table self.new result }
         ensures bounded { OnOk result (IsBounded self.old → IsBounded self.new) }
         ensures asked { asked_of self.new ≡ asked_of self.old }
     {
-        let pair = Pair::of(segment.source, segment.target);
+        let pair = Pair::of(segment.source, segment.target).with_link(link);
         let mut connection = self.connection_of(pair, segment, when, from)?;
         self.give(pair, &mut connection, segment, when, from)?;
         self.put(pair, connection, when, from)

@@ -1,12 +1,13 @@
-//! What `capture` is asked for, how it ends, and what can stop it.
+//! What `capture` is asked for, and how it ends.
 ghost use Rattle.std.specs.Prelude.{◌≡◌};
 ghost use Rattle.bt_capture.specs.Forms.{showing_by, wanted_by};
 
 use crate::choice::Choice;
+use crate::unread::UnreadPackets;
 use bt_pcap::FileFault;
 use bt_remarks::Side;
 use bt_talk::{Showing, Terms};
-use thiserror::Error;
+use bt_text::ended::ToolFault;
 
 /// What is asked for.
 #[derive(Clone, Copy, Debug)]
@@ -79,8 +80,10 @@ pub enum Ending {
 #[derive(Clone, Copy, PartialEq, Eq, Debug)]
 pub struct CaptureEnd {
     pub packets: u64,
-    /// How many packets aren't TCP.
+    /// How many packets aren't TCP, or aren't read.
     pub skipped: u64,
+    /// Those of them of which nothing is read.
+    pub unread_packets: UnreadPackets,
     /// How many BitTorrent connections there are, those that aren't chosen too.
     pub torrents: u64,
     /// How many connections aren't reported, since memory ran out.
@@ -100,20 +103,6 @@ pub struct CaptureEnd {
     pub early: u64,
 }
 
-/// What stops a command on a capture before all that was read is told.
-#[derive(Clone, Copy, PartialEq, Eq, Debug, Error)]
-pub enum CaptureFault {
-    /// A write failed, or took no byte.
-    #[error("write")]
-    Write,
-    /// Out of memory.
-    #[error("memory")]
-    Memory,
-    /// The file had no end after 18,446,744,073,709,551,615 packets and reads.
-    #[error("turns")]
-    Turns,
-}
-
 /// Why reading a capture stops before its end.
 #[derive(Clone, Copy, PartialEq, Eq, Debug)]
 pub(crate) enum Stop {
@@ -121,5 +110,5 @@ pub(crate) enum Stop {
     File(FileFault),
     /// A read failed.
     Read,
-    Fault(CaptureFault),
+    Fault(ToolFault),
 }

@@ -16,13 +16,15 @@ mod run;
 mod sight;
 mod table;
 mod telling;
+mod unread;
 mod utp;
 mod walk;
 
 pub use choice::{Choice, Peer};
-pub use ending::{CaptureEnd, CaptureFault, CaptureJob, Ending, Form};
+pub use ending::{CaptureEnd, CaptureJob, Ending, Form};
 pub use fault::ReadFault;
 pub use packets::{FileEnd, Packets};
 pub use pair::Pair;
 pub use run::run_capture;
 pub use sight::{Sight, sight_of};
+pub use unread::{Tally, UnreadPackets};

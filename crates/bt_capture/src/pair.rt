@@ -1,7 +1,7 @@
 //! The key of a connection.
 ghost use Rattle.std.specs.Prelude.{◌≡◌, ◌<◌, ◌^◌, fold};
-ghost use Rattle.bt_capture.specs.Pairs.{is_first, host_key, pair, is_below};
-ghost use Rattle.bt_capture.specs.Hashes.{word_of, address_fed, pair_fed};
+ghost use Rattle.bt_capture.specs.Pairs.{is_first, host_key, pair, is_below, with_link};
+ghost use Rattle.bt_capture.specs.Hashes.{word_of, address_fed, link_fed, pair_fed};
 ghost use Rattle.std.specs.Cmp.Rules.{hashing};
 ghost use Rattle.std.proofs.Common.{rules};
 
@@ -14,6 +14,8 @@ use std::hash::{Hash, Hasher};
 pub struct Pair {
     pub low: Address,
     pub high: Address,
+    /// The number of a connection of uTP, `None` of TCP.
+    pub link: Option<u64>,
 }
 
 /// Tells whether a host isn't after another one.
@@ -40,15 +42,34 @@ fn comes_first(a: Address, b: Address) -> bool
 }
 
 impl Pair {
-    /// Returns the key of a connection of these ends, whichever of them sent.
+    /// Returns the key of a TCP connection of these ends, whichever of them sent.
     pub fn of(a: Address, b: Address) -> Pair
         ensures key { result ≡ pair a b }
         ensures both { result ≡ pair b a }
     {
         if comes_first(a, b) {
-            Pair { low: a, high: b }
+            Pair {
+                low: a,
+                high: b,
+                link: None,
+            }
         } else {
-            Pair { low: b, high: a }
+            Pair {
+                low: b,
+                high: a,
+                link: None,
+            }
+        }
+    }
+
+    /// Returns the key of the uTP connection of these ends with a number, or of TCP if there is none.
+    pub fn with_link(self, link: Option<u64>) -> Pair
+        ensures { result ≡ with_link link self }
+    {
+        Pair {
+            low: self.low,
+            high: self.high,
+            link,
         }
     }
 }
@@ -76,6 +97,15 @@ fn feed<H: Hasher>(address: &Address, state: &mut H)
     }
 }
 
+/// Feeds a hash function the number of a connection of uTP.
+fn feed_link<H: Hasher>(link: Option<u64>, state: &mut H)
+    ensures { state.new ≡ fold H.write state.old (link_fed link) }
+{
+    if let Some(number) = link {
+        state.write_u64(number);
+    }
+}
+
 /// The hash function is fed whole words at once. A derived `Hash` feeds it each byte by itself, which takes five times as long.
 impl Hash for Pair {
     ghost hash_input = { pair_fed };
@@ -84,6 +114,7 @@ impl Hash for Pair {
 
     #[inline(always)]
     fn hash<H: Hasher>(&self, state: &mut H) {
+        feed_link(self.link, state);
         match (self.low.host, self.high.host) {
             (Host::V4(low), Host::V4(high)) => {
                 let low = u128::from(word_of(self.low.port, low));

@@ -155,7 +155,7 @@ impl Table {
     {
         match self.last.take() {
             Some((last, connection)) => {
-                if last == pair {
+                if pair == last {
                     return Some(connection);
                 }
                 self.last = Some((last, connection));
@@ -170,7 +170,7 @@ impl Table {
         ensures { option_copied result ≡ lookup (same_pair pair) self.now }
     {
         match &self.last {
-            Some((last, connection)) if *last == pair => Some(connection),
+            Some((last, connection)) if pair == *last => Some(connection),
             _ => find_either(&self.others, &self.silent, pair),
         }
     }

@@ -1,7 +1,7 @@
 //! The packets of captures that come piece by piece, what they carry, and keys of connections. All values are by hand.
 use bt_capture::{FileEnd, Packets, Pair, ReadFault, Sight, sight_of};
 use bt_io::MemSource;
-use bt_packet::{Address, Host};
+use bt_packet::{Address, Host, Unread};
 use bt_pcap::{FileFault, KEEP, Packet};
 use std::alloc::{AllocError, Global};
 
@@ -159,12 +159,33 @@ fn sees_packets(rt: HostRuntime) {
         Sight::Utp(utp) => assert!(rt; utp.source == a && utp.target == b && utp.id == 4660),
         _ => panic!(rt; "no uTP"),
     }
-    assert!(rt; matches!(sight_of(&packet(b"abc")), Sight::Other));
-    assert!(rt; Pair::of(a, b) == Pair { low: b, high: a });
-    assert!(rt; Pair::of(b, a) == Pair { low: b, high: a });
+    assert!(rt; matches!(sight_of(&packet(b"abc")), Sight::Other(Unread::Other)));
+    assert!(rt;
+        Pair::of(a, b)
+            == Pair {
+                low: b,
+                high: a,
+                link: None
+            }
+    );
+    assert!(rt;
+        Pair::of(b, a)
+            == Pair {
+                low: b,
+                high: a,
+                link: None
+            }
+    );
     let v6 = Address {
         host: Host::V6([0; 16]),
         port: 80,
     };
-    assert!(rt; Pair::of(v6, b) == Pair { low: b, high: v6 });
+    assert!(rt;
+        Pair::of(v6, b)
+            == Pair {
+                low: b,
+                high: v6,
+                link: None
+            }
+    );
 }

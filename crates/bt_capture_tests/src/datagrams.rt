@@ -21,7 +21,7 @@ const FILE: &[u8] = b"\xd4\xc3\xb2\xa1\x02\0\x04\0\0\0\0\0\0\0\0\0\xff\xff\0\0e\
 
 /// What is written of it.
 const LINE: &[u8] =
-    b"uTP  10.0.0.1:51413 > 10.0.0.2:6881  3 packets, not read: this is BitTorrent over UDP (BEP 29); \
+    b"uTP  10.0.0.1:51413 > 10.0.0.2:6881  3 packets of BitTorrent over UDP (BEP 29), read from a SYN on; \
 10.0.0.1:51413 closed: 265 (invalid have message)\n";
 
 /// What is written of it as a JSON object.

@@ -4,6 +4,8 @@
 #[cfg(test)]
 mod captures;
 #[cfg(test)]
+mod connections;
+#[cfg(test)]
 mod datagrams;
 #[cfg(test)]
 mod files;

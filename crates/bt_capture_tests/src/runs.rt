@@ -1,9 +1,10 @@
 //! A capture file from its bytes to the report of its connection.
-use bt_capture::{CaptureEnd, CaptureFault, CaptureJob, Choice, Ending, run_capture};
+use bt_capture::{CaptureEnd, CaptureJob, Choice, Ending, Tally, UnreadPackets, run_capture};
 use bt_io::{MemSource, MemTarget};
 use bt_pcap::FileFault;
 use bt_remarks::Side;
 use bt_talk::Terms;
+use bt_text::ended::ToolFault;
 use std::alloc::AllocError;
 use std::hash::RandomState;
 use std::test::Fail;
@@ -72,7 +73,7 @@ fn run(
     file: Vec<u8>,
     most: usize,
     show: bool,
-) -> (Result<CaptureEnd, CaptureFault>, MemTarget) {
+) -> (Result<CaptureEnd, ToolFault>, MemTarget) {
     run_for(rt, file, most, show, None)
 }
 
@@ -83,7 +84,7 @@ fn run_for(
     most: usize,
     show: bool,
     stream: Option<(u64, Side)>,
-) -> (Result<CaptureEnd, CaptureFault>, MemTarget) {
+) -> (Result<CaptureEnd, ToolFault>, MemTarget) {
     let mut reader = MemSource::new(file, most.max(1), None);
     let mut writer = MemTarget::new(Vec::new(rt.alloc()), 4_096, None);
     let job = CaptureJob {
@@ -98,7 +99,7 @@ fn run_for(
         choice: Choice::ALL,
     };
     let Ok(keys) = RandomState::new(rt) else {
-        return (Err(CaptureFault::Turns), writer);
+        return (Err(ToolFault::Turns), writer);
     };
     let end = run_capture(rt.alloc(), keys, &mut reader, &mut writer, &job);
     (end, writer)
@@ -112,11 +113,25 @@ fn after_report(text: &[u8]) -> &[u8] {
     }
 }
 
+/// No packet of a kind that isn't read.
+const NONE: Tally = Tally {
+    kind: None,
+    count: 0,
+    others: 0,
+};
+
+const ALL_READ: UnreadPackets = UnreadPackets {
+    link_types: NONE,
+    ether_types: NONE,
+    fragments: 0,
+};
+
 /// Whether a run reports the refusal.
-fn is_reported(end: &Result<CaptureEnd, CaptureFault>, text: &[u8]) -> bool {
+fn is_reported(end: &Result<CaptureEnd, ToolFault>, text: &[u8]) -> bool {
     *end == Ok(CaptureEnd {
         packets: 5,
         skipped: 0,
+        unread_packets: ALL_READ,
         torrents: 1,
         lost: 0,
         is_refused: true,
@@ -243,6 +258,7 @@ fn a_flood(rt: HostRuntime) -> Result<(), Fail> {
     let all = Ok(CaptureEnd {
         packets: 16_390,
         skipped: 0,
+        unread_packets: ALL_READ,
         torrents: 1,
         lost: 0,
         is_refused: true,

@@ -738,10 +738,10 @@ fn utp(rt: HostRuntime) -> Result<(), Fail> {
         write!(out, "{packets}")?;
     }
     let wanted = b"\
-uTP  10.0.0.1:51413 > 10.0.0.2:6881  3 packets, not read: this is BitTorrent over UDP (BEP 29)
-uTP  10.0.0.1:51413 > 10.0.0.2:6881  3 packets, not read: this is BitTorrent over UDP (BEP 29); 10.0.0.1:51413 closed: 8 (timeout)
-uTP  10.0.0.1:51413 > 10.0.0.2:6881  3 packets, not read: this is BitTorrent over UDP (BEP 29); 10.0.0.2:6881 closed: 271 (invalid request message)
-uTP  10.0.0.1:51413 > 10.0.0.2:6881  at least 3 packets, not read: this is BitTorrent over UDP (BEP 29); \
+uTP  10.0.0.1:51413 > 10.0.0.2:6881  3 packets of BitTorrent over UDP (BEP 29), read from a SYN on
+uTP  10.0.0.1:51413 > 10.0.0.2:6881  3 packets of BitTorrent over UDP (BEP 29), read from a SYN on; 10.0.0.1:51413 closed: 8 (timeout)
+uTP  10.0.0.1:51413 > 10.0.0.2:6881  3 packets of BitTorrent over UDP (BEP 29), read from a SYN on; 10.0.0.2:6881 closed: 271 (invalid request message)
+uTP  10.0.0.1:51413 > 10.0.0.2:6881  at least 3 packets of BitTorrent over UDP (BEP 29), read from a SYN on; \
 10.0.0.1:51413 closed: 16 (too many files); 10.0.0.2:6881 closed: 289
 ";
     assert_eq!(rt; out.as_bytes(), wanted.as_slice());

@@ -1,7 +1,8 @@
 -- What `capture` says at its end, and its exit status.
-use Rattle.std.specs.Prelude.{◌<◌, ◌+◌, ◌≡◌, ◌==◌, ◌⊎◌, ◌++◌, ◌&&◌, ℕ, Bool, true, false, List, [], codes, decimal, nat_lt, is_some, Option, Some, None, Result, Ok, Err, String, string_bytes, if◌then◌else◌}
+use Rattle.std.specs.Prelude.{◌<◌, ◌+◌, ◌-◌, ◌≡◌, ◌==◌, ◌⊎◌, ◌++◌, ◌&&◌, ℕ, Bool, true, false, List, [], codes, decimal, nat_lt, is_some, Option, Some, None, Result, Ok, Err, String, string_bytes, if◌then◌else◌}
 use Rattle.std.specs.declared.alloc.AllocError.{AllocError}
 use Rattle.bt_io.specs.Seen.{TargetSeen}
+use Rattle.bt_text.specs.declared.ended.ToolFault.{ToolFault}
 use Rattle.bt_text.specs.declared.ended.ToolFault.TheVariants as fault
 use Rattle.bt_text.specs.Lines.{fault_line}
 use Rattle.bt_run.specs.Endings.{fault_status, fault_words}
@@ -9,10 +10,10 @@ use Rattle.bt_run.specs.Runs.{IsSaid}
 use Rattle.bt_pcap.specs.declared.fault.FileFault.{FileFault}
 use Rattle.bt_pcap.specs.declared.fault.FileFault.TheVariants.{NoCapture, ByteOrder, Length, TooShort, RecordLength, Unlike, Undescribed}
 use Rattle.bt_capture.specs.declared.ending.CaptureEnd.{CaptureEnd}
-use Rattle.bt_capture.specs.declared.ending.CaptureFault.{CaptureFault}
-use Rattle.bt_capture.specs.declared.ending.CaptureFault.TheVariants.{Write, Memory, Turns}
 use Rattle.bt_capture.specs.declared.ending.Ending.{Ending}
 use Rattle.bt_capture.specs.declared.ending.Ending.TheVariants.{Whole, Cut, Broken, Failed}
+use Rattle.bt_capture.specs.declared.unread.UnreadPackets.{UnreadPackets}
+use Rattle.bt_cli.specs.Unread.{unread_sum, unread_words}
 use Rattle.bt_cli.specs.declared.capture.Outcome.{Outcome}
 use Rattle.bt_cli.specs.declared.capture.Outcome.TheVariants.{Lost, Absent, Stopped, Nothing, Refused, Accepted}
 
@@ -72,9 +73,11 @@ crowd_words unread early =
     ++ so_many_words early (codes " connection that had ended was given up early: too many at once\n")
     (codes " connections that had ended were given up early: too many at once\n")
 
-abbrev pub nothing_words : ℕ → ℕ → List ℕ
-nothing_words packets skipped =
-    (((codes "no BitTorrent connection in " ++ decimal packets) ++ codes " packets; ") ++ decimal skipped) ++ codes " of them aren't TCP\n"
+-- Packets that aren't read have lines of their own.
+abbrev pub nothing_words : (packets skipped : ℕ) → UnreadPackets → List ℕ
+nothing_words packets skipped unread =
+    codes "no BitTorrent connection in " ++ (decimal packets ++ (codes " packets; " ++ (decimal (skipped - unread_sum unread)
+    ++ (codes " of them aren't TCP\n" ++ unread_words unread))))
 
 -- no connection has the number of the stream
 abbrev pub absent_words : Option ℕ → List ℕ
@@ -91,7 +94,7 @@ words_or_fault (Err error) = fault_line fault.Memory
 abbrev pub IsLastLine : Outcome → CaptureEnd → List ℕ → Type 0
 IsLastLine Lost e line = line ≡ fault_line fault.Memory
 IsLastLine Absent e line = (line ≡ absent_words e.absent) ⊎ (line ≡ fault_line fault.Memory)
-IsLastLine Nothing e line = (line ≡ nothing_words e.packets e.skipped) ⊎ (line ≡ fault_line fault.Memory)
+IsLastLine Nothing e line = (line ≡ nothing_words e.packets e.skipped e.unread_packets) ⊎ (line ≡ fault_line fault.Memory)
 IsLastLine Stopped e line = line ≡ []
 IsLastLine Refused e line = line ≡ []
 IsLastLine Accepted e line = line ≡ []
@@ -108,24 +111,12 @@ IsEndSaidAfter words e before after = (crowd : List ℕ) × (line : List ℕ) ×
 abbrev pub IsEndSaid : List ℕ → CaptureEnd → TargetSeen → TargetSeen → Type 0
 IsEndSaid prefix e before after = IsEndSaidAfter (ending_words prefix e.ending) e before after
 
--- ---- a fault
-
-abbrev pub capture_fault_words : Bool → List ℕ → CaptureFault → List ℕ
-capture_fault_words gone prefix Write = fault_words gone prefix fault.Write
-capture_fault_words gone prefix Memory = fault_words gone prefix fault.Memory
-capture_fault_words gone prefix Turns = fault_words gone prefix fault.Turns
-
-abbrev pub capture_fault_status : Bool → CaptureFault → ℕ
-capture_fault_status gone Write = fault_status gone fault.Write
-capture_fault_status gone Memory = fault_status gone fault.Memory
-capture_fault_status gone Turns = fault_status gone fault.Turns
-
 -- ---- the end
 
-abbrev pub IsCaptureSaid : Bool → List ℕ → Result CaptureEnd CaptureFault → TargetSeen → TargetSeen → Type 0
+abbrev pub IsCaptureSaid : Bool → List ℕ → Result CaptureEnd ToolFault → TargetSeen → TargetSeen → Type 0
 IsCaptureSaid gone prefix (Ok e) before after = IsEndSaid prefix e before after
-IsCaptureSaid gone prefix (Err f) before after = IsSaid (capture_fault_words gone prefix f) before after
+IsCaptureSaid gone prefix (Err f) before after = IsSaid (fault_words gone prefix f) before after
 
-abbrev pub capture_status : (strict gone : Bool) → Result CaptureEnd CaptureFault → ℕ
+abbrev pub capture_status : (strict gone : Bool) → Result CaptureEnd ToolFault → ℕ
 capture_status strict gone (Ok e) = outcome_status (strict && e.is_partial) (outcome_in e)
-capture_status strict gone (Err f) = capture_fault_status gone f
+capture_status strict gone (Err f) = fault_status gone f

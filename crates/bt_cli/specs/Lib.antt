@@ -10,6 +10,7 @@ pub mod Chosen
 pub mod Wanted
 pub mod Services
 pub mod Lists
+pub mod Unread
 pub mod Captures
 pub mod Packed
 pub mod Torrents

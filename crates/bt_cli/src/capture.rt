@@ -4,14 +4,15 @@ ghost use Rattle.clap.specs.Matches.{first_value, found_of};
 ghost use Rattle.bt_run.specs.Runs.{IsSaid};
 ghost use Rattle.bt_text.specs.Lines.{fault_line};
 ghost use Rattle.bt_text.specs.declared.ended.ToolFault.TheVariants as fault;
-ghost use Rattle.bt_cli.specs.Captures.{IsCaptureSaid, IsEndSaid, IsLastLine, absent_words, capture_fault_status, capture_fault_words, capture_status, ending_line_words, file_words};
+ghost use Rattle.bt_cli.specs.Captures.{IsCaptureSaid, IsEndSaid, IsLastLine, absent_words, capture_status, ending_line_words, file_words};
 ghost use Rattle.bt_cli.specs.Captures.{crowd_words, is_stopped, nothing_words, outcome_in, outcome_status, so_many_words, words_or_fault};
 ghost use Rattle.bt_cli.specs.Wanted.{IsCaptureAsked, capture_pieces_in, capture_stream_in};
 
 use crate::chosen::{choice_in, is_choosing};
 use crate::fetch::{DEFAULT_LIMIT, number_or};
 use crate::stream::direction_of;
-use bt_capture::{CaptureEnd, CaptureFault, CaptureJob, Ending};
+use crate::unread::{count_unread, unread_lines};
+use bt_capture::{CaptureEnd, CaptureJob, Ending};
 use bt_feed::Target;
 use bt_jobs::output::write_out;
 use bt_pcap::FileFault;
@@ -206,11 +207,16 @@ fn absent_line(alloc: Global, number: u64) -> Result<String, AllocError>
 }
 
 /// Returns the line on a capture without a BitTorrent connection.
-fn nothing_line(alloc: Global, packets: u64, skipped: u64) -> Result<String, AllocError>
-    ensures { IfOk result (λ line. string_bytes line ≡ nothing_words packets skipped) }
+fn nothing_line(alloc: Global, end: &CaptureEnd) -> Result<String, AllocError>
+    ensures { IfOk result (λ line. string_bytes line ≡ nothing_words end.now.packets end.now.skipped end.now.unread_packets) }
 {
+    let packets = end.packets;
+    let others = end
+        .skipped
+        .saturating_sub(count_unread(&end.unread_packets));
+    let lines = unread_lines(alloc, &end.unread_packets)?;
     format!(in alloc;
-        "no BitTorrent connection in {packets} packets; {skipped} of them aren't TCP\n"
+        "no BitTorrent connection in {packets} packets; {others} of them aren't TCP\n{lines}"
     )
 }
 
@@ -228,7 +234,7 @@ fn last_line(alloc: Global, end: &CaptureEnd) -> Result<String, AllocError>
             Some(number) => absent_line(alloc, number),
             None => Ok(String::new(alloc)),
         },
-        Outcome::Nothing => nothing_line(alloc, end.packets, end.skipped),
+        Outcome::Nothing => nothing_line(alloc, end),
         Outcome::Stopped | Outcome::Refused | Outcome::Accepted => Ok(String::new(alloc)),
     }
 }
@@ -316,25 +322,13 @@ fn say_end<E: Target>(alloc: Global, end: &CaptureEnd, prefix: &[u8], errors: &m
     );
 }
 
-/// Says which fault ended the command, and returns the exit status.
-fn end_by<E: Target>(fault: CaptureFault, prefix: &[u8], is_gone: bool, errors: &mut E) -> u8
-    ensures said { IsSaid (capture_fault_words is_gone prefix.now fault) (E.seen errors.old) (E.seen errors.new) }
-    ensures status { result ≡ capture_fault_status is_gone fault }
-{
-    match fault {
-        CaptureFault::Write => end_by_fault(ToolFault::Write, prefix, is_gone, errors),
-        CaptureFault::Memory => end_by_fault(ToolFault::Memory, prefix, is_gone, errors),
-        CaptureFault::Turns => end_by_fault(ToolFault::Turns, prefix, is_gone, errors),
-    }
-}
-
 /// Says the end of a capture on standard error, and returns the exit status.
 ///
 /// `prefix` comes before the line of an input that can't be read; `is_gone` says that the output pipe is closed. With `is_strict` the
 /// status is 4 in place of 0 if a connection was read in part only.
 pub fn end_capture<E: Target>(
     alloc: Global,
-    end: Result<CaptureEnd, CaptureFault>,
+    end: Result<CaptureEnd, ToolFault>,
     prefix: &[u8],
     is_gone: bool,
     is_strict: bool,
@@ -348,6 +342,6 @@ pub fn end_capture<E: Target>(
             say_end(alloc, &end, prefix, errors);
             status_of(outcome_of(&end), is_strict && end.is_partial)
         }
-        Err(fault) => end_by(fault, prefix, is_gone, errors),
+        Err(fault) => end_by_fault(fault, prefix, is_gone, errors),
     }
 }

@@ -23,5 +23,6 @@ pub mod serve;
 pub mod stream;
 mod texts;
 pub mod torrent;
+mod unread;
 
 pub use bt_run::{hints, notice, other, run, values};

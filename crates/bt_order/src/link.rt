@@ -181,6 +181,9 @@ impl Link {
         ensures initiator { Begins ((syn + 1) % 2 ^ 16) (syn + 1) result.initiator }
         ensures acceptor { Begins 0 1 result.acceptor }
         ensures known { result.is_known ≡ false }
+        ensures sent { result.has_sent ≡ false }
+        ensures answered { result.has_answered ≡ false }
+        ensures reset { result.is_reset ≡ false }
         ensures syn { result.syn ≡ syn }
     {
         Link {

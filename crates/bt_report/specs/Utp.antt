@@ -1,4 +1,4 @@
--- The line on packets of uTP (BEP 29), which aren't read.
+-- The line on packets of uTP (BEP 29).
 use Rattle.std.specs.Prelude.{ℕ, List, [], ◌++◌, Option, Some, None, codes, decimal, if◌then◌else◌}
 use Rattle.bt_packet.specs.Addresses.{address_text}
 use Rattle.bt_packet.specs.declared.address.Address.{Address}
@@ -13,7 +13,7 @@ closed_text by (Some reason) = codes "; " ++ (address_text by ++ (codes " closed
 abbrev pub count_text : UtpPackets → List ℕ
 count_text p =
     (if p.is_least then codes "  at least " else codes "  ")
-    ++ (decimal p.count ++ (codes " packets, not read: this is BitTorrent over UDP (BEP 29)"
+    ++ (decimal p.count ++ (codes " packets of BitTorrent over UDP (BEP 29), read from a SYN on"
     ++ (closed_text p.source p.source_reason ++ (closed_text p.target p.target_reason ++ codes "\n"))))
 
 abbrev pub utp_text : UtpPackets → List ℕ

@@ -7,7 +7,7 @@ use crate::reasons::{CloseReason, ReasonMembers};
 use bt_packet::Address;
 use std::fmt;
 
-/// Packets of uTP between two ends (BEP 29), which aren't read.
+/// Packets of uTP between two ends (BEP 29).
 ///
 /// Its text is a line. `UtpObject` writes it as a JSON object.
 #[derive(Clone, Copy)]
@@ -57,7 +57,7 @@ impl fmt::Display for UtpPackets {
         let second = ClosedText(&self.target, self.target_reason);
         write!(
             f,
-            "uTP  {ends}{before}{count} packets, not read: this is BitTorrent over UDP (BEP 29){first}{second}\n"
+            "uTP  {ends}{before}{count} packets of BitTorrent over UDP (BEP 29), read from a SYN on{first}{second}\n"
         )
     }
 }

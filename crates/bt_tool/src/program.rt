@@ -5,7 +5,7 @@ ghost use Rattle.bt_cli.specs.Commands.{IsLimited};
 ghost use Rattle.bt_fetch.specs.Wishes.{IsWish};
 
 use crate::piped::Piped;
-use bt_capture::{CaptureEnd, CaptureFault, CaptureJob, Ending, run_capture};
+use bt_capture::{CaptureEnd, CaptureJob, Ending, run_capture};
 use bt_cli::capture::{CaptureRequest, end_capture};
 use bt_cli::commands::{Asked, Job, Notice, Request};
 use bt_cli::ending::{end_by_fault, end_job, end_link, end_loop, end_text};
@@ -66,7 +66,7 @@ const PEERS_AWAITED: &[u8] = b"bt_tool: a list of peers is awaited on standard i
 const UNREAD: u8 = 3;
 
 /// Returns the line on a capture that is compressed, if it ended as no capture and its first bytes tell.
-fn packed_in(end: &Result<CaptureEnd, CaptureFault>, front: &[u8]) -> Option<&'static [u8]> {
+fn packed_in(end: &Result<CaptureEnd, ToolFault>, front: &[u8]) -> Option<&'static [u8]> {
     match end {
         Ok(end) => match end.ending {
             Ending::Broken(FileFault::NoCapture) => packed_line(front),

@@ -360,7 +360,7 @@ count_stepped k n l s t near ids more h small e was sum is =
 
 -- ---- what a map has after the code's steps: an id was put, and those around it are no longer alone
 
-test_is : (k q : ℕ) → is_eq (nat_cmp k q) ≡ (k == q)
+pub test_is : (k q : ℕ) → is_eq (nat_cmp k q) ≡ (k == q)
 test_is k q = grind (arith, nat_tests)
 
 module _ (k n l : ℕ) (near : Bool) (ids : List ℕ) (before put_in mid end : ℕ → Option Bool) (around : AreAround k n l)

@@ -27,7 +27,7 @@ address_symm x y = laws.symm x y
 pub order_test : (x y : Address) → is_eq ((address_ord.ghosts).cmp x y) ≡ same_address x y
 order_test x y = sym (order_laws.matches_eq-law x y)
 
-then_test : (r s : Ordering) → is_eq (ordering_then r s) ≡ (is_eq r && is_eq s)
+pub then_test : (r s : Ordering) → is_eq (ordering_then r s) ≡ (is_eq r && is_eq s)
 then_test Less s = refl
 then_test Equal s = refl
 then_test Greater s = refl

@@ -3,3 +3,9 @@ pub mod Flows
 pub mod Laws
 pub mod Ids
 pub mod States
+pub mod Channels
+pub mod ChannelLaws
+pub mod Taken
+pub mod Entries
+pub mod Turnings
+pub mod SideStreams

@@ -4,6 +4,7 @@ use Rattle.bt_capture.specs.declared.ending.Form.{Form}
 use Rattle.bt_capture.specs.Following.{Asked, reports_of}
 use Rattle.bt_capture.specs.Tellings.{chosen_by, is_one_partial, is_one_refused}
 use Rattle.bt_capture.proofs.Outcomes.{all_over, whole_written, texts_written, stream_told, rows_told, absent_by, begun_all}
+use Rattle.bt_capture.proofs.Arriving.{have_come}
 use Rattle.bt_capture.proofs.run.end_of.Goals as goal
 
 pub returns : goal.returns
@@ -23,6 +24,9 @@ returns c o seen before now i empty ended added =
       ended = ended;
       count = c.packets.ensures ∙ i.read.reading.count;
       skipped = i.skipped;
+      unread_packets = i.unread;
+      came = i.came;
+      come = have_come i.packets i.came run.links i.come;
       fs = fs;
       over = all_over o seen.left before run r i;
       text = written;

@@ -8,7 +8,7 @@ returns-in-Ok-new g c =
     let o = origin c.args.job.now (g.R.Source.seen c.args.reader.now) (g.W.Target.seen c.args.writer.now) in
     c.tell_all.ensures o
     (begins o c.in-Ok.run' c.in-Ok-new.packets c.in-Ok.ensures.asked c.in-Ok.ensures.start
-    (c.in-Ok.ensures.follows (since_first o.target [])) c.in-Ok.ensures.utp c.in-Ok.ensures.skipped c.in-Ok-new.ensures.nothing) (refl, refl)
+    (c.in-Ok.ensures.follows (since_first o.target [])) c.in-Ok.ensures.utp c.in-Ok.ensures.links c.in-Ok.ensures.skipped c.in-Ok.ensures.unread c.in-Ok-new.ensures.nothing) (refl, refl)
 
 pub returns-in-Ok : goal.returns-in-Ok
 returns-in-Ok g c = nothing_told (origin c.args.job.now (g.R.Source.seen c.args.reader.now) (g.W.Target.seen c.args.writer.now))

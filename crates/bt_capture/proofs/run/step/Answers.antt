@@ -10,14 +10,18 @@ returns-in-Ok-clause-after c o left now i =
     let number = next_number i.packets i.read.all c.args.packets.now c.packets.result c.saturating_add-number.result i.read.reading c.packets.ensures
     c.saturating_add-number.ensures in
     let goes = hands_some c.args.packets.now _ c.take.result c.in-Ok-Some.packet (search rules) c.take.follows.holds-at-none.0 in
+    let took = c.in-Ok.ensures.goes o.target now i.packets i.came number i.time i.come i.follows in
     record {
       packets = i.packets ++ p ∷ [];
       read = read_packet o left i.packets (p ∷ []) c.args.packets.now _ goes i.read;
       asked = c.take-in-Ok-Some.ensures.asked ∙ i.asked;
       time = c.take-in-Ok-Some.ensures.start i.packets i.time;
-      follows = c.in-Ok.ensures.goes o.target now i.packets number i.time i.follows;
+      came = took.0;
+      come = took.1;
+      follows = took.2;
       utp = c.in-Ok.ensures.utp i.packets i.utp;
       skipped = c.take-in-Ok-Some.ensures.skipped i.packets i.skipped;
+      unread = c.take-in-Ok-Some.ensures.unread i.packets i.unread;
     }
 
 pub returns-in-Err-take-clause-after : goal.returns-in-Err-take-clause-after
@@ -26,8 +30,9 @@ returns-in-Err-take-clause-after c o left now i =
     let number = next_number i.packets i.read.all c.args.packets.now c.packets.result c.saturating_add-number.result i.read.reading c.packets.ensures
     c.saturating_add-number.ensures in
     let goes = hands_some c.args.packets.now _ c.take.result c.in-Ok-Some.packet (search rules) c.take.follows.holds-at-none.0 in
-    given_up o left now (i.packets ++ p ∷ []) c.take-in-Ok-Some.new.self.connections _ (read_packet o left i.packets (p ∷ []) c.args.packets.now _ goes i.read)
-    (c.take-in-Ok-Some.ensures.asked ∙ i.asked) (c.in-Err-take.ensures.goes o.target now i.packets number i.time i.follows)
+    let took = c.in-Err-take.ensures.goes o.target now i.packets i.came number i.time i.come i.follows in
+    given_up o left now (i.packets ++ p ∷ []) took.0 c.take-in-Ok-Some.new.self.connections _
+    (read_packet o left i.packets (p ∷ []) c.args.packets.now _ goes i.read) took.1 (c.take-in-Ok-Some.ensures.asked ∙ i.asked) took.2
 
 pub returns-in-Ok-None-clause-after : goal.returns-in-Ok-None-clause-after
 returns-in-Ok-None-clause-after c o left now i =

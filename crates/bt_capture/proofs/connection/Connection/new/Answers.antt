@@ -7,7 +7,7 @@ use Rattle.bt_capture.proofs.Turns.{first_heard}
 use Rattle.bt_capture.proofs.connection.Connection.new.Goals as goal
 
 pub returns-clause-open : goal.returns-clause-open
-returns-clause-open c when = record {
+returns-clause-open c link when = record {
   has_payload = refl;
   made = λ there. record {
     first = c.args.first.now;
@@ -31,12 +31,12 @@ returns-clause-open c when = record {
 
 pub returns-clause-sent : goal.returns-clause-sent
 unfolding returns-clause-open
-returns-clause-sent c when side =
-    let x = arrived c.args.first.now when in
-    let m = (returns-clause-open c when).made c.new.ensures.there in
+returns-clause-sent c link when side =
+    let x = arrived link c.args.first.now when in
+    let m = (returns-clause-open c link when).made c.new.ensures.there in
     let none = nothing_sent (of_side side no_past no_past) _ c.new.ensures.opening in
-    record { early = was_all false side [] c.args.terms [] (x ∷ []) c.new.result m none; all = λ there. ((returns-clause-open c when).made there, none) }
+    record { early = was_all false side [] c.args.terms [] (x ∷ []) c.new.result m none; all = λ there. ((returns-clause-open c link when).made there, none) }
 
 pub returns-clause-shown : goal.returns-clause-shown
 unfolding returns-clause-open
-returns-clause-shown c when h there = ((returns-clause-open c when).made there, refl)
+returns-clause-shown c link when h there = ((returns-clause-open c link when).made there, refl)

@@ -17,8 +17,8 @@ use Rattle.bt_capture.proofs.Turns.{goes_on}
 use Rattle.bt_capture.proofs.connection.Connection.take.Goals as goal
 
 pub returns-clause-takes : goal.returns-clause-takes
-returns-clause-takes c terms taken i =
-    let x = arrived c.args.segment.now c.args.when in
+returns-clause-takes c link terms taken i =
+    let x = arrived link c.args.segment.now c.args.when in
     let now = c.take-taken.new.self.is_lost in
     record {
       has_payload = ap (λ b. b || c.has_payload.result) i.has_payload ∙ ap (λ b. list_any has_data taken || b) (c.has_payload.ensures c.args.when)
@@ -34,14 +34,14 @@ returns-clause-takes c terms taken i =
     }
 
 pub returns-clause-rows : goal.returns-clause-rows
-returns-clause-rows c terms taken i empty =
+returns-clause-rows c link terms taken i empty =
     has_taken c.take-taken.result c.args.self.now.talk.is_lost _ c.args.self.now.talk c.args.room.now c.take-taken.new.room c.take-taken.ensures.stays
     c.take-taken.ensures.rows c.take-taken.ensures.none (λ there. let m = i.made there in (m.a, m.b, m.made.is)) empty
 
 pub returns-clause-sent : goal.returns-clause-sent
 unfolding made_more
-returns-clause-sent c terms taken side sent wanted h =
-    let x = arrived c.args.segment.now c.args.when in
+returns-clause-sent c link terms taken side sent wanted h =
+    let x = arrived link c.args.segment.now c.args.when in
     let talk = c.args.self.now.talk in
     let talk' = c.take-taken.new.self in
     let now = talk'.is_lost in
@@ -81,8 +81,8 @@ returns-clause-shows c a b t there empty =
 
 pub returns-clause-shown : goal.returns-clause-shown
 unfolding made_more
-returns-clause-shown c terms taken before empty h =
-    let x = arrived c.args.segment.now c.args.when in
+returns-clause-shown c link terms taken before empty h =
+    let x = arrived link c.args.segment.now c.args.when in
     let was = c.args.self.now.talk.is_lost in
     let lost = c.take-taken.new.self.is_lost in
     let head = (rows_in c.args.room.now).heading in

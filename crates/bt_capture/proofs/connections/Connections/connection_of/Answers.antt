@@ -12,15 +12,15 @@ use Rattle.bt_capture.proofs.Steps.{follows_out}
 use Rattle.bt_capture.proofs.connections.Connections.connection_of.Goals as goal
 
 pub returns-in-Some-clause-finds : goal.returns-in-Some-clause-finds
-returns-in-Some-clause-finds c start now clock came new packet i =
+returns-in-Some-clause-finds c link start now clock came new packet i =
     let p = c.args.pair in
     let es : List (Pair × Held) = c.args.self.now.table in
     let left : List (Pair × Held) = c.take_out.new.self in
     let absent : lookup (same_pair p) left ≡ None =
     subst (λ l. lookup (same_pair p) l ≡ None) (sym c.in-Some.ensures.rest) (lookup_gone p es c.in-Some.ensures.apart) in
     let out = follows_out (since start c.args.from) now came p c.in-Some.connection es left c.args.self.now (sym c.in-Some.ensures.found) c.in-Some.ensures.rest i in
-    subst (λ l. Finds (since start c.args.from) now clock came (arrived c.args.segment.now c.args.when) p l c.goes_on.new.self c.goes_on.result) (sym c.goes_on.ensures.table)
-    (c.goes_on.ensures.finds start now clock came p left absent new packet
+    subst (λ l. Finds (since start c.args.from) now clock came (arrived link c.args.segment.now c.args.when) p l c.goes_on.new.self c.goes_on.result) (sym c.goes_on.ensures.table)
+    (c.goes_on.ensures.finds link start now clock came p left absent new packet
     (follows_same (since start c.args.from) now came ((p, c.in-Some.connection) ∷ left) c.args.self.now _ refl refl refl refl out))
 
 pub returns-in-Some-clause-absent : goal.returns-in-Some-clause-absent
@@ -30,16 +30,16 @@ returns-in-Some-clause-absent c =
     (lookup_gone p c.args.self.now.table c.in-Some.ensures.apart)
 
 pub returns-in-None-clause-finds : goal.returns-in-None-clause-finds
-returns-in-None-clause-finds c start now clock came new packet i =
+returns-in-None-clause-finds c link start now clock came new packet i =
     let p = c.args.pair in
     let es : List (Pair × Held) = c.args.self.now.table in
     let left : List (Pair × Held) = c.take_out.new.self in
     let absent : lookup (same_pair p) left ≡ None =
     subst (λ l. lookup (same_pair p) l ≡ None) (sym c.in-None.ensures.rest) (lookup_gone p es c.in-None.ensures.apart) in
     let same : left ≡ es = c.in-None.ensures.rest ∙ lookup_kept p es (sym c.in-None.ensures.found) in
-    subst (λ l. Finds (since start c.args.from) now clock came (arrived c.args.segment.now c.args.when) p l c.begin.new.self c.begin.result) (sym c.begin.ensures.table)
-    (c.begin.ensures.finds (since start c.args.from) now clock came c.args.when p left absent
-    (follows_coming (since start c.args.from) now came left _ p (arrived c.args.segment.now c.args.when) new
+    subst (λ l. Finds (since start c.args.from) now clock came (arrived link c.args.segment.now c.args.when) p l c.begin.new.self c.begin.result) (sym c.begin.ensures.table)
+    (c.begin.ensures.finds link (since start c.args.from) now clock came c.args.when p left absent
+    (follows_coming (since start c.args.from) now came left _ p (arrived link c.args.segment.now c.args.when) new
     (follows_same (since start c.args.from) now came left c.args.self.now _ refl refl refl refl (subst (λ l. Follows (since start c.args.from) now clock came l c.args.self.now) (sym same) i))))
 
 pub returns-in-None-clause-absent : goal.returns-in-None-clause-absent
